@@ -1,0 +1,146 @@
+-- Lists of calls: on stores by definition, and on words by replies (document 01, "The bare list").
+-- Assumes nothing: these are definitions.
+use mathlib.Core.Path.{_≡_}
+use mathlib.Core.Bool.{Bool, true, false, cond}
+use mathlib.Core.List.{List, [], _∷_, map}
+use Prim.Native.Nat.{ℕ, zero, suc, _+_, _<_}
+use lib.Dec.{eqb}
+use Rattle.types.specs.Limits.{word-limit}
+use Rattle.types.specs.declared.HeldPair.{HeldPair}
+use Rattle.types.specs.declared.LoadReply.{LoadReply}
+use Rattle.types.specs.declared.LoadReply.the-variants as load-said
+use Rattle.types.specs.declared.InsertReply.{InsertReply}
+use Rattle.types.specs.declared.InsertReply.the-variants as insert-said
+use Rattle.types.specs.declared.MarkReply.{MarkReply}
+use Rattle.types.specs.declared.MarkReply.the-variants as mark-said
+use Rattle.types.specs.declared.HoldReply.{HoldReply}
+use Rattle.types.specs.declared.QuestionReply.{QuestionReply}
+use Rattle.types.specs.declared.ListReply.{ListReply}
+use Rattle.calls.specs.Store.{Store}
+use Rattle.calls.specs.Load.{load-refusal, load-store}
+use Rattle.calls.specs.Insert.{insert-kinds, insert-refusal, insert-store, insert-moved}
+use Rattle.calls.specs.Mark.{section-refusal, mark-store}
+use Rattle.calls.specs.Replies.{load-reply, load-words, insert-reply, insert-words, mark-reply, mark-words, hold-reply, question-reply, list-reply}
+
+-- the calls that may change a store; their arguments are words
+pub data Call : Type 0 where
+  load : (s r number : ℕ) → (kinds : List ℕ) → Call
+  insert : (kind place : ℕ) → Call
+  mark : (section : ℕ) → Call
+
+-- ON STORES, where w words are lent: the refusal of a call, the store after it, and after a list of calls
+unfoldable pub refusal : (w : ℕ) → Call → Store → ℕ
+refusal w (load s r b cs) st = load-refusal w s r cs
+refusal w (insert c y) st = insert-refusal w c y st
+refusal w (mark x) st = section-refusal x st
+
+unfoldable pub changed : Call → Store → Store
+changed (load s r b cs) st = load-store s r b cs
+changed (insert c y) st = insert-store (insert-kinds c) y st
+changed (mark x) st = mark-store x st
+
+unfoldable pub accepts : (w : ℕ) → Call → Store → Bool
+accepts w c st = eqb (refusal w c st) 0
+
+unfoldable pub after-one : (w : ℕ) → Call → Store → Store
+after-one w c st = cond (accepts w c st) (changed c st) st
+
+unfoldable pub after : (w : ℕ) → List Call → Store → Store
+after w [] st = st
+after w (c ∷ cs) st = after w cs (after-one w c st)
+
+-- book numbers are words (u32 in the calls themselves)
+unfoldable pub Fits : Call → Type 0
+Fits (load s r b cs) = b < word-limit
+Fits (insert c y) = Unit {0}
+Fits (mark x) = Unit {0}
+
+unfoldable pub All-fit : List Call → Type 0
+All-fit [] = Unit {0}
+All-fit (c ∷ cs) = Fits c × All-fit cs
+
+-- ON WORDS: a call with its reply. Hold, question and list may come in between; they write no word of the store
+pub data Event : Type 0 where
+  loads : (s r number : ℕ) → (kinds : List ℕ) → LoadReply → Event
+  inserts : (kind place : ℕ) → InsertReply → Event
+  marks : (section : ℕ) → MarkReply → Event
+  holds : (section : ℕ) → HoldReply → Event
+  asks : HeldPair → (d : ℕ) → QuestionReply → Event
+  lists : (section : ℕ) → (tags labels : List ℕ) → ListReply → Event
+
+-- the entries' contracts: what the reply is, and what the words then hold
+unfoldable pub Happens : Event → (before after : List ℕ) → Type 0
+Happens (loads s r b cs q) ws vs = (q ≡ load-reply s r b cs ws) × (vs ≡ load-words s r b cs ws) × (b < word-limit)
+Happens (inserts c y q) ws vs = (q ≡ insert-reply c y ws) × (vs ≡ insert-words c y ws)
+Happens (marks x q) ws vs = (q ≡ mark-reply x ws) × (vs ≡ mark-words x ws)
+Happens (holds x q) ws vs = (q ≡ hold-reply x ws) × (vs ≡ ws)
+Happens (asks p d q) ws vs = (q ≡ question-reply p d ws) × (vs ≡ ws)
+Happens (lists x ts ls q) ws vs = (q ≡ list-reply x ws ts ls) × (vs ≡ ws)
+
+-- events one after the other, from words to words
+unfoldable pub Run : (before : List ℕ) → List Event → (after : List ℕ) → Type 0
+Run ws [] vs = vs ≡ ws
+Run ws (e ∷ es) vs = (us : List ℕ) × Happens e ws us × Run us es vs
+
+-- WHAT A REPLY TELLS: a call with whether it was accepted, and how many tags it moved
+pub record Told : Type 0 where
+  pub call : Call
+  pub accepted : Bool
+
+unfoldable pub load-accepted : LoadReply → Bool
+load-accepted (load-said.Loaded n h) = true
+load-accepted (load-said.Refused k) = false
+
+unfoldable pub insert-accepted : InsertReply → Bool
+insert-accepted (insert-said.Inserted x m h) = true
+insert-accepted (insert-said.Refused k) = false
+
+unfoldable pub mark-accepted : MarkReply → Bool
+mark-accepted (mark-said.Marked n) = true
+mark-accepted (mark-said.Refused k) = false
+
+-- load, insert and mark of a list of events, in order
+unfoldable pub told : List Event → List Told
+told [] = []
+told (loads s r b cs q ∷ es) = record { call = load s r b cs; accepted = load-accepted q } ∷ told es
+told (inserts c y q ∷ es) = record { call = insert c y; accepted = insert-accepted q } ∷ told es
+told (marks x q ∷ es) = record { call = mark x; accepted = mark-accepted q } ∷ told es
+told (holds x q ∷ es) = told es
+told (asks p d q ∷ es) = told es
+told (lists x ts ls q ∷ es) = told es
+
+unfoldable pub calls-of : List Event → List Call
+calls-of es = map (λ t. t .call) (told es)
+
+-- T: the moved numbers that accepted insertions replied since the last accepted load
+unfoldable pub total-after-load : LoadReply → (total : ℕ) → ℕ
+total-after-load (load-said.Loaded n h) t = 0
+total-after-load (load-said.Refused k) t = t
+
+unfoldable pub total-after-insert : InsertReply → (total : ℕ) → ℕ
+total-after-insert (insert-said.Inserted x m h) t = t + m
+total-after-insert (insert-said.Refused k) t = t
+
+unfoldable pub total-moved : (total : ℕ) → List Event → ℕ
+total-moved t [] = t
+total-moved t (loads s r b cs q ∷ es) = total-moved (total-after-load q t) es
+total-moved t (inserts c y q ∷ es) = total-moved (total-after-insert q t) es
+total-moved t (marks x q ∷ es) = total-moved t es
+total-moved t (holds x q ∷ es) = total-moved t es
+total-moved t (asks p d q ∷ es) = total-moved t es
+total-moved t (lists x ts ls q ∷ es) = total-moved t es
+
+-- the same by the definitions, from a store on
+unfoldable pub moved-by : Call → Store → (total : ℕ) → ℕ
+moved-by (load s r b cs) st t = 0
+moved-by (insert c y) st t = t + insert-moved (insert-kinds c) y st
+moved-by (mark x) st t = t
+
+unfoldable pub moved-after : (w : ℕ) → List Call → Store → (total : ℕ) → ℕ
+moved-after w [] st t = t
+moved-after w (c ∷ cs) st t = moved-after w cs (after-one w c st) (cond (accepts w c st) (moved-by c st t) t)
+
+-- each call with whether the definitions accept it, from a store on
+unfoldable pub judged : (w : ℕ) → List Call → Store → List Told
+judged w [] st = []
+judged w (c ∷ cs) st = record { call = c; accepted = accepts w c st } ∷ judged w cs (after-one w c st)

@@ -1,0 +1,36 @@
+-- Held pairs and the question (document 01, "Calls and their replies"). Assumes nothing: these are definitions.
+use mathlib.Core.Bool.{Bool, true, false, _&&_, _||_, not, cond}
+use Prim.Native.Nat.{ℕ}
+use lib.Dec.{leb, ltb, eqb}
+use Rattle.types.specs.declared.HeldPair.{HeldPair}
+use Rattle.types.specs.declared.Answer.{Answer}
+use Rattle.types.specs.declared.Answer.the-variants.{Yes, No, Stale}
+use Rattle.types.specs.declared.QuestionReply.{QuestionReply}
+use Rattle.types.specs.declared.QuestionReply.the-variants as asked
+use Rattle.calls.specs.Kind.{is-begin}
+use Rattle.calls.specs.Store.{Store, fact, count, place-of, label}
+
+-- book, tag, start label, end label; the two labels are equal for a text, which is its own mate
+unfoldable pub hold-pair : (section : ℕ) → Store → HeldPair
+hold-pair x st =
+    record { book = st .number; tag = record { 0 = x }; start = record { 0 = label st x }; end = record { 0 = label st (fact st x .mate) } }
+
+-- an element encloses a tag that stands between its two; its own two tags give no
+unfoldable pub encloses : Store → (section tag : ℕ) → Bool
+encloses st x d = ltb (place-of st x) (place-of st d) && ltb (place-of st d) (place-of st (fact st x .mate))
+
+-- whether a pair's labels are the current ones and its section is not marked
+unfoldable pub current : Store → HeldPair → Bool
+current st p =
+    (eqb (p .start .0) (label st (p .tag .0)) && eqb (p .end .0) (label st (fact st (p .tag .0) .mate))) && not (fact st (p .tag .0) .marked)
+
+-- stale if the book number differs, 8 (pair, then d), 10, stale if a label differs or the section is marked, 9 for d,
+-- then yes or no (1 and 2 are the words')
+unfoldable pub question : HeldPair → (d : ℕ) → Store → QuestionReply
+question p d st =
+    cond (not (eqb (p .book) (st .number))) (asked.Answered Stale)
+    (cond (leb (count st) (p .tag .0) || leb (count st) d) (asked.Refused 8)
+    (cond (not (is-begin (fact st (p .tag .0) .kind))) (asked.Refused 10)
+    (cond (not (current st p)) (asked.Answered Stale)
+    (cond (fact st d .marked) (asked.Refused 9)
+    (asked.Answered (cond (encloses st (p .tag .0) d) Yes No))))))

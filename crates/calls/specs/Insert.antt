@@ -1,0 +1,71 @@
+-- Insertion (document 01, "The tree", "Calls and their replies"): of a row of kinds, of which a text and an element are
+-- the two that the call admits. Assumes nothing: these are definitions.
+use mathlib.Core.Bool.{Bool, true, false, _&&_, _||_, not, cond}
+use mathlib.Core.List.{List, [], _∷_, _++_}
+use Prim.Native.Nat.{ℕ, zero, suc, _+_, _*_, _^_}
+use lib.Dec.{ltb, leb, eqb}
+use lib.ListN.{length}
+use Rattle.types.specs.Limits.{no-tag, label-limit, most-tags}
+use Rattle.tree.specs.Book.{Book, height, inserted-row, split-of-row, moved, power-width}
+use Rattle.calls.specs.Kind.{Kind, begin, end, text, is-begin}
+use Rattle.calls.specs.Store.{Store, fact, count, place-of, width}
+use Rattle.calls.specs.Nesting.{new-facts}
+use Rattle.calls.specs.Load.{words-for}
+
+-- kind 1: an element, its begin and then its end; kind 3: a text
+unfoldable pub insert-kinds : (kind : ℕ) → List Kind
+insert-kinds c = cond (eqb c 1) (begin ∷ end ∷ []) (text ∷ [])
+
+-- how many tags stand before the new ones: none at the front, else those up to the place
+unfoldable pub position : (place : ℕ) → Store → ℕ
+position y st = cond (eqb y no-tag) 0 (suc (place-of st y))
+
+-- the up of a new element or text: y if y is a begin, else y's up; at the front no tag
+unfoldable pub up-at : (place : ℕ) → Store → ℕ
+up-at y st = cond (eqb y no-tag) no-tag (cond (is-begin (fact st y .kind)) y (fact st y .up))
+
+-- new tags take the next numbers
+unfoldable pub book-after : (kinds : List Kind) → (place : ℕ) → Store → Book
+book-after ks y st = inserted-row (length ks) (position y st) (count st) (st .book)
+
+unfoldable pub insert-store : (kinds : List Kind) → (place : ℕ) → Store → Store
+insert-store ks y st =
+    record {
+      book = book-after ks y st;
+      number = st .number;
+      stamp = suc (st .stamp);
+      facts = st .facts ++ new-facts (up-at y st) [] (count st) ks;
+    }
+
+-- tags present before the whole call whose label differs after it
+unfoldable pub insert-moved : (kinds : List Kind) → (place : ℕ) → Store → ℕ
+insert-moved ks y st = moved (width st) (st .book) (book-after ks y st)
+
+-- the greatest split height of the single insertions
+unfoldable pub insert-split : (kinds : List Kind) → (place : ℕ) → Store → ℕ
+insert-split ks y st = split-of-row (length ks) (position y st) (count st) (st .book)
+
+-- H rises by 1 where a tag brings the number of tags to s times r^H
+unfoldable pub raised : (s r n height : ℕ) → ℕ
+raised s r n h = cond (eqb n (s * r ^ h)) (suc h) h
+
+-- refusal 7 of a row of k tags into n: one of its single insertions meets n + 1 ≥ s times r^H and b^(H + 1) > 2^32.
+-- (For k = 1 and 2 this is document 01's n + k ≥ s times r^H and b^(H + 1) > 2^32.)
+unfoldable pub labels-run-out : (s r k n height : ℕ) → Bool
+labels-run-out s r zero n h = false
+labels-run-out s r (suc k) n h =
+    (leb (s * r ^ h) (suc n) && ltb label-limit (power-width s r (suc h))) || labels-run-out s r k (suc n) (raised s r (suc n) h)
+
+-- 8, 9, 6, 7 of a row of kinds, 0 where accepted; w is how many words are lent
+unfoldable pub row-refusal : (w : ℕ) → (kinds : List Kind) → (place : ℕ) → Store → ℕ
+row-refusal w ks y st =
+    let n = count st in
+    let k = length ks in
+    cond (not (eqb y no-tag) && leb n y) 8
+    (cond (not (eqb y no-tag) && fact st y .marked) 9
+    (cond (ltb most-tags (n + k) || ltb w (words-for (n + k))) 6
+    (cond (labels-run-out (st .book .s) (st .book .r) k n (height (st .book))) 7 0)))
+
+-- 4, 8, 9, 6, 7 of the call (1 and 2 are the words')
+unfoldable pub insert-refusal : (w kind place : ℕ) → Store → ℕ
+insert-refusal w c y st = cond (not (eqb c 1 || eqb c 3)) 4 (row-refusal w (insert-kinds c) y st)

@@ -1,0 +1,15 @@
+pub mod Kind
+pub mod Store
+pub mod Nesting
+pub mod Sound
+pub mod Load
+pub mod Insert
+pub mod Mark
+pub mod Held
+pub mod Listing
+pub mod Words
+pub mod Replies
+pub mod Calls
+pub mod Reference
+pub mod Promise
+pub mod Specimens

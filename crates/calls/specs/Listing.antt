@@ -1,0 +1,35 @@
+-- List (document 01, "Calls and their replies"): the unmarked tags strictly inside a section or, from the front, of the
+-- whole book. Assumes nothing: these are definitions.
+use mathlib.Core.Bool.{Bool, true, false, _&&_, _||_, not, cond}
+use mathlib.Core.List.{List, [], _∷_, map}
+use Prim.Native.Nat.{ℕ}
+use lib.Dec.{leb, ltb, eqb}
+use lib.ListN.{length}
+use Rattle.types.specs.Limits.{no-tag}
+use Rattle.calls.specs.Kind.{is-begin}
+use Rattle.calls.specs.Store.{Store, fact, count, row, label}
+use Rattle.calls.specs.Held.{encloses}
+
+-- whether a tag is listed
+unfoldable pub is-listed : Store → (section tag : ℕ) → Bool
+is-listed st x d = (eqb x no-tag || encloses st x d) && not (fact st d .marked)
+
+-- those of a row that are, in order
+unfoldable pub listed-of : Store → (section : ℕ) → (row : List ℕ) → List ℕ
+listed-of st x [] = []
+listed-of st x (d ∷ ds) = let rest = listed-of st x ds in cond (is-listed st x d) (d ∷ rest) rest
+
+unfoldable pub listed-tags : (section : ℕ) → Store → List ℕ
+listed-tags x st = listed-of st x (row st)
+
+unfoldable pub listed-labels : (section : ℕ) → Store → List ℕ
+listed-labels x st = map (label st) (listed-tags x st)
+
+-- 8, 9, 10, 11 in this order, 0 where accepted (1 and 2 are the words'); the front is allowed; t and l are the lengths
+-- of the lent lists
+unfoldable pub list-refusal : (t l section : ℕ) → Store → ℕ
+list-refusal t l x st =
+    let n = length (listed-tags x st) in
+    let short : ℕ = cond (ltb t n || ltb l n) 11 0 in
+    let inner : ℕ = cond (leb (count st) x) 8 (cond (fact st x .marked) 9 (cond (not (is-begin (fact st x .kind))) 10 short)) in
+    cond (eqb x no-tag) short inner

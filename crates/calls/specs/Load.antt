@@ -1,0 +1,35 @@
+-- Load (document 01, "Calls and their replies"). Assumes nothing: these are definitions.
+use mathlib.Core.Bool.{Bool, true, false, _&&_, not, cond}
+use mathlib.Core.List.{List, [], _∷_, map}
+use Prim.Native.Nat.{ℕ, suc, _+_, _*_}
+use lib.Dec.{ltb}
+use lib.ListN.{length}
+use Rattle.types.specs.Limits.{no-tag, header-words, tag-words, label-limit, most-tags}
+use Rattle.tree.specs.Book.{loaded, load-under, power-width}
+use Rattle.calls.specs.Kind.{Kind, is-kind, kind-of}
+use Rattle.calls.specs.Store.{Store}
+use Rattle.calls.specs.Nesting.{nests, new-facts}
+use Rattle.calls.specs.Sound.{degrees-fit}
+
+-- how many words a store of n tags has
+unfoldable pub words-for : (n : ℕ) → ℕ
+words-for n = header-words + tag-words * n
+
+unfoldable pub all-kinds : List ℕ → Bool
+all-kinds [] = true
+all-kinds (c ∷ cs) = is-kind c && all-kinds cs
+
+-- 3, 6, 1, 4, 5, 7 in this order, 0 where accepted; w is how many words are lent
+unfoldable pub load-refusal : (w s r : ℕ) → (kinds : List ℕ) → ℕ
+load-refusal w s r cs =
+    let n = length cs in
+    cond (not (degrees-fit s r)) 3
+    (cond (ltb most-tags n) 6
+    (cond (ltb w (words-for n)) 1
+    (cond (not (all-kinds cs)) 4
+    (cond (not (nests 0 (map kind-of cs))) 5 (cond (ltb label-limit (power-width s r (suc (load-under r n)))) 7 0)))))
+
+-- tag numbers run in book order; stamp 0
+unfoldable pub load-store : (s r number : ℕ) → (kinds : List ℕ) → Store
+load-store s r b cs =
+    record { book = loaded s r (length cs); number = b; stamp = 0; facts = new-facts no-tag [] 0 (map kind-of cs) }

@@ -1,0 +1,33 @@
+-- Mark (document 01, "Calls and their replies"): a begin or text and all inside. Labels stay.
+-- Assumes nothing: these are definitions.
+use mathlib.Core.Bool.{Bool, true, false, _&&_, _||_, not, cond}
+use mathlib.Core.List.{List, [], _∷_}
+use Prim.Native.Nat.{ℕ, zero, suc, _+_}
+use lib.Dec.{leb}
+use Rattle.calls.specs.Kind.{is-end}
+use Rattle.calls.specs.Store.{Store, Fact, fact, count, place-of}
+
+-- whether a tag is the section's own or inside it: its place is from the section's begin to its end
+unfoldable pub within : Store → (section tag : ℕ) → Bool
+within st x d = leb (place-of st x) (place-of st d) && leb (place-of st d) (place-of st (fact st x .mate))
+
+-- the facts of the tags d, d + 1, .. after the mark
+unfoldable pub mark-facts : Store → (section d : ℕ) → List Fact → List Fact
+mark-facts st x d [] = []
+mark-facts st x d (t ∷ ts) =
+    record { kind = t .kind; marked = t .marked || within st x d; mate = t .mate; up = t .up } ∷ mark-facts st x (suc d) ts
+
+unfoldable pub mark-store : (section : ℕ) → Store → Store
+mark-store x st = record { book = st .book; number = st .number; stamp = suc (st .stamp); facts = mark-facts st x 0 (st .facts) }
+
+-- how many of the tags d, d + 1, .. become marked
+unfoldable pub new-marks : Store → (section d : ℕ) → List Fact → ℕ
+new-marks st x d [] = 0
+new-marks st x d (t ∷ ts) = cond (not (t .marked) && within st x d) 1 0 + new-marks st x (suc d) ts
+
+unfoldable pub mark-count : (section : ℕ) → Store → ℕ
+mark-count x st = new-marks st x 0 (st .facts)
+
+-- 8, 9, 10 in this order, 0 where accepted (1 and 2 are the words'); hold has the same
+unfoldable pub section-refusal : (section : ℕ) → Store → ℕ
+section-refusal x st = cond (leb (count st) x) 8 (cond (fact st x .marked) 9 (cond (is-end (fact st x .kind)) 10 0))

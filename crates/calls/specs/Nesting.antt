@@ -1,0 +1,56 @@
+-- Nesting (document 01, "The book in words", "The tree"): which rows of kinds nest, the mates and ups of new tags, and
+-- the one pass along the book that decides whether mates, ups and marks are right.
+-- Assumes nothing: these are definitions.
+use mathlib.Core.Bool.{Bool, true, false, _&&_, _||_, not, cond, Bool·beq}
+use mathlib.Core.List.{List, [], _∷_, headD, tail}
+use Prim.Native.Nat.{ℕ, zero, suc}
+use lib.Dec.{eqb}
+use Rattle.types.specs.Limits.{no-tag}
+use Rattle.calls.specs.Kind.{Kind, begin, end, text}
+use Rattle.calls.specs.Store.{Fact, fact-in}
+
+-- whether a row of kinds nests, where so many begins are open
+unfoldable pub nests : (open-begins : ℕ) → List Kind → Bool
+nests d [] = eqb d 0
+nests d (begin ∷ ks) = nests (suc d) ks
+nests zero (end ∷ ks) = false
+nests (suc d) (end ∷ ks) = nests d ks
+nests d (text ∷ ks) = nests d ks
+
+-- the number of the end tag that closes a begin d levels up, where the kinds behind it begin at tag x
+unfoldable pub closing : (d x : ℕ) → List Kind → ℕ
+closing d x [] = no-tag
+closing d x (begin ∷ ks) = closing (suc d) (suc x) ks
+closing zero x (end ∷ ks) = x
+closing (suc d) x (end ∷ ks) = closing d (suc x) ks
+closing d x (text ∷ ks) = closing d (suc x) ks
+
+-- the unmarked tags x, x + 1, .. of a row of kinds; u is the innermost open begin or no tag, os are those around it
+unfoldable pub new-facts : (u : ℕ) → (os : List ℕ) → (x : ℕ) → List Kind → List Fact
+new-facts u os x [] = []
+new-facts u os x (begin ∷ ks) =
+    record { kind = begin; marked = false; mate = closing 0 (suc x) ks; up = u } ∷ new-facts x (u ∷ os) (suc x) ks
+new-facts u os x (end ∷ ks) =
+    record { kind = end; marked = false; mate = u; up = headD os no-tag } ∷ new-facts (headD os no-tag) (tail os) (suc x) ks
+new-facts u os x (text ∷ ks) = record { kind = text; marked = false; mate = x; up = u } ∷ new-facts u os (suc x) ks
+
+-- THE PASS. o is the innermost open begin, or no tag. A begin or text has o as its up, and is marked if o is; a text is
+-- its own mate. An end and o are each other's mates, and have the same up and mark.
+unfoldable pub fits : List Fact → (o x : ℕ) → Kind → Bool
+fits fs o x begin = eqb (fact-in fs x .up) o && (not (fact-in fs o .marked) || fact-in fs x .marked)
+fits fs o x end =
+    (not (eqb o no-tag) && (eqb (fact-in fs x .mate) o && eqb (fact-in fs o .mate) x))
+    && (eqb (fact-in fs x .up) (fact-in fs o .up) && Bool·beq (fact-in fs x .marked) (fact-in fs o .marked))
+fits fs o x text =
+    (eqb (fact-in fs x .mate) x && eqb (fact-in fs x .up) o) && (not (fact-in fs o .marked) || fact-in fs x .marked)
+
+-- the innermost open begin behind a tag
+unfoldable pub opened : List Fact → (o x : ℕ) → Kind → ℕ
+opened fs o x begin = x
+opened fs o x end = fact-in fs o .up
+opened fs o x text = o
+
+-- along a row from o on; at its end none is open
+unfoldable pub nested : List Fact → (o : ℕ) → (row : List ℕ) → Bool
+nested fs o [] = eqb o no-tag
+nested fs o (x ∷ xs) = fits fs o x (fact-in fs x .kind) && nested fs (opened fs o x (fact-in fs x .kind)) xs

@@ -1,0 +1,141 @@
+-- What is promised of the store (demands 2 and 3). Each statement is a type; docs/THEOREMS.md names its proof or says
+-- that it is owed. Assumes nothing.
+use mathlib.Core.Path.{_≡_}
+use mathlib.Core.Bool.{Bool, true, false, not}
+use mathlib.Core.List.{List, [], _∷_, _++_, map}
+use mathlib.Core.Option.{Option, some}
+use mathlib.Core.Logic.{_↔_, _⊎_}
+use Prim.Native.Nat.{ℕ, zero, suc, _+_, _*_, _-_, _^_, _≤_, _<_}
+use lib.Dec.{ltb, eqb}
+use lib.ListN.{length}
+use Rattle.types.specs.Limits.{word-limit}
+use Rattle.types.specs.declared.HeldPair.{HeldPair}
+use Rattle.types.specs.declared.Answer.the-variants.{Yes, No, Stale}
+use Rattle.types.specs.declared.LoadReply.the-variants.{Loaded}
+use Rattle.types.specs.declared.QuestionReply.the-variants.{Answered}
+use Rattle.tree.specs.Row.{rises}
+use Rattle.tree.specs.Book.{height, labels-of, book-within}
+use Rattle.calls.specs.Kind.{Kind, is-begin}
+use Rattle.calls.specs.Store.{Store, fact, count, row, place-of, width, label}
+use Rattle.calls.specs.Nesting.{nests}
+use Rattle.calls.specs.Sound.{sound}
+use Rattle.calls.specs.Load.{load-refusal, load-store}
+use Rattle.calls.specs.Insert.{row-refusal, insert-store, insert-moved}
+use Rattle.calls.specs.Mark.{section-refusal, mark-store}
+use Rattle.calls.specs.Held.{hold-pair, encloses, current, question}
+use Rattle.calls.specs.Words.{words-of, Says, word-at, follow, label-field, read}
+use Rattle.calls.specs.Calls.{Call, load, after, Fits, All-fit, judged, moved-after, Event, loads, Happens, Run, told, calls-of, total-moved}
+use Rattle.calls.specs.Reference.{Reference, total, reference-load, reference-after}
+
+-- ONE STEP, on any sound store: an accepted load, an accepted insertion of any row of kinds that nests, an accepted mark
+unfoldable pub Load-sound : Type 0
+Load-sound = (w s r b : ℕ) (cs : List ℕ) → load-refusal w s r cs ≡ 0 → b < word-limit → sound (load-store s r b cs) ≡ true
+
+unfoldable pub Insert-sound : Type 0
+Insert-sound =
+    (w y : ℕ) (ks : List Kind) (st : Store) → sound st ≡ true → nests 0 ks ≡ true → 1 ≤ length ks → row-refusal w ks y st ≡ 0 →
+    sound (insert-store ks y st) ≡ true
+
+unfoldable pub Mark-sound : Type 0
+Mark-sound = (x : ℕ) (st : Store) → sound st ≡ true → section-refusal x st ≡ 0 → sound (mark-store x st) ≡ true
+
+-- EVERY LIST OF CALLS behind an accepted load
+pub record Behind-load (w s r b : ℕ) (ks : List ℕ) (cs : List Call) : Type 0 where
+  pub accepted : load-refusal w s r ks ≡ 0
+  pub fit : All-fit (load s r b ks ∷ cs)
+
+unfoldable pub Stays-good : Type 0
+Stays-good =
+    (w s r b : ℕ) (ks : List ℕ) (cs : List Call) → Behind-load w s r b ks cs → book-within (after w cs (load-store s r b ks) .book) ≡ true
+
+unfoldable pub Stores-sound : Type 0
+Stores-sound =
+    (w s r b : ℕ) (ks : List ℕ) (cs : List Call) → Behind-load w s r b ks cs → sound (after w cs (load-store s r b ks)) ≡ true
+
+-- LABELS TELL: in a sound store comparing labels is comparing places
+unfoldable pub Labels-tell : Type 0
+Labels-tell =
+    (st : Store) (x y : ℕ) → sound st ≡ true → x < count st → y < count st → ltb (label st x) (label st y) ≡ ltb (place-of st x) (place-of st y)
+
+-- THE HELD PAIR. Enclosure in the list of tags
+unfoldable pub Encloses : Store → (section tag : ℕ) → Type 0
+Encloses st x d = (place-of st x < place-of st d) × (place-of st d < place-of st (fact st x .mate))
+
+-- a pair that still speaks of its section: of this book, the labels are the section's, and it is not marked
+pub record Current (p : HeldPair) (st : Store) : Type 0 where
+  pub book : p .book ≡ st .number
+  pub start : p .start .0 ≡ label st (p .tag .0)
+  pub end : p .end .0 ≡ label st (fact st (p .tag .0) .mate)
+  pub unmarked : fact st (p .tag .0) .marked ≡ false
+
+-- the pair's tag and d are tags, and the pair's is a begin
+pub record Asked (p : HeldPair) (d : ℕ) (st : Store) : Type 0 where
+  pub tag : p .tag .0 < count st
+  pub other : d < count st
+  pub begin : is-begin (fact st (p .tag .0) .kind) ≡ true
+
+-- yes, no and stale, each if and only if, on any sound store: so for a pair held at any moment and asked after any calls
+pub record Answers-right (p : HeldPair) (d : ℕ) (st : Store) : Type 0 where
+  pub if-yes : (question p d st ≡ Answered Yes) ↔ (Asked p d st × Current p st × (fact st d .marked ≡ false) × Encloses st (p .tag .0) d)
+  pub if-no :
+      (question p d st ≡ Answered No) ↔ (Asked p d st × Current p st × (fact st d .marked ≡ false) × (Encloses st (p .tag .0) d → ⊥))
+  pub if-stale :
+      (question p d st ≡ Answered Stale) ↔ ((p .book ≡ st .number → ⊥) ⊎ ((p .book ≡ st .number) × Asked p d st × (Current p st → ⊥)))
+
+unfoldable pub Pairs-right : Type 0
+Pairs-right = (p : HeldPair) (d : ℕ) (st : Store) → Answers-right p d st
+
+-- and enclosure is what the labels of a current pair tell: the tag's label lies between the pair's two
+unfoldable pub Pair-labels-tell : Type 0
+Pair-labels-tell =
+    (p : HeldPair) (d : ℕ) (st : Store) → sound st ≡ true → Asked p d st → Current p st →
+    Encloses st (p .tag .0) d ↔ ((p .start .0 < label st d) × (label st d < p .end .0))
+
+-- THE READER: words are read as a store if and only if they say it; so they say at most one
+unfoldable pub Reader-right : Type 0
+Reader-right = (ws : List ℕ) (st : Store) → (read ws ≡ some st) ↔ Says ws st
+
+unfoldable pub Says-one : Type 0
+Says-one = (ws : List ℕ) (st su : Store) → Says ws st → Says ws su → st ≡ su
+
+unfoldable pub Reads-back : Type 0
+Reads-back = (st : Store) (rest : List ℕ) → sound st ≡ true → read (words-of st ++ rest) ≡ some st
+
+-- THE THIRD DEMAND. What holds of a store, beside the reference list, after all moved numbers t together
+pub record Kept (st : Store) (a : Reference) (t : ℕ) : Type 0 where
+  pub tags : row st ≡ a .row
+  pub degree-s : st .book .s ≡ a .s
+  pub degree-r : st .book .r ≡ a .r
+  pub levels : height (st .book) ≡ a .height
+  pub rise : rises ((a .s * a .r - 1) ^ a .height) (labels-of (width st) (st .book)) ≡ true
+  pub few-moved :
+      (a .s - 1) * t ≤ (a .s - 1) * (a .s * a .r * a .m + 2 * total a) + a .s * a .r * ((a .height - 1) * a .m + a .n0)
+  pub low : 2 ≤ a .height → 2 * a .r ^ (a .height - 1) ≤ total a
+
+unfoldable pub Lists-keep : Type 0
+Lists-keep =
+    (w s r b : ℕ) (ks : List ℕ) (cs : List Call) → Behind-load w s r b ks cs →
+    Kept (after w cs (load-store s r b ks)) (reference-after (judged w cs (load-store s r b ks)) (reference-load s r (length ks)))
+    (moved-after w cs (load-store s r b ks) 0)
+
+-- THE WHOLE RUN, over the words and the replies. What the words hold of the header and along next
+pub record Words-kept (ws : List ℕ) (st : Store) (a : Reference) : Type 0 where
+  pub says : Says ws st
+  pub degree-s : word-at ws 1 ≡ a .s
+  pub degree-r : word-at ws 2 ≡ a .r
+  pub levels : word-at ws 3 ≡ a .height
+  pub tags : word-at ws 4 ≡ length (a .row)
+  pub along-next : follow (length (a .row)) ws (word-at ws 5) ≡ a .row
+  pub labels-along : map (label-field ws) (a .row) ≡ labels-of (width st) (st .book)
+
+-- of every list of events behind an accepted load, over the words and the replies: exactly the calls that the
+-- definitions refuse were refused, and the words, the reference list and the moved numbers of the replies agree
+pub record Whole-run (w : ℕ) (st : Store) (a : Reference) (es : List Event) (ws : List ℕ) : Type 0 where
+  pub refused-right : told es ≡ judged w (calls-of es) st
+  pub words : Words-kept ws (after w (calls-of es) st) (reference-after (told es) a)
+  pub kept : Kept (after w (calls-of es) st) (reference-after (told es) a) (total-moved 0 es)
+
+unfoldable pub Runs-keep : Type 0
+Runs-keep =
+    (s r b n h : ℕ) (ks old ws end : List ℕ) (es : List Event) → Happens (loads s r b ks (Loaded n h)) old ws → Run ws es end →
+    Whole-run (length old) (load-store s r b ks) (reference-load s r (length ks)) es end

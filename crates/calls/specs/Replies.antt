@@ -1,0 +1,155 @@
+-- What each call replies, and what the lent words then hold: for every input, words of any length and content
+-- (document 01, "Calls and their replies"). Assumes nothing: these are definitions.
+use mathlib.Core.Bool.{Bool, true, false, cond}
+use mathlib.Core.List.{List, [], _∷_}
+use mathlib.Core.Option.{Option, none, some}
+use Prim.Native.Nat.{ℕ, zero, suc}
+use lib.Dec.{ltb}
+use lib.ListN.{length}
+use Rattle.types.specs.Limits.{header-words}
+use Rattle.types.specs.declared.HeldPair.{HeldPair}
+use Rattle.types.specs.declared.Answer.{Answer}
+use Rattle.types.specs.declared.Answer.the-variants.{Yes, No, Stale}
+use Rattle.types.specs.declared.LoadReply.{LoadReply}
+use Rattle.types.specs.declared.LoadReply.the-variants as load
+use Rattle.types.specs.declared.InsertReply.{InsertReply}
+use Rattle.types.specs.declared.InsertReply.the-variants as insert
+use Rattle.types.specs.declared.MarkReply.{MarkReply}
+use Rattle.types.specs.declared.MarkReply.the-variants as mark
+use Rattle.types.specs.declared.HoldReply.{HoldReply}
+use Rattle.types.specs.declared.HoldReply.the-variants as hold
+use Rattle.types.specs.declared.QuestionReply.{QuestionReply}
+use Rattle.types.specs.declared.QuestionReply.the-variants as asked
+use Rattle.types.specs.declared.ListReply.{ListReply}
+use Rattle.types.specs.declared.ListReply.the-variants as list
+use Rattle.tree.specs.Book.{height, loaded}
+use Rattle.calls.specs.Store.{Store, count}
+use Rattle.calls.specs.Load.{load-refusal, load-store}
+use Rattle.calls.specs.Insert.{insert-kinds, insert-refusal, insert-store, insert-moved, insert-split}
+use Rattle.calls.specs.Mark.{section-refusal, mark-store, mark-count}
+use Rattle.calls.specs.Held.{hold-pair, question}
+use Rattle.calls.specs.Listing.{list-refusal, listed-tags, listed-labels}
+use Rattle.calls.specs.Words.{words-of, read, in-front}
+
+-- 1 and 2 come first on every call but load: under 8 words; no store is said. Then the refusal of the store that is
+unfoldable pub on-store : Option Store → (refusal : Store → ℕ) → ℕ
+on-store none f = 2
+on-store (some st) f = f st
+
+unfoldable pub refusal-over : (words : List ℕ) → (refusal : Store → ℕ) → ℕ
+refusal-over ws f = cond (ltb (length ws) header-words) 1 (on-store (read ws) f)
+
+-- the store that words say; where they say none, every call has refused them already
+unfoldable pub store-or : Option Store → Store
+store-or none = load-store 2 2 0 []
+store-or (some st) = st
+
+unfoldable pub said : (words : List ℕ) → Store
+said ws = store-or (read ws)
+
+-- the words after a call that writes: new words in front where it was accepted, all as they were where it was refused
+unfoldable pub written : (refusal : ℕ) → (new old : List ℕ) → List ℕ
+written zero new old = in-front new old
+written (suc k) new old = old
+
+-- LOAD
+unfoldable pub load-outcome : (refusal tags height : ℕ) → LoadReply
+load-outcome zero n h = load.Loaded n h
+load-outcome (suc k) n h = load.Refused (suc k)
+
+unfoldable pub load-reply : (s r number : ℕ) → (kinds words : List ℕ) → LoadReply
+load-reply s r b cs ws = load-outcome (load-refusal (length ws) s r cs) (length cs) (height (loaded s r (length cs)))
+
+unfoldable pub load-words : (s r number : ℕ) → (kinds words : List ℕ) → List ℕ
+load-words s r b cs ws = written (load-refusal (length ws) s r cs) (words-of (load-store s r b cs)) ws
+
+-- INSERT
+unfoldable pub insert-outcome : (refusal first moved split : ℕ) → InsertReply
+insert-outcome zero x m h = insert.Inserted (record { 0 = x }) m h
+insert-outcome (suc k) x m h = insert.Refused (suc k)
+
+unfoldable pub insert-refused : (kind place : ℕ) → (words : List ℕ) → ℕ
+insert-refused c y ws = refusal-over ws (insert-refusal (length ws) c y)
+
+unfoldable pub insert-reply : (kind place : ℕ) → (words : List ℕ) → InsertReply
+insert-reply c y ws =
+    let st = said ws in
+    insert-outcome (insert-refused c y ws) (count st) (insert-moved (insert-kinds c) y st) (insert-split (insert-kinds c) y st)
+
+unfoldable pub insert-words : (kind place : ℕ) → (words : List ℕ) → List ℕ
+insert-words c y ws = written (insert-refused c y ws) (words-of (insert-store (insert-kinds c) y (said ws))) ws
+
+-- MARK
+unfoldable pub mark-outcome : (refusal count : ℕ) → MarkReply
+mark-outcome zero n = mark.Marked n
+mark-outcome (suc k) n = mark.Refused (suc k)
+
+unfoldable pub mark-reply : (section : ℕ) → (words : List ℕ) → MarkReply
+mark-reply x ws = mark-outcome (refusal-over ws (section-refusal x)) (mark-count x (said ws))
+
+unfoldable pub mark-words : (section : ℕ) → (words : List ℕ) → List ℕ
+mark-words x ws = written (refusal-over ws (section-refusal x)) (words-of (mark-store x (said ws))) ws
+
+-- HOLD
+unfoldable pub hold-outcome : (refusal : ℕ) → HeldPair → HoldReply
+hold-outcome zero p = hold.Held p
+hold-outcome (suc k) p = hold.Refused (suc k)
+
+unfoldable pub hold-reply : (section : ℕ) → (words : List ℕ) → HoldReply
+hold-reply x ws = hold-outcome (refusal-over ws (section-refusal x)) (hold-pair x (said ws))
+
+-- THE HELD-PAIR QUESTION
+unfoldable pub question-outcome : (refusal : ℕ) → QuestionReply → QuestionReply
+question-outcome zero q = q
+question-outcome (suc k) q = asked.Refused (suc k)
+
+unfoldable pub question-reply : HeldPair → (d : ℕ) → (words : List ℕ) → QuestionReply
+question-reply p d ws = question-outcome (refusal-over ws (λ st. 0)) (question p d (said ws))
+
+-- LIST, into two lent lists
+unfoldable pub list-outcome : (refusal count : ℕ) → ListReply
+list-outcome zero n = list.Listed n
+list-outcome (suc k) n = list.Refused (suc k)
+
+unfoldable pub list-refused : (section : ℕ) → (words tags labels : List ℕ) → ℕ
+list-refused x ws ts ls = refusal-over ws (list-refusal (length ts) (length ls) x)
+
+unfoldable pub list-reply : (section : ℕ) → (words tags labels : List ℕ) → ListReply
+list-reply x ws ts ls = list-outcome (list-refused x ws ts ls) (length (listed-tags x (said ws)))
+
+unfoldable pub list-tags : (section : ℕ) → (words tags labels : List ℕ) → List ℕ
+list-tags x ws ts ls = written (list-refused x ws ts ls) (listed-tags x (said ws)) ts
+
+unfoldable pub list-labels : (section : ℕ) → (words tags labels : List ℕ) → List ℕ
+list-labels x ws ts ls = written (list-refused x ws ts ls) (listed-labels x (said ws)) ls
+
+-- THE NUMBERS OF A REPLY, as document 01 gives them: 0 (ok) and the reply's values in its order, or the refusal alone
+unfoldable pub load-numbers : LoadReply → List ℕ
+load-numbers (load.Loaded n h) = 0 ∷ n ∷ h ∷ []
+load-numbers (load.Refused k) = k ∷ []
+
+unfoldable pub insert-numbers : InsertReply → List ℕ
+insert-numbers (insert.Inserted x m h) = 0 ∷ x .0 ∷ m ∷ h ∷ []
+insert-numbers (insert.Refused k) = k ∷ []
+
+unfoldable pub mark-numbers : MarkReply → List ℕ
+mark-numbers (mark.Marked n) = 0 ∷ n ∷ []
+mark-numbers (mark.Refused k) = k ∷ []
+
+unfoldable pub hold-numbers : HoldReply → List ℕ
+hold-numbers (hold.Held p) = 0 ∷ p .book ∷ p .tag .0 ∷ p .start .0 ∷ p .end .0 ∷ []
+hold-numbers (hold.Refused k) = k ∷ []
+
+-- 0 no, 1 yes, 2 stale
+unfoldable pub answer-number : Answer → ℕ
+answer-number No = 0
+answer-number Yes = 1
+answer-number Stale = 2
+
+unfoldable pub question-numbers : QuestionReply → List ℕ
+question-numbers (asked.Answered a) = 0 ∷ answer-number a ∷ []
+question-numbers (asked.Refused k) = k ∷ []
+
+unfoldable pub list-numbers : ListReply → List ℕ
+list-numbers (list.Listed n) = 0 ∷ n ∷ []
+list-numbers (list.Refused k) = k ∷ []

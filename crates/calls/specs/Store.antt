@@ -1,0 +1,65 @@
+-- A store: the book's tree, and for each tag its kind, mark, mate and up (document 01, "The book in words").
+-- Assumes nothing: these are definitions.
+use mathlib.Core.Bool.{Bool, true, false, cond}
+use mathlib.Core.List.{List, [], _∷_}
+use Prim.Native.Nat.{ℕ, zero, suc, _+_}
+use lib.ListN.{length, getD}
+use Rattle.types.specs.Limits.{no-tag}
+use Rattle.tree.specs.Row.{place}
+use Rattle.tree.specs.Book.{Book, tags, label-of, power-width}
+use Rattle.calls.specs.Kind.{Kind, text}
+
+-- what is kept of a tag besides its place and label: mate is the other tag of the element, a text's own number for a
+-- text; up is the begin tag of the innermost element around it, or no tag
+pub record Fact : Type 0 where
+  pub kind : Kind
+  pub marked : Bool
+  pub mate : ℕ
+  pub up : ℕ
+
+-- number is document 01's book number (the caller's, any word), stamp its count of accepted changes since load
+pub record Store : Type 0 where
+  pub book : Book
+  pub number : ℕ
+  pub stamp : ℕ
+  pub facts : List Fact
+
+-- what no tag says: above all that it is not marked
+abbrev pub no-fact : Fact
+no-fact = record { kind = text; marked = false; mate = no-tag; up = no-tag }
+
+abbrev pub fact-in : List Fact → (tag : ℕ) → Fact
+fact-in fs x = getD fs x no-fact
+
+abbrev pub fact : Store → (tag : ℕ) → Fact
+fact st x = fact-in (st .facts) x
+
+-- n: tags issued
+abbrev pub count : Store → ℕ
+count st = length (st .facts)
+
+-- the tags in book order
+abbrev pub row : Store → List ℕ
+row st = tags (st .book)
+
+-- how many tags stand before a tag
+abbrev pub place-of : Store → (tag : ℕ) → ℕ
+place-of st x = place x (row st)
+
+-- document 01's widths: the powers of b
+abbrev pub width : Store → ℕ → ℕ
+width st = power-width (st .book .s) (st .book .r)
+
+abbrev pub label : Store → (tag : ℕ) → ℕ
+label st x = label-of (width st) (st .book) x
+
+-- the tag behind and the tag before a tag in a row, or no tag
+unfoldable pub next-in : List ℕ → (tag : ℕ) → ℕ
+next-in xs x = getD xs (suc (place x xs)) no-tag
+
+unfoldable pub prior-in : List ℕ → (tag : ℕ) → ℕ
+prior-in xs x = getD (no-tag ∷ xs) (place x xs) no-tag
+
+unfoldable pub marked-count : List Fact → ℕ
+marked-count [] = 0
+marked-count (t ∷ ts) = cond (t .marked) 1 0 + marked-count ts

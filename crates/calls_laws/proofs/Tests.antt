@@ -1,0 +1,84 @@
+-- What a passed test of a sound store says, field by field. Assumes nothing.
+use mathlib.Core.Path.{_≡_, refl}
+use mathlib.Core.Bool.{Bool, true, false, _&&_}
+use Prim.Native.Nat.{ℕ, _+_, _≤_, _<_}
+use borrow.Author.Tests.{ltb-true, leb-true, eqb-true, lt-ltb, le-leb, eq-eqb}
+use lib.Dec.{ltb, leb, eqb}
+use lib.ListN.{length}
+use Rattle.types.specs.Limits.{no-tag, label-limit, word-limit, most-tags}
+use Rattle.tree.specs.Row.{all-below}
+use Rattle.tree.specs.Book.{height, book-within}
+use Rattle.tree.specs.Promise.{Sane}
+use Rattle.tree_laws.proofs.Good.{and-left, and-right, and-both}
+use Rattle.calls.specs.Store.{Store, count, row, width, marked-count}
+use Rattle.calls.specs.Nesting.{nested}
+use Rattle.calls.specs.Sound.{degrees-fit, tree-sound, row-sound, header-sound, sound}
+
+pub record Degrees (s r : ℕ) : Type 0 where
+  pub s-least : 2 ≤ s
+  pub s-most : s ≤ 16
+  pub r-least : 2 ≤ r
+  pub r-most : r ≤ 16
+
+pub degrees-of : (s r : ℕ) → degrees-fit s r ≡ true → Degrees s r
+unfolding degrees-fit
+degrees-of s r e =
+    let fs = and-left (leb 2 s && leb s 16) (leb 2 r && leb r 16) e in
+    let fr = and-right (leb 2 s && leb s 16) (leb 2 r && leb r 16) e in
+    record {
+      s-least = leb-true _ _ (and-left (leb 2 s) (leb s 16) fs);
+      s-most = leb-true _ _ (and-right (leb 2 s) (leb s 16) fs);
+      r-least = leb-true _ _ (and-left (leb 2 r) (leb r 16) fr);
+      r-most = leb-true _ _ (and-right (leb 2 r) (leb r 16) fr);
+    }
+
+pub degrees-test : (s r : ℕ) → Degrees s r → degrees-fit s r ≡ true
+unfolding degrees-fit
+degrees-test s r d =
+    and-both (and-both (le-leb _ _ (d .s-least)) (le-leb _ _ (d .s-most))) (and-both (le-leb _ _ (d .r-least)) (le-leb _ _ (d .r-most)))
+
+-- document 01's "Sound means", as facts
+pub record Sound (st : Store) : Type 0 where
+  pub degrees : Degrees (st .book .s) (st .book .r)
+  pub labels-fit : width st (height (st .book)) ≤ label-limit
+  pub within : book-within (st .book) ≡ true
+  pub few : count st ≤ most-tags
+  pub as-many : length (row st) ≡ count st
+  pub each : all-below (count st) (row st) ≡ true
+  pub nesting : nested (st .facts) no-tag (row st) ≡ true
+  pub number-fits : st .number < word-limit
+  pub stamp-fits : st .stamp ≤ count st + marked-count (st .facts)
+
+pub sane : {st : Store} → Sound st → Sane (st .book)
+sane h = record { s-least = h .degrees .s-least; r-least = h .degrees .r-least; within = h .within }
+
+pub facts-of : (st : Store) → sound st ≡ true → Sound st
+unfolding sound tree-sound row-sound header-sound
+facts-of st e =
+    let front = and-left (tree-sound st && row-sound st) (nested (st .facts) no-tag (row st) && header-sound st) e in
+    let back = and-right (tree-sound st && row-sound st) (nested (st .facts) no-tag (row st) && header-sound st) e in
+    let tree = and-left (tree-sound st) (row-sound st) front in
+    let tags = and-right (tree-sound st) (row-sound st) front in
+    let head = and-right (nested (st .facts) no-tag (row st)) (header-sound st) back in
+    let limits = and-right (degrees-fit (st .book .s) (st .book .r)) (leb (width st (height (st .book))) label-limit && book-within (st .book)) tree in
+    let numbers = and-right (leb (count st) most-tags) (eqb (length (row st)) (count st) && all-below (count st) (row st)) tags in
+    record {
+      degrees =
+          degrees-of _ _ (and-left (degrees-fit (st .book .s) (st .book .r)) (leb (width st (height (st .book))) label-limit && book-within (st .book)) tree);
+      labels-fit = leb-true _ _ (and-left (leb (width st (height (st .book))) label-limit) (book-within (st .book)) limits);
+      within = and-right (leb (width st (height (st .book))) label-limit) (book-within (st .book)) limits;
+      few = leb-true _ _ (and-left (leb (count st) most-tags) (eqb (length (row st)) (count st) && all-below (count st) (row st)) tags);
+      as-many = eqb-true _ _ (and-left (eqb (length (row st)) (count st)) (all-below (count st) (row st)) numbers);
+      each = and-right (eqb (length (row st)) (count st)) (all-below (count st) (row st)) numbers;
+      nesting = and-left (nested (st .facts) no-tag (row st)) (header-sound st) back;
+      number-fits = ltb-true _ _ (and-left (ltb (st .number) word-limit) (leb (st .stamp) (count st + marked-count (st .facts))) head);
+      stamp-fits = leb-true _ _ (and-right (ltb (st .number) word-limit) (leb (st .stamp) (count st + marked-count (st .facts))) head);
+    }
+
+pub sound-of : (st : Store) → Sound st → sound st ≡ true
+unfolding sound tree-sound row-sound header-sound
+sound-of st h =
+    and-both
+    (and-both (and-both (degrees-test _ _ (h .degrees)) (and-both (le-leb _ _ (h .labels-fit)) (h .within)))
+    (and-both (le-leb _ _ (h .few)) (and-both (eq-eqb _ _ (h .as-many)) (h .each))))
+    (and-both (h .nesting) (and-both (lt-ltb _ _ (h .number-fits)) (le-leb _ _ (h .stamp-fits))))

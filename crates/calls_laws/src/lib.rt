@@ -1,0 +1,1 @@
+// Laws of the six calls (crate calls): proofs/ holds them.

@@ -1,0 +1,56 @@
+-- The ancestors of a place, and a split at a given height: what the reach of an insertion is measured by (document 02,
+-- CR 11, stated for any widths). Assumes nothing: these are definitions.
+use mathlib.Core.Bool.{Bool, true, false, cond}
+use mathlib.Core.List.{List, [], _∷_}
+use Prim.Native.Nat.{ℕ, zero, suc, pred, _+_, _-_}
+use lib.Dec.{ltb, eqb}
+use Rattle.tree.specs.Row.{insert-at}
+use Rattle.tree.specs.Forest.{Forest, nil, leaf, node, leaves, size, joined, spread}
+use Rattle.tree.specs.Book.{Book, height, split-of}
+
+-- Of the tree of height h that a tag behind the first p leaves goes into: how many leaves stand left of it (at h = 0:
+-- left of the new tag), and how many are under it
+unfoldable pub left-in : Forest → (j h p : ℕ) → ℕ
+left-in nil j h p = 0
+left-in (leaf z f) j h p = p
+left-in (node g f) j h p =
+    let right = left-in f j h (p - size g) in
+    let inside = left-in g (pred j) h p in
+    cond (ltb (size g) p) (size g + right) (cond (eqb j h) 0 inside)
+
+unfoldable pub size-in : Forest → (j h p : ℕ) → ℕ
+size-in nil j h p = 0
+size-in (leaf z f) j h p = 0
+size-in (node g f) j h p =
+    let right = size-in f j h (p - size g) in
+    let inside = size-in g (pred j) h p in
+    cond (ltb (size g) p) right (cond (eqb j h) (size g) inside)
+
+-- the same in a book, where the root is the tree of height H
+unfoldable pub left-of : (h p : ℕ) → Book → ℕ
+left-of h p k = cond (ltb (k .under) h) 0 (left-in (k .root) (k .under) h p)
+
+unfoldable pub size-of : (h p : ℕ) → Book → ℕ
+size-of h p k = cond (ltb (k .under) h) (size (k .root)) (size-in (k .root) (k .under) h p)
+
+-- where the renumbered part ends: the leaves left of, and under, the parent of the split node, or of the new tag where
+-- no node is split
+unfoldable pub border : (p : ℕ) → Book → ℕ
+border p k = left-of (suc (split-of p k)) p k + size-of (suc (split-of p k)) p k
+
+-- the forest in which the tree of height h that p goes into is replaced by complete trees over its leaves, with new
+-- tags behind the first p
+unfoldable pub split-with : Forest → (r j h p : ℕ) → (new : List ℕ) → Forest
+split-with nil r j h p ns = nil
+split-with (leaf z f) r j h p ns = leaf z f
+split-with (node g f) r j h p ns =
+    let right = split-with f r j h (p - size g) ns in
+    let inside = split-with g r (pred j) h p ns in
+    let split = spread j r (insert-at p ns (leaves g)) in
+    cond (ltb (size g) p) (node g right) (cond (eqb j h) (joined split f) (node inside f))
+
+unfoldable pub split-book : (h p : ℕ) → (new : List ℕ) → Book → Book
+split-book h p ns k =
+    let raised : Book = record { s = k .s; r = k .r; under = height k; root = spread (height k) (k .r) (insert-at p ns (leaves (k .root))) } in
+    let inner : Book = record { s = k .s; r = k .r; under = k .under; root = split-with (k .root) (k .r) (k .under) h p ns } in
+    cond (eqb h (height k)) raised inner

@@ -1,0 +1,28 @@
+-- The tree that labels along a row spell (document 01, "Sound means": the digits of the labels spell a tree).
+-- It is right where some tree within its limits has these tags and labels; whoever reads tests that.
+-- Assumes nothing: these are definitions.
+use mathlib.Core.Bool.{Bool, true, false, cond}
+use mathlib.Core.List.{List, [], _∷_}
+use Prim.Native.Nat.{ℕ, zero, suc, _+_}
+use lib.Dec.{ltb}
+use lib.ListN.{length, take, drop}
+use Rattle.tree.specs.Forest.{Forest, nil, node, leaf-row}
+
+-- how many numbers at the front of a list are below a bound
+unfoldable pub front-below : (bound : ℕ) → List ℕ → ℕ
+front-below b [] = 0
+front-below b (l ∷ ls) = let rest = front-below b ls in cond (ltb l b) (suc rest) 0
+
+-- the nodes from number a on, each as wide as w: a node is over the tags whose labels lie below its end
+unfoldable pub spelled-nodes : (most w : ℕ) → (under : ℕ → List ℕ → List ℕ → Forest) → (a : ℕ) → (tags labels : List ℕ) → Forest
+spelled-nodes zero w g a xs ls = nil
+spelled-nodes (suc k) w g a [] ls = nil
+spelled-nodes (suc k) w g a (x ∷ xs) ls =
+    let c = front-below (a + w) ls in
+    let right = spelled-nodes k w g (a + w) (drop c (x ∷ xs)) (drop c ls) in
+    node (g a (take c (x ∷ xs)) (take c ls)) right
+
+-- the forest of height j from number a on
+unfoldable pub spelled : (j : ℕ) → (width : ℕ → ℕ) → (a : ℕ) → (tags labels : List ℕ) → Forest
+spelled zero w a xs ls = leaf-row xs
+spelled (suc j) w a xs ls = spelled-nodes (length xs) (w (suc j)) (λ b ys ms. spelled j w b ys ms) a xs ls

@@ -1,0 +1,59 @@
+-- The limits of a forest as facts, and the bridges to the test of specs/Forest.antt both ways. Assumes nothing.
+use mathlib.Core.Path.{_≡_, refl, ap, sym, _∙_}
+use mathlib.Core.Bool.{Bool, true, false, _&&_, true≢false, false≢true}
+use Prim.Native.Nat.{ℕ, zero, suc, pred, _+_, _*_, _^_, _≤_, _<_}
+use native.Mathlib.Omega.{arith}
+use borrow.Author.Tests.{lt-ltb, le-leb, eq-eqb, ltb-true, leb-true, eqb-true}
+use lib.Dec.{ltb, leb, eqb}
+use Rattle.tree.specs.Forest.{Forest, nil, leaf, node, leaves, size, within-limits}
+
+-- a forest of height j whose nodes keep their limits
+abbrev pub Good : (s r : ℕ) → Forest → (j : ℕ) → Type 0
+Good s r nil j = Unit {0}
+Good s r (leaf x f) zero = Good s r f zero
+Good s r (leaf x f) (suc j) = ⊥
+Good s r (node g f) zero = ⊥
+Good s r (node g f) (suc j) = (r ^ suc j ≤ size g) × (size g < s * r ^ suc j) × Good s r g j × Good s r f (suc j)
+
+-- a forest of complete r-ary trees of height j
+abbrev pub Complete : (r : ℕ) → Forest → (j : ℕ) → Type 0
+Complete r nil j = Unit {0}
+Complete r (leaf x f) zero = Complete r f zero
+Complete r (leaf x f) (suc j) = ⊥
+Complete r (node g f) zero = ⊥
+Complete r (node g f) (suc j) = (size g ≡ r ^ suc j) × Complete r g j × Complete r f (suc j)
+
+pub and-left : (a b : Bool) → (a && b) ≡ true → a ≡ true
+and-left true b e = refl
+and-left false b e = absurd (false≢true e)
+
+pub and-right : (a b : Bool) → (a && b) ≡ true → b ≡ true
+and-right true b e = e
+and-right false b e = absurd (false≢true e)
+
+pub and-both : {a b : Bool} → a ≡ true → b ≡ true → (a && b) ≡ true
+and-both {a} {b} p q = rw (p, q)
+
+pub good-of : (s r : ℕ) (f : Forest) (j : ℕ) → within-limits f s r j ≡ true → Good s r f j
+unfolding within-limits
+good-of s r nil j e = tt
+good-of s r (leaf x f) zero e = good-of s r f zero e
+good-of s r (leaf x f) (suc j) e = absurd (false≢true e)
+good-of s r (node g f) zero e = absurd (false≢true e)
+good-of s r (node g f) (suc j) e =
+    let own = and-left (leb (r ^ suc j) (size g) && ltb (size g) (s * r ^ suc j)) (within-limits g s r j && within-limits f s r (suc j)) e in
+    let below = and-right (leb (r ^ suc j) (size g) && ltb (size g) (s * r ^ suc j)) (within-limits g s r j && within-limits f s r (suc j)) e in (
+      leb-true _ _ (and-left (leb (r ^ suc j) (size g)) (ltb (size g) (s * r ^ suc j)) own),
+      ltb-true _ _ (and-right (leb (r ^ suc j) (size g)) (ltb (size g) (s * r ^ suc j)) own),
+      good-of s r g j (and-left (within-limits g s r j) (within-limits f s r (suc j)) below),
+      good-of s r f (suc j) (and-right (within-limits g s r j) (within-limits f s r (suc j)) below),
+    )
+
+pub test-of : (s r : ℕ) (f : Forest) (j : ℕ) → Good s r f j → within-limits f s r j ≡ true
+unfolding within-limits
+test-of s r nil j h = refl
+test-of s r (leaf x f) zero h = test-of s r f zero h
+test-of s r (leaf x f) (suc j) h = absurd h
+test-of s r (node g f) zero h = absurd h
+test-of s r (node g f) (suc j) h =
+    and-both (and-both (le-leb _ _ (h .0)) (lt-ltb _ _ (h .1))) (and-both (test-of s r g j (h .2)) (test-of s r f (suc j) (h .3)))

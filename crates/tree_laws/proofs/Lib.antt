@@ -1,0 +1,10 @@
+pub mod Good
+pub mod Rows
+pub mod Spread
+pub mod Insertion
+pub mod Load
+pub mod Labels
+pub mod Spelled
+pub mod Ancestors
+pub mod Thinnest
+pub mod Potential

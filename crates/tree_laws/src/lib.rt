@@ -1,0 +1,1 @@
+// Laws of the L-Tree (crate tree), for any widths: proofs/ holds them.

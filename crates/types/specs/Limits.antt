@@ -1,0 +1,25 @@
+-- The numbers that document 01 fixes, each named once. Assumes nothing: these are definitions.
+use Prim.Native.Nat.{ℕ}
+
+-- stands for no tag, and as a place for the front of the book ("The book in words")
+abbrev pub no-tag : ℕ
+no-tag = 4294967295
+
+-- how many words the header has, and how many each tag ("The book in words")
+abbrev pub header-words : ℕ
+header-words = 8
+
+abbrev pub tag-words : ℕ
+tag-words = 6
+
+-- no label, and no width of a root, passes this (refusal 7)
+abbrev pub label-limit : ℕ
+label-limit = 4294967296
+
+-- numbers that fit a word are below this
+abbrev pub word-limit : ℕ
+word-limit = 4294967296
+
+-- at most so many tags, marked ones counted
+abbrev pub most-tags : ℕ
+most-tags = 200000
