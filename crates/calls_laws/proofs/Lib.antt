@@ -1,1 +1,5 @@
 pub mod Tests
+pub mod Pairs
+pub mod Fields
+pub mod Reader
+pub mod WordSteps

@@ -22,11 +22,11 @@ by-test false f g = g refl
 pub fails : (t : Bool) → (t ≡ true → ⊥) → t ≡ false
 fails t h = by-test t (λ e. absurd (h e)) (λ e. e)
 
-or-left-false : (a b : Bool) → (a || b) ≡ false → a ≡ false
+pub or-left-false : (a b : Bool) → (a || b) ≡ false → a ≡ false
 or-left-false true b e = e
 or-left-false false b e = refl
 
-or-right-false : (a b : Bool) → (a || b) ≡ false → b ≡ false
+pub or-right-false : (a b : Bool) → (a || b) ≡ false → b ≡ false
 or-right-false true b e = absurd (true≢false e)
 or-right-false false b e = e
 

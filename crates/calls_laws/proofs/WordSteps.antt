@@ -1,0 +1,77 @@
+-- Words that say a store: what every call reads in them, and what they say after new words are written in front.
+-- Assumes nothing.
+use mathlib.Core.Path.{_≡_, refl, ap, _∙_}
+use mathlib.Core.List.{List, map}
+use mathlib.Core.Bool.{true, cond}
+use mathlib.Core.Option.{some}
+use Prim.Native.Nat.{ℕ, zero, suc, _≤_}
+use native.Mathlib.Omega.{arith}
+use borrow.Author.Tests.{le-ltb}
+use lib.Dec.{eqb, eqb·suc-zero}
+use lib.ListN.{length, drop, length-append, length-drop}
+use Rattle.types.specs.Limits.{header-words}
+use Rattle.tree.specs.Book.{labels-of}
+use Rattle.calls.specs.Store.{Store, count, row, width}
+use Rattle.calls.specs.Sound.{sound}
+use Rattle.calls.specs.Load.{words-for}
+use Rattle.calls.specs.Words.{words-of, Says, word-at, follow, label-field, read, in-front}
+use Rattle.calls.specs.Replies.{on-store, refusal-over, store-or, said, written}
+use Rattle.calls.specs.Promise.{Reader-right}
+use Rattle.calls_laws.proofs.Tests.{facts-of}
+use Rattle.calls_laws.proofs.Fields.{length-words, Header-says, header-says}
+use Rattle.calls_laws.proofs.Reader.{reader-right, row-read, labels-read}
+
+module _ (ws : List ℕ) (st : Store) (h : Says ws st) where
+  -- THE STORE that is read, and the refusal over it
+  pub read-said : read ws ≡ some st
+  unfolding Reader-right
+  read-said = reader-right ws st .1 h
+
+  pub said-store : said ws ≡ st
+  unfolding said store-or
+  said-store = rw read-said
+
+  -- room for the store's words, and so for a header
+  pub words-fit : words-for (count st) ≤ length ws
+  unfolding Says
+  words-fit = omega (arith, length-words st, ap length (h .1 .1) ∙ length-append (words-of st) (h .1 .0))
+
+  pub refusal-said : (f : Store → ℕ) → refusal-over ws f ≡ f st
+  unfolding refusal-over on-store words-for
+  refusal-said f = rw (le-ltb (length ws) header-words (omega (arith, words-fit)), read-said)
+
+  -- THE WORDS: the header's, the tags along next, and their labels
+  pub header-said : Header-says ws st
+  unfolding Says
+  header-said = rw (h .1 .1) (header-says st (h .1 .0))
+
+  pub row-said : follow (length (row st)) ws (word-at ws 5) ≡ row st
+  unfolding Says
+  row-said =
+      let e = facts-of st (h .0) in
+      rw (header-said .first, e .as-many, h .1 .1) (row-read st (h .1 .0) e)
+
+  pub labels-said : map (label-field ws) (row st) ≡ labels-of (width st) (st .book)
+  unfolding Says
+  labels-said = rw (h .1 .1) (labels-read st (h .1 .0) (facts-of st (h .0)))
+
+-- NEW WORDS in front say their store, and where they fit there are as many words as before
+pub says-in-front : (ws : List ℕ) (su : Store) → sound su ≡ true → Says (in-front (words-of su) ws) su
+unfolding Says in-front
+says-in-front ws su e = (e, (drop (length (words-of su)) ws, refl))
+
+pub length-in-front : (new old : List ℕ) → length new ≤ length old → length (in-front new old) ≡ length old
+unfolding in-front
+length-in-front new old l = length-append new (drop (length new) old) ∙ omega (arith, length-drop (length new) old)
+
+-- THE WORDS AFTER A CALL that writes where its refusal is 0: they say the new store, or still the old one
+pub written-says : (ws : List ℕ) (st su : Store) (refusal : ℕ) → Says ws st → (refusal ≡ 0 → sound su ≡ true) →
+    Says (written refusal (words-of su) ws) (cond (eqb refusal 0) su st)
+unfolding written
+written-says ws st su zero h good = says-in-front ws su (good refl)
+written-says ws st su (suc k) h good = rw (eqb·suc-zero k) h
+
+pub length-written : (refusal : ℕ) (new old : List ℕ) → (refusal ≡ 0 → length new ≤ length old) → length (written refusal new old) ≡ length old
+unfolding written
+length-written zero new old fit = length-in-front new old (fit refl)
+length-written (suc k) new old fit = refl
