@@ -1,4 +1,10 @@
 pub mod Tests
+pub mod Nesting
+pub mod NewFacts
+pub mod Sections
+pub mod Marks
+pub mod Inserts
+pub mod Steps
 pub mod Pairs
 pub mod Fields
 pub mod Reader

@@ -2,31 +2,28 @@
 -- Assumes nothing.
 use mathlib.Core.Path.{_≡_, refl, sym, _∙_}
 use mathlib.Core.Bool.{Bool, true, false, _&&_, _||_, not, cond, true≢false}
-use mathlib.Core.List.{List, [], _∷_}
 use mathlib.Core.Logic.{_↔_, _⊎_, inl, inr}
-use Prim.Native.Nat.{ℕ, zero, suc, _≤_, _<_}
+use Prim.Native.Nat.{ℕ, _<_}
 use native.Mathlib.Omega.{arith}
 use borrow.Author.Tests.{lt-ltb, lt-leb, eq-eqb, ne-eqb, ltb-true, leb-false, eqb-true, eqb-false, not-true, not-false}
 use lib.Dec.{ltb, leb, eqb}
-use lib.ListN.{length, List·getD-eq-default}
-use Rattle.types.specs.Limits.{no-tag}
+use lib.ListN.{length}
 use Rattle.types.specs.declared.HeldPair.{HeldPair}
 use Rattle.types.specs.declared.Answer.{Answer}
 use Rattle.types.specs.declared.Answer.the-variants.{Yes, No, Stale}
 use Rattle.types.specs.declared.QuestionReply.{QuestionReply}
 use Rattle.types.specs.declared.QuestionReply.the-variants.{Answered, Refused}
-use Rattle.tree.specs.Row.{member}
 use Rattle.tree.specs.Book.{label-of, labels-of}
 use Rattle.tree.specs.Promise.{Labels-rise}
 use Rattle.tree_laws.proofs.Good.{and-left, and-right, and-both}
-use Rattle.tree_laws.proofs.Rows.{by-test, fails, or-left-false, or-right-false, member-nil, member-first, member-later, member-cases, place-of-member, member-all-below, distinct-all-below}
+use Rattle.tree_laws.proofs.Rows.{by-test, fails, or-left-false, or-right-false, place-of-member, member-all-below}
 use Rattle.tree_laws.proofs.Labels.{length-labels, rising-of, rising-compare, labels-rise, power-widths}
-use Rattle.calls.specs.Kind.{Kind, begin, end, text, is-begin}
-use Rattle.calls.specs.Store.{Store, Fact, fact, fact-in, no-fact, count, row, place-of, width, label}
-use Rattle.calls.specs.Nesting.{fits, opened, nested}
+use Rattle.calls.specs.Kind.{begin, end, is-begin}
+use Rattle.calls.specs.Store.{Store, fact, count, row, place-of, width, label}
 use Rattle.calls.specs.Sound.{sound}
 use Rattle.calls.specs.Held.{encloses, current, question}
 use Rattle.calls.specs.Promise.{Labels-tell, Encloses, Current, Asked, Pairs-right, Pair-labels-tell}
+use Rattle.calls_laws.proofs.Sections.{mate-fits}
 use Rattle.calls_laws.proofs.Tests.{Sound, sane, facts-of}
 
 -- LABELS TELL
@@ -179,68 +176,6 @@ pairs-right p d st =
 
 -- WHAT A CURRENT PAIR'S LABELS TELL
 
--- THE PASS closes every open begin: the mates of the innermost, and of those around it, come later in the row
-abbrev around : List Fact → (n o : ℕ) → ℕ
-around fs zero o = o
-around fs (suc n) o = around fs n (fact-in fs o .up)
-
-around-none : (fs : List Fact) (n : ℕ) → length fs ≤ no-tag → around fs n no-tag ≡ no-tag
-around-none fs zero l = refl
-around-none fs (suc n) l = rw (List·getD-eq-default fs no-fact l) (around-none fs n l)
-
-up-of-begin : (fs : List Fact) (o x : ℕ) → fits fs o x begin ≡ true → fact-in fs x .up ≡ o
-unfolding fits
-up-of-begin fs o x e = eqb-true _ _ (and-left (eqb (fact-in fs x .up) o) _ e)
-
-mate-of-open : (fs : List Fact) (o x : ℕ) → fits fs o x end ≡ true → fact-in fs o .mate ≡ x
-unfolding fits
-mate-of-open fs o x e =
-    let mates = eqb (fact-in fs x .mate) o && eqb (fact-in fs o .mate) x in
-    let both = and-right (not (eqb o no-tag)) mates (and-left (not (eqb o no-tag) && mates) _ e) in
-    eqb-true _ _ (and-right (eqb (fact-in fs x .mate) o) (eqb (fact-in fs o .mate) x) both)
-
-closes : (fs : List Fact) (n o : ℕ) (xs : List ℕ) → length fs ≤ no-tag → nested fs o xs ≡ true → (around fs n o ≡ no-tag → ⊥) →
-    member (fact-in fs (around fs n o) .mate) xs ≡ true
-unfolding nested opened
-closes fs n o [] l e some = absurd (some (rw (eqb-true o no-tag e) (around-none fs n l)))
-closes fs n o (x ∷ xs) l e some =
-    go (fact-in fs x .kind) n some
-    (and-left (fits fs o x (fact-in fs x .kind)) (nested fs (opened fs o x (fact-in fs x .kind)) xs) e)
-    (λ m. closes fs m (opened fs o x (fact-in fs x .kind)) xs l
-    (and-right (fits fs o x (fact-in fs x .kind)) (nested fs (opened fs o x (fact-in fs x .kind)) xs) e))
-  where
-    go : (k : Kind) (n : ℕ) → (around fs n o ≡ no-tag → ⊥) → fits fs o x k ≡ true →
-        ((m : ℕ) → (around fs m (opened fs o x k) ≡ no-tag → ⊥) → member (fact-in fs (around fs m (opened fs o x k)) .mate) xs ≡ true) →
-        member (fact-in fs (around fs n o) .mate) (x ∷ xs) ≡ true
-    go begin n some fit later = member-later _ x xs ((rw (up-of-begin fs o x fit) at (later (suc n))) some)
-    go end zero some fit later = rw (mate-of-open fs o x fit) (member-first x xs)
-    go end (suc n) some fit later = member-later _ x xs (later n some)
-    go text n some fit later = member-later _ x xs (later n some)
-
-opened-begin : (fs : List Fact) (o x : ℕ) (k : Kind) → is-begin k ≡ true → opened fs o x k ≡ x
-unfolding opened is-begin
-opened-begin fs o x begin e = refl
-opened-begin fs o x end e = absurd (true≢false (sym e))
-opened-begin fs o x text e = absurd (true≢false (sym e))
-
--- so the mate of a begin of the row stands in the row
-mate-inside : (fs : List Fact) (o x : ℕ) (xs : List ℕ) → length fs ≤ no-tag → nested fs o xs ≡ true → x < no-tag →
-    is-begin (fact-in fs x .kind) ≡ true → member x xs ≡ true → member (fact-in fs x .mate) xs ≡ true
-unfolding nested
-mate-inside fs o x [] l e u b m = absurd (true≢false (sym m ∙ member-nil x))
-mate-inside fs o x (y ∷ xs) l e u b m =
-    let rest = and-right (fits fs o y (fact-in fs y .kind)) (nested fs (opened fs o y (fact-in fs y .kind)) xs) e in
-    member-later _ y xs (member-cases x y xs m
-    (λ s. closes fs 0 x xs l (rw (← s, opened-begin fs o x _ b) at rest) (λ q. omega arith))
-    (λ d n. mate-inside fs _ x xs l rest u b n))
-
--- and is a tag, where the store is sound
-pub mate-below : {st : Store} (x : ℕ) → Sound st → x < count st → is-begin (fact st x .kind) ≡ true → fact st x .mate < count st
-mate-below {st} x h l b =
-    let few : count st ≤ no-tag = omega arith in
-    distinct-all-below (count st) (row st) (h .each) (h .as-many) .1 _
-    (mate-inside (st .facts) no-tag x (row st) few (h .nesting) (omega arith) b (member-all-below (count st) x (row st) (h .each) l))
-
 -- in a sound store a label is below another just where the place is
 label-before : (st : Store) (x y : ℕ) → sound st ≡ true → x < count st → y < count st → (label st x < label st y) ↔ (place-of st x < place-of st y)
 unfolding Labels-tell
@@ -253,7 +188,7 @@ pub pair-labels-tell : Pair-labels-tell
 unfolding Pair-labels-tell Encloses
 pair-labels-tell p d st e h c =
     let behind = label-before st (p .tag .0) d e (h .tag) (h .other) in
-    let before = label-before st d (fact st (p .tag .0) .mate) e (h .other) (mate-below (p .tag .0) (facts-of st e) (h .tag) (h .begin)) in (
+    let before = label-before st d (fact st (p .tag .0) .mate) e (h .other) (mate-fits (facts-of st e) (p .tag .0) (h .tag)) in (
       λ i. (rw (c .start) (behind .1 (i .0)), rw (c .end) (before .1 (i .1))),
       λ l. (behind .0 (rw (c .start) at (l .0)), before .0 (rw (c .end) at (l .1))),
     )

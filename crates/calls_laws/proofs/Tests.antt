@@ -1,7 +1,8 @@
 -- What a passed test of a sound store says, field by field. Assumes nothing.
 use mathlib.Core.Path.{_≡_, refl}
-use mathlib.Core.Bool.{Bool, true, false, _&&_}
-use Prim.Native.Nat.{ℕ, _+_, _≤_, _<_}
+use mathlib.Core.Bool.{Bool, true, false, _&&_, cond}
+use Prim.Native.Nat.{ℕ, suc, _+_, _≤_, _<_}
+use native.Mathlib.Omega.{arith}
 use borrow.Author.Tests.{ltb-true, leb-true, eqb-true, lt-ltb, le-leb, eq-eqb}
 use lib.Dec.{ltb, leb, eqb}
 use lib.ListN.{length}
@@ -13,6 +14,11 @@ use Rattle.tree_laws.proofs.Good.{and-left, and-right, and-both}
 use Rattle.calls.specs.Store.{Store, count, row, width, marked-count}
 use Rattle.calls.specs.Nesting.{nested}
 use Rattle.calls.specs.Sound.{degrees-fit, tree-sound, row-sound, header-sound, sound}
+
+-- a call that is not refused passes each test
+pub passes : (t : Bool) (k rest : ℕ) → cond t (suc k) rest ≡ 0 → (t ≡ false) × (rest ≡ 0)
+passes true k rest e = absurd (omega arith)
+passes false k rest e = (refl, e)
 
 pub record Degrees (s r : ℕ) : Type 0 where
   pub s-least : 2 ≤ s

@@ -1,0 +1,210 @@
+-- An accepted insertion of a row of kinds that nests leaves a sound store. Assumes nothing.
+use mathlib.Core.Path.{_≡_, refl, ap, sym, _∙_}
+use mathlib.Core.Bool.{Bool, true, false, _&&_, _||_, not, cond, true≢false, or-true}
+use mathlib.Core.List.{List, [], _∷_, _++_}
+use mathlib.Core.Logic.{_⊎_, inl, inr}
+use Prim.Native.Nat.{ℕ, zero, suc, _+_, _*_, _^_, _≤_, _<_}
+use native.Mathlib.Nat.{le-of-eq}
+use native.Mathlib.Omega.{arith}
+use borrow.Author.Tests.{eq-eqb, ne-eqb, eqb-true, ltb-true, ltb-false, leb-false, le-leb}
+use lib.Dec.{ltb, leb, eqb}
+use lib.ListN.{length, take, drop, length-append, List·getD-append}
+use lib.Seq.{take-suc}
+use Rattle.types.specs.Limits.{no-tag, label-limit, most-tags}
+use Rattle.tree.specs.Row.{numbers, member, insert-at, all-below}
+use Rattle.tree.specs.Forest.{size}
+use Rattle.tree.specs.Book.{Book, height, power-width, root-full, inserted, inserted-row}
+use Rattle.tree.specs.Promise.{Sane}
+use Rattle.tree_laws.proofs.Rows.{by-test, fails, or-left-false, or-right-false, getD-place, place-of-member, member-of-take, member-insert, member-numbers, member-all-below, all-below-of}
+use Rattle.tree_laws.proofs.Insertion.{inserted-s, inserted-r, inserted-under, size-inserted, sane-inserted, sane-inserted-row, tags-inserted-row, size-inserted-row}
+use Rattle.calls.specs.Kind.{Kind, is-begin}
+use Rattle.calls.specs.Store.{Store, Fact, no-fact, fact, count, row, place-of, marked-count}
+use Rattle.calls.specs.Nesting.{nests, new-facts}
+use Rattle.calls.specs.Load.{words-for}
+use Rattle.calls.specs.Insert.{position, up-at, book-after, insert-store, raised, labels-run-out, row-refusal}
+use Rattle.calls.specs.Promise.{Insert-sound}
+use Rattle.calls_laws.proofs.Tests.{passes, Sound, sane, facts-of, sound-of}
+use Rattle.calls_laws.proofs.Nesting.{Step, begins, ends, stands, Pass, pass-join, pass-around, nested-of, chain-mark, Same, same-of, no-tag-fact, no-tag-same}
+use Rattle.calls_laws.proofs.NewFacts.{length-new-facts, pass-new}
+use Rattle.calls_laws.proofs.Sections.{row-below, in-row, is-tag, member-of-drop, pass-row, At, pass-at}
+
+-- THE LABELS STILL FIT. s and r stay, and the height is the one that `raised` says
+pub row-degrees : (n p x : ℕ) (k : Book) → (inserted-row n p x k .s ≡ k .s) × (inserted-row n p x k .r ≡ k .r)
+unfolding inserted-row
+row-degrees zero p x k = (refl, refl)
+row-degrees (suc n) p x k =
+    let rest = row-degrees n (suc p) (suc x) (inserted p x k) in
+    (rest .0 ∙ inserted-s p x k, rest .1 ∙ inserted-r p x k)
+
+height-raised : (p x : ℕ) (k : Book) → height (inserted p x k) ≡ raised (k .s) (k .r) (suc (size (k .root))) (height k)
+unfolding raised root-full
+height-raised p x k = ap suc (inserted-under p x k) ∙ go (root-full k)
+  where
+    go : (t : Bool) → suc (cond t (suc (k .under)) (k .under)) ≡ cond t (suc (height k)) (height k)
+    go true = refl
+    go false = refl
+
+raised-fits : (s r m h : ℕ) → (leb (s * r ^ h) (suc m) && ltb label-limit (power-width s r (suc h))) ≡ false → power-width s r h ≤ label-limit →
+    power-width s r (raised s r (suc m) h) ≤ label-limit
+unfolding raised
+raised-fits s r m h e fits =
+    by-test (eqb (suc m) (s * r ^ h))
+    (λ t. rw t (ltb-false label-limit _ (rw (le-leb (s * r ^ h) (suc m) (le-of-eq (sym (eqb-true _ _ t)))) at e)))
+    (λ t. rw t fits)
+
+labels-kept : (s r n p x : ℕ) (k : Book) → Sane k → k .s ≡ s → k .r ≡ r → p ≤ size (k .root) →
+    labels-run-out s r n (size (k .root)) (height k) ≡ false → power-width s r (height k) ≤ label-limit →
+    power-width s r (height (inserted-row n p x k)) ≤ label-limit
+unfolding inserted-row labels-run-out
+labels-kept s r zero p x k h es er l e fits = fits
+labels-kept s r (suc n) p x k h es er l e fits =
+    let m = size (k .root) in
+    let now = leb (s * r ^ height k) (suc m) && ltb label-limit (power-width s r (suc (height k))) in
+    let later = labels-run-out s r n (suc m) (raised s r (suc m) (height k)) in
+    let sized = size-inserted p x k h l in
+    let high : height (inserted p x k) ≡ raised s r (suc m) (height k) = rw (← es, ← er) (height-raised p x k) in
+    labels-kept s r n (suc p) (suc x) (inserted p x k) (sane-inserted p x k h l) (inserted-s p x k ∙ es) (inserted-r p x k ∙ er) (omega arith)
+    (rw (sized, high) (or-right-false now later e)) (rw high (raised-fits s r m (height k) (or-left-false now later e) fits))
+
+-- WHAT AN ACCEPTED INSERTION is asked of: the front, or an unmarked tag
+pub record Row-accepted (w : ℕ) (ks : List Kind) (y : ℕ) (st : Store) : Type 0 where
+  pub place : (y ≡ no-tag) ⊎ ((y < count st) × (fact st y .marked ≡ false))
+  pub few : count st + length ks ≤ most-tags
+  pub room : words-for (count st + length ks) ≤ w
+  pub labels : labels-run-out (st .book .s) (st .book .r) (length ks) (count st) (height (st .book)) ≡ false
+
+pub accepted-row : (w : ℕ) (ks : List Kind) (y : ℕ) (st : Store) → row-refusal w ks y st ≡ 0 → Row-accepted w ks y st
+unfolding row-refusal
+accepted-row w ks y st r =
+    let n = count st in
+    let a = passes (not (eqb y no-tag) && leb n y) 7 _ r in
+    let b = passes (not (eqb y no-tag) && fact st y .marked) 8 _ (a .1) in
+    let c = passes (ltb most-tags (n + length ks) || ltb w (words-for (n + length ks))) 5 _ (b .1) in
+    let d = passes (labels-run-out (st .book .s) (st .book .r) (length ks) n (height (st .book))) 6 0 (c .1) in
+    record {
+      place =
+          by-test (eqb y no-tag) (λ e. inl (eqb-true _ _ e))
+          (λ e. inr (leb-false n y (rw e at (a .0)), rw e at (b .0)));
+      few = ltb-false _ _ (or-left-false (ltb most-tags (n + length ks)) _ (c .0));
+      room = ltb-false _ _ (or-right-false (ltb most-tags (n + length ks)) _ (c .0));
+      labels = d .0;
+    }
+
+-- THE FACTS with those of the new tags under m
+abbrev facts-with : Store → (m : ℕ) → List Kind → List Fact
+facts-with st m ks = st .facts ++ new-facts m [] (count st) ks
+
+count-with : (st : Store) (m : ℕ) (ks : List Kind) → length (facts-with st m ks) ≡ count st + length ks
+count-with st m ks = length-append (st .facts) (new-facts m [] (count st) ks) ∙ ap (λ i. count st + i) (length-new-facts m [] (count st) ks)
+
+old-same : (st : Store) (m : ℕ) (ks : List Kind) (d : ℕ) → d < count st → Same (st .facts) (facts-with st m ks) d
+old-same st m ks d l = same-of (st .facts) (facts-with st m ks) d (List·getD-append (st .facts) (new-facts m [] (count st) ks) no-fact d l)
+
+-- THE GAP behind the first p tags: m is the innermost begin open there
+pub record Gap (st : Store) (p m : ℕ) : Type 0 where
+  pub fits : p ≤ length (row st)
+  pub front : Pass (st .facts) no-tag no-tag (take p (row st)) m
+  pub back : Pass (st .facts) no-tag m (drop p (row st)) no-tag
+  pub free : fact st m .marked ≡ false
+
+module _ {st : Store} (h : Sound st) where
+  front-gap : Gap st 0 no-tag
+  front-gap = record {
+    fits = omega arith;
+    front = refl;
+    back = pass-row h;
+    free = ap (λ (t : Fact). t .marked) (no-tag-fact (st .facts) (omega (arith, h .few)));
+  }
+
+  module _ (y : ℕ) (l : y < count st) (free : fact st y .marked ≡ false) (a : At st y) where
+    -- the begin open behind y is its up-at, and unmarked
+    open-behind : Step (st .facts) no-tag (a .before) y (a .behind) → cond (is-begin (fact st y .kind)) y (fact st y .up) ≡ a .behind
+    unfolding is-begin
+    open-behind (begins s) = rw (s .kind) (sym (s .next))
+    open-behind (ends shut s) = rw (s .kind) (s .up ∙ sym (s .next))
+    open-behind (stands s) = rw (s .kind) (s .up ∙ sym (s .next))
+
+    free-behind : Step (st .facts) no-tag (a .before) y (a .behind) → fact st (a .behind) .marked ≡ false
+    free-behind (begins s) = rw (s .next) free
+    free-behind (ends shut s) = rw (s .next) (fails _ (λ e. true≢false (sym (s .mark ∙ chain-mark shut (a .chain) e) ∙ free)))
+    free-behind (stands s) = rw (s .next) (fails _ (λ e. true≢false (sym (s .mark e) ∙ free)))
+
+    tag-gap : Gap st (suc (place-of st y)) (a .behind)
+    tag-gap =
+        let j = place-of st y in
+        let m = in-row h y l in
+        let fits = place-of-member y (row st) m in
+        record {
+          fits = fits;
+          front = rw (take-suc (row st) j 0 fits, getD-place y (row st) 0 m)
+              (pass-join (st .facts) no-tag no-tag (a .before) (a .behind) (take j (row st)) (y ∷ []) (a .front) (a .behind, a .step, refl));
+          back = a .back;
+          free = free-behind (a .step);
+        }
+
+  pub gap : (w : ℕ) (ks : List Kind) (y : ℕ) → Row-accepted w ks y st → Gap st (position y st) (up-at y st)
+  unfolding position up-at
+  gap w ks y a = go (a .place)
+    where
+      go : (y ≡ no-tag) ⊎ ((y < count st) × (fact st y .marked ≡ false)) → Gap st (position y st) (up-at y st)
+      go (inl e) = rw (eq-eqb _ _ e) front-gap
+      go (inr t) = let b = pass-at h y (t .0) in rw (ne-eqb _ _ (is-tag h y (t .0)), open-behind y (t .0) (t .1) b (b .step)) (tag-gap y (t .0) (t .1) b)
+
+  -- the pass with the new tags in the gap
+  pass-with : (ks : List Kind) (p m : ℕ) → Gap st p m → nests 0 ks ≡ true → count st + length ks ≤ most-tags →
+      Pass (facts-with st m ks) no-tag no-tag (insert-at p (numbers (count st) (length ks)) (row st)) no-tag
+  unfolding insert-at
+  pass-with ks p m g n few =
+      let fs = st .facts in
+      let gs = facts-with st m ks in
+      let front = take p (row st) in
+      let back = drop p (row st) in
+      let small : length gs ≤ no-tag = omega (arith, count-with st m ks) in
+      pass-around fs gs (no-tag-same fs gs (omega (arith, h .few)) small) front (numbers (count st) (length ks)) back m
+      (λ d k. old-same st m ks d (row-below h d (member-of-take d p (row st) k)))
+      (λ d k. old-same st m ks d (row-below h d (member-of-drop d p (row st) k)))
+      (g .front) (g .back)
+      (λ same. pass-new gs small m (same .marked ∙ g .free) 0 m [] (count st) ks fs refl refl n refl)
+
+-- THE ROW with them holds each number once
+all-below-with : (n k p : ℕ) (xs : List ℕ) → all-below n xs ≡ true → all-below (n + k) (insert-at p (numbers n k) xs) ≡ true
+all-below-with n k p xs e =
+    all-below-of (n + k) (insert-at p (numbers n k) xs) λ i l.
+    rw (member-insert i p (numbers n k) xs) (by-test (ltb i n)
+    (λ t. rw (member-all-below n i xs e (ltb-true i n t)))
+    (λ t. let high = ltb-false i n t in rw (member-numbers i n k high l) (or-true (member i xs))))
+
+marked-append : (ts us : List Fact) → marked-count ts ≤ marked-count (ts ++ us)
+unfolding marked-count
+marked-append [] us = omega arith
+marked-append (t ∷ ts) us = omega (arith, marked-append ts us)
+
+-- an accepted insertion leaves a sound store
+pub insert-sound : Insert-sound
+unfolding Insert-sound insert-store book-after
+insert-sound w y ks st e n some r =
+    let h = facts-of st e in
+    let a = accepted-row w ks y st r in
+    let k = length ks in
+    let p = position y st in
+    let m = up-at y st in
+    let g = gap h w ks y a in
+    let size-is : size (st .book .root) ≡ count st = h .as-many in
+    let old = sane h in
+    let sized = size-inserted-row k p (count st) (st .book) old (g .fits) in
+    let tags-are = tags-inserted-row k p (count st) (st .book) old (g .fits) in
+    let degrees = row-degrees k p (count st) (st .book) in
+    let counted = count-with st m ks in
+    sound-of (insert-store ks y st) (record {
+      degrees = rw (degrees .0, degrees .1) (h .degrees);
+      labels-fit =
+          rw (degrees .0, degrees .1)
+          (labels-kept (st .book .s) (st .book .r) k p (count st) (st .book) old refl refl (g .fits) (rw size-is (a .labels)) (h .labels-fit));
+      within = sane-inserted-row k p (count st) (st .book) old (g .fits) .within;
+      few = rw counted (a .few);
+      as-many = omega arith;
+      each = rw (counted, tags-are) (all-below-with (count st) k p (row st) (h .each));
+      nesting = nested-of _ no-tag _ (rw tags-are (pass-with h ks p m g n (a .few)));
+      number-fits = h .number-fits;
+      stamp-fits = omega (arith, h .stamp-fits, marked-append (st .facts) (new-facts m [] (count st) ks));
+    })

@@ -1,0 +1,118 @@
+-- An accepted load leaves a sound store, and so does every list of calls behind it. Assumes nothing.
+use mathlib.Core.Path.{_≡_, refl, ap, sym, _∙_}
+use mathlib.Core.Bool.{Bool, true, false, _||_, not, cond}
+use mathlib.Core.List.{List, [], _∷_, map}
+use Prim.Native.Nat.{ℕ, suc, _≤_}
+use native.Mathlib.Omega.{arith}
+use borrow.Author.Tests.{ltb-false, not-false, eqb-true}
+use lib.Dec.{ltb, eqb}
+use lib.ListN.{length, length-map}
+use Rattle.types.specs.Limits.{no-tag, label-limit, most-tags}
+use Rattle.tree.specs.Book.{loaded, load-under, power-width}
+use Rattle.tree_laws.proofs.Rows.{by-test, all-below-numbers}
+use Rattle.tree_laws.proofs.Load.{tags-loaded, size-loaded, sane-loaded}
+use Rattle.calls.specs.Kind.{begin, end, text, kind-of}
+use Rattle.calls.specs.Store.{Store, Fact, fact-in}
+use Rattle.calls.specs.Nesting.{nests, new-facts}
+use Rattle.calls.specs.Sound.{degrees-fit, sound}
+use Rattle.calls.specs.Load.{words-for, all-kinds, load-refusal, load-store}
+use Rattle.calls.specs.Insert.{insert-kinds, insert-refusal}
+use Rattle.calls.specs.Calls.{Call, load, insert, mark, refusal, changed, accepts, after-one, after, Fits, All-fit}
+use Rattle.calls.specs.Promise.{Load-sound, Insert-sound, Mark-sound, Stays-good, Stores-sound}
+use Rattle.calls_laws.proofs.Tests.{passes, Degrees, degrees-of, facts-of, sound-of}
+use Rattle.calls_laws.proofs.Nesting.{nested-of, no-tag-fact}
+use Rattle.calls_laws.proofs.NewFacts.{length-new-facts, pass-new}
+use Rattle.calls_laws.proofs.Marks.{mark-sound}
+use Rattle.calls_laws.proofs.Inserts.{insert-sound}
+
+-- what an accepted load is asked of
+pub record Load-accepted (w s r : ℕ) (cs : List ℕ) : Type 0 where
+  pub degrees : Degrees s r
+  pub few : length cs ≤ most-tags
+  pub room : words-for (length cs) ≤ w
+  pub kinds : all-kinds cs ≡ true
+  pub nesting : nests 0 (map kind-of cs) ≡ true
+  pub labels : power-width s r (suc (load-under r (length cs))) ≤ label-limit
+
+pub accepted-load : (w s r : ℕ) (cs : List ℕ) → load-refusal w s r cs ≡ 0 → Load-accepted w s r cs
+unfolding load-refusal
+accepted-load w s r cs e =
+    let n = length cs in
+    let a = passes (not (degrees-fit s r)) 2 _ e in
+    let b = passes (ltb most-tags n) 5 _ (a .1) in
+    let c = passes (ltb w (words-for n)) 0 _ (b .1) in
+    let d = passes (not (all-kinds cs)) 3 _ (c .1) in
+    let f = passes (not (nests 0 (map kind-of cs))) 4 _ (d .1) in
+    let g = passes (ltb label-limit (power-width s r (suc (load-under r n)))) 6 0 (f .1) in
+    record {
+      degrees = degrees-of s r (not-false _ (a .0));
+      few = ltb-false _ _ (b .0);
+      room = ltb-false _ _ (c .0);
+      kinds = not-false _ (d .0);
+      nesting = not-false _ (f .0);
+      labels = ltb-false _ _ (g .0);
+    }
+
+-- an accepted load leaves a sound store
+pub load-sound : Load-sound
+unfolding Load-sound load-store loaded
+load-sound w s r b cs e fits =
+    let a = accepted-load w s r cs e in
+    let n = length cs in
+    let ks = map kind-of cs in
+    let fs = new-facts no-tag [] 0 ks in
+    let as-kinds : length ks ≡ n = length-map cs kind-of in
+    let counted : length fs ≡ n = length-new-facts no-tag [] 0 ks ∙ as-kinds in
+    let few : length fs ≤ no-tag = omega (arith, a .few) in
+    let tags-are = tags-loaded s r n (a .degrees .r-least) in
+    let free : fact-in fs no-tag .marked ≡ false = ap (λ (t : Fact). t .marked) (no-tag-fact fs few) in
+    sound-of (load-store s r b cs) (record {
+      degrees = a .degrees;
+      labels-fit = a .labels;
+      within = sane-loaded s r n (a .degrees .s-least) (a .degrees .r-least) .within;
+      few = rw counted (a .few);
+      as-many = size-loaded s r n (a .degrees .r-least) ∙ sym counted;
+      each = rw (counted, tags-are) (all-below-numbers n);
+      nesting = nested-of fs no-tag _ (rw tags-are (rw as-kinds at (pass-new fs few no-tag free 0 no-tag [] 0 ks [] refl refl (a .nesting) refl)));
+      number-fits = fits;
+      stamp-fits = omega arith;
+    })
+
+-- the two rows of kinds that the call inserts nest
+kinds-nest : (c : ℕ) → (nests 0 (insert-kinds c) ≡ true) × (1 ≤ length (insert-kinds c))
+unfolding nests insert-kinds
+kinds-nest c = go (eqb c 1)
+  where
+    go : (t : Bool) → (nests 0 (cond t (begin ∷ end ∷ []) (text ∷ [])) ≡ true) × (1 ≤ length (cond t (begin ∷ end ∷ []) (text ∷ [])))
+    go true = (refl, omega arith)
+    go false = (refl, omega arith)
+
+-- one call: an accepted one leaves a sound store, a refused one the same
+pub changed-sound : (w : ℕ) (c : Call) (st : Store) → Fits c → sound st ≡ true → refusal w c st ≡ 0 → sound (changed c st) ≡ true
+unfolding refusal changed Fits insert-refusal Load-sound Insert-sound Mark-sound
+changed-sound w (load s r b cs) st fits e n = load-sound w s r b cs n fits
+changed-sound w (insert c y) st fits e n =
+    let k = kinds-nest c in
+    insert-sound w y (insert-kinds c) st e (k .0) (k .1) (passes (not (eqb c 1 || eqb c 3)) 3 _ n .1)
+changed-sound w (mark x) st fits e n = mark-sound x st e n
+
+pub one-sound : (w : ℕ) (c : Call) (st : Store) → Fits c → sound st ≡ true → sound (after-one w c st) ≡ true
+unfolding after-one accepts
+one-sound w c st fits e =
+    by-test (eqb (refusal w c st) 0) (λ t. rw t (changed-sound w c st fits e (eqb-true _ _ t))) (λ t. rw t e)
+
+-- a list of calls
+pub after-sound : (w : ℕ) (cs : List Call) (st : Store) → All-fit cs → sound st ≡ true → sound (after w cs st) ≡ true
+unfolding after All-fit
+after-sound w [] st fits e = e
+after-sound w (c ∷ cs) st fits e = after-sound w cs (after-one w c st) (fits .1) (one-sound w c st (fits .0) e)
+
+-- every list of calls behind an accepted load leaves a sound store, so its tree keeps its limits
+pub stores-sound : Stores-sound
+unfolding Stores-sound Load-sound All-fit Fits
+stores-sound w s r b ks cs h =
+    after-sound w cs (load-store s r b ks) (h .fit .1) (load-sound w s r b ks (h .accepted) (h .fit .0))
+
+pub stays-good : Stays-good
+unfolding Stays-good Stores-sound
+stays-good w s r b ks cs h = facts-of (after w cs (load-store s r b ks)) (stores-sound w s r b ks cs h) .within
