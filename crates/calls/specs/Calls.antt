@@ -5,17 +5,17 @@ use mathlib.Core.Bool.{Bool, true, false, cond}
 use mathlib.Core.List.{List, [], _∷_, map}
 use Prim.Native.Nat.{ℕ, zero, suc, _+_, _<_}
 use lib.Dec.{eqb}
-use Rattle.types.specs.Limits.{word-limit}
-use Rattle.types.specs.declared.HeldPair.{HeldPair}
-use Rattle.types.specs.declared.LoadReply.{LoadReply}
-use Rattle.types.specs.declared.LoadReply.the-variants as load-said
-use Rattle.types.specs.declared.InsertReply.{InsertReply}
-use Rattle.types.specs.declared.InsertReply.the-variants as insert-said
-use Rattle.types.specs.declared.MarkReply.{MarkReply}
-use Rattle.types.specs.declared.MarkReply.the-variants as mark-said
-use Rattle.types.specs.declared.HoldReply.{HoldReply}
-use Rattle.types.specs.declared.QuestionReply.{QuestionReply}
-use Rattle.types.specs.declared.ListReply.{ListReply}
+use Rattle.store_types.specs.Limits.{word-limit}
+use Rattle.store_types.specs.declared.HeldPair.{HeldPair}
+use Rattle.store_types.specs.declared.LoadReply.{LoadReply}
+use Rattle.store_types.specs.declared.LoadReply.the-variants as load-said
+use Rattle.store_types.specs.declared.InsertReply.{InsertReply}
+use Rattle.store_types.specs.declared.InsertReply.the-variants as insert-said
+use Rattle.store_types.specs.declared.MarkReply.{MarkReply}
+use Rattle.store_types.specs.declared.MarkReply.the-variants as mark-said
+use Rattle.store_types.specs.declared.HoldReply.{HoldReply}
+use Rattle.store_types.specs.declared.QuestionReply.{QuestionReply}
+use Rattle.store_types.specs.declared.ListReply.{ListReply}
 use Rattle.calls.specs.Store.{Store}
 use Rattle.calls.specs.Load.{load-refusal, load-store}
 use Rattle.calls.specs.Insert.{insert-kinds, insert-refusal, insert-store, insert-moved}

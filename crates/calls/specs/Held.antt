@@ -2,11 +2,11 @@
 use mathlib.Core.Bool.{Bool, true, false, _&&_, _||_, not, cond}
 use Prim.Native.Nat.{ℕ}
 use lib.Dec.{leb, ltb, eqb}
-use Rattle.types.specs.declared.HeldPair.{HeldPair}
-use Rattle.types.specs.declared.Answer.{Answer}
-use Rattle.types.specs.declared.Answer.the-variants.{Yes, No, Stale}
-use Rattle.types.specs.declared.QuestionReply.{QuestionReply}
-use Rattle.types.specs.declared.QuestionReply.the-variants as asked
+use Rattle.store_types.specs.declared.HeldPair.{HeldPair}
+use Rattle.store_types.specs.declared.Answer.{Answer}
+use Rattle.store_types.specs.declared.Answer.the-variants.{Yes, No, Stale}
+use Rattle.store_types.specs.declared.QuestionReply.{QuestionReply}
+use Rattle.store_types.specs.declared.QuestionReply.the-variants as asked
 use Rattle.calls.specs.Kind.{is-begin}
 use Rattle.calls.specs.Store.{Store, fact, count, place-of, label}
 

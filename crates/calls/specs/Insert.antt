@@ -5,7 +5,7 @@ use mathlib.Core.List.{List, [], _∷_, _++_}
 use Prim.Native.Nat.{ℕ, zero, suc, _+_, _*_, _^_}
 use lib.Dec.{ltb, leb, eqb}
 use lib.ListN.{length}
-use Rattle.types.specs.Limits.{no-tag, label-limit, most-tags}
+use Rattle.store_types.specs.Limits.{no-tag, label-limit, most-tags}
 use Rattle.tree.specs.Book.{Book, height, inserted-row, split-of-row, moved, power-width}
 use Rattle.calls.specs.Kind.{Kind, begin, end, text, is-begin}
 use Rattle.calls.specs.Store.{Store, fact, count, place-of, width}

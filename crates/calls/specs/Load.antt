@@ -4,7 +4,7 @@ use mathlib.Core.List.{List, [], _∷_, map}
 use Prim.Native.Nat.{ℕ, suc, _+_, _*_}
 use lib.Dec.{ltb}
 use lib.ListN.{length}
-use Rattle.types.specs.Limits.{no-tag, header-words, tag-words, label-limit, most-tags}
+use Rattle.store_types.specs.Limits.{no-tag, header-words, tag-words, label-limit, most-tags}
 use Rattle.tree.specs.Book.{loaded, load-under, power-width}
 use Rattle.calls.specs.Kind.{Kind, is-kind, kind-of}
 use Rattle.calls.specs.Store.{Store}

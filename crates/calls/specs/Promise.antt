@@ -8,11 +8,11 @@ use mathlib.Core.Logic.{_↔_, _⊎_}
 use Prim.Native.Nat.{ℕ, zero, suc, _+_, _*_, _-_, _^_, _≤_, _<_}
 use lib.Dec.{ltb, eqb}
 use lib.ListN.{length}
-use Rattle.types.specs.Limits.{word-limit}
-use Rattle.types.specs.declared.HeldPair.{HeldPair}
-use Rattle.types.specs.declared.Answer.the-variants.{Yes, No, Stale}
-use Rattle.types.specs.declared.LoadReply.the-variants.{Loaded}
-use Rattle.types.specs.declared.QuestionReply.the-variants.{Answered}
+use Rattle.store_types.specs.Limits.{word-limit}
+use Rattle.store_types.specs.declared.HeldPair.{HeldPair}
+use Rattle.store_types.specs.declared.Answer.the-variants.{Yes, No, Stale}
+use Rattle.store_types.specs.declared.LoadReply.the-variants.{Loaded}
+use Rattle.store_types.specs.declared.QuestionReply.the-variants.{Answered}
 use Rattle.tree.specs.Row.{rises}
 use Rattle.tree.specs.Book.{height, labels-of, book-within}
 use Rattle.calls.specs.Kind.{Kind, is-begin}

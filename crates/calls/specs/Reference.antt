@@ -5,7 +5,7 @@ use mathlib.Core.List.{List, [], _∷_}
 use Prim.Native.Nat.{ℕ, zero, suc, _+_}
 use lib.Dec.{eqb}
 use lib.ListN.{length}
-use Rattle.types.specs.Limits.{no-tag}
+use Rattle.store_types.specs.Limits.{no-tag}
 use Rattle.tree.specs.Row.{numbers, place, insert-at}
 use Rattle.tree.specs.Book.{load-under}
 use Rattle.calls.specs.Insert.{insert-kinds, raised}

@@ -6,22 +6,22 @@ use mathlib.Core.Option.{Option, none, some}
 use Prim.Native.Nat.{ℕ, zero, suc}
 use lib.Dec.{ltb}
 use lib.ListN.{length}
-use Rattle.types.specs.Limits.{header-words}
-use Rattle.types.specs.declared.HeldPair.{HeldPair}
-use Rattle.types.specs.declared.Answer.{Answer}
-use Rattle.types.specs.declared.Answer.the-variants.{Yes, No, Stale}
-use Rattle.types.specs.declared.LoadReply.{LoadReply}
-use Rattle.types.specs.declared.LoadReply.the-variants as load
-use Rattle.types.specs.declared.InsertReply.{InsertReply}
-use Rattle.types.specs.declared.InsertReply.the-variants as insert
-use Rattle.types.specs.declared.MarkReply.{MarkReply}
-use Rattle.types.specs.declared.MarkReply.the-variants as mark
-use Rattle.types.specs.declared.HoldReply.{HoldReply}
-use Rattle.types.specs.declared.HoldReply.the-variants as hold
-use Rattle.types.specs.declared.QuestionReply.{QuestionReply}
-use Rattle.types.specs.declared.QuestionReply.the-variants as asked
-use Rattle.types.specs.declared.ListReply.{ListReply}
-use Rattle.types.specs.declared.ListReply.the-variants as list
+use Rattle.store_types.specs.Limits.{header-words}
+use Rattle.store_types.specs.declared.HeldPair.{HeldPair}
+use Rattle.store_types.specs.declared.Answer.{Answer}
+use Rattle.store_types.specs.declared.Answer.the-variants.{Yes, No, Stale}
+use Rattle.store_types.specs.declared.LoadReply.{LoadReply}
+use Rattle.store_types.specs.declared.LoadReply.the-variants as load
+use Rattle.store_types.specs.declared.InsertReply.{InsertReply}
+use Rattle.store_types.specs.declared.InsertReply.the-variants as insert
+use Rattle.store_types.specs.declared.MarkReply.{MarkReply}
+use Rattle.store_types.specs.declared.MarkReply.the-variants as mark
+use Rattle.store_types.specs.declared.HoldReply.{HoldReply}
+use Rattle.store_types.specs.declared.HoldReply.the-variants as hold
+use Rattle.store_types.specs.declared.QuestionReply.{QuestionReply}
+use Rattle.store_types.specs.declared.QuestionReply.the-variants as asked
+use Rattle.store_types.specs.declared.ListReply.{ListReply}
+use Rattle.store_types.specs.declared.ListReply.the-variants as list
 use Rattle.tree.specs.Book.{height, loaded}
 use Rattle.calls.specs.Store.{Store, count}
 use Rattle.calls.specs.Load.{load-refusal, load-store}

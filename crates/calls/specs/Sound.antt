@@ -3,7 +3,7 @@ use mathlib.Core.Bool.{Bool, true, false, _&&_}
 use Prim.Native.Nat.{ℕ, _+_}
 use lib.Dec.{ltb, leb, eqb}
 use lib.ListN.{length}
-use Rattle.types.specs.Limits.{no-tag, label-limit, word-limit, most-tags}
+use Rattle.store_types.specs.Limits.{no-tag, label-limit, word-limit, most-tags}
 use Rattle.tree.specs.Row.{all-below}
 use Rattle.tree.specs.Book.{height, book-within}
 use Rattle.calls.specs.Store.{Store, count, row, width, marked-count}

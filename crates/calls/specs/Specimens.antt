@@ -6,8 +6,8 @@ use mathlib.Core.List.{List, [], _∷_, _++_}
 use Prim.Native.Nat.{ℕ, zero, suc, _+_, _*_}
 use lib.Dec.{eqb}
 use lib.ListN.{length, replicate, take}
-use Rattle.types.specs.Limits.{no-tag}
-use Rattle.types.specs.declared.HeldPair.{HeldPair}
+use Rattle.store_types.specs.Limits.{no-tag}
+use Rattle.store_types.specs.declared.HeldPair.{HeldPair}
 use Rattle.tree.specs.Specimens.{same}
 use Rattle.calls.specs.Load.{words-for}
 use Rattle.calls.specs.Replies.{load-reply, load-words, insert-reply, insert-words, mark-reply, mark-words, hold-reply, question-reply, list-reply, list-tags, list-labels, load-numbers, insert-numbers, mark-numbers, hold-numbers, question-numbers, list-numbers}

@@ -4,7 +4,7 @@ use mathlib.Core.Bool.{Bool, true, false, cond}
 use mathlib.Core.List.{List, [], _∷_}
 use Prim.Native.Nat.{ℕ, zero, suc, _+_}
 use lib.ListN.{length, getD}
-use Rattle.types.specs.Limits.{no-tag}
+use Rattle.store_types.specs.Limits.{no-tag}
 use Rattle.tree.specs.Row.{place}
 use Rattle.tree.specs.Book.{Book, tags, label-of, power-width}
 use Rattle.calls.specs.Kind.{Kind, text}

@@ -7,7 +7,7 @@ use mathlib.Core.Option.{Option, none, some}
 use Prim.Native.Nat.{ℕ, zero, suc, pred, _+_, _*_, _-_}
 use lib.Dec.{leb, eqb}
 use lib.ListN.{length, getD, drop}
-use Rattle.types.specs.Limits.{no-tag, header-words, tag-words}
+use Rattle.store_types.specs.Limits.{no-tag, header-words, tag-words}
 use Rattle.tree.specs.Row.{numbers}
 use Rattle.tree.specs.Book.{Book, height, power-width}
 use Rattle.tree.specs.Spelling.{spelled}

@@ -6,7 +6,7 @@ use native.Mathlib.Nat.{zero-add, not-suc-le-zero, le-of-suc-le-suc}
 use native.Mathlib.Omega.{arith}
 use lib.ListN.{length, getD, length-append, List·getD-append}
 use lib.Seq.{getD-append-add}
-use Rattle.types.specs.Limits.{no-tag, header-words, tag-words}
+use Rattle.store_types.specs.Limits.{no-tag, header-words, tag-words}
 use Rattle.tree.specs.Row.{numbers}
 use Rattle.tree.specs.Book.{height}
 use Rattle.tree_laws.proofs.Rows.{length-numbers, getD-numbers}

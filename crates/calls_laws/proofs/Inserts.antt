@@ -10,7 +10,7 @@ use borrow.Author.Tests.{eq-eqb, ne-eqb, eqb-true, ltb-true, ltb-false, leb-fals
 use lib.Dec.{ltb, leb, eqb}
 use lib.ListN.{length, take, drop, length-append, List·getD-append}
 use lib.Seq.{take-suc}
-use Rattle.types.specs.Limits.{no-tag, label-limit, most-tags}
+use Rattle.store_types.specs.Limits.{no-tag, label-limit, most-tags}
 use Rattle.tree.specs.Row.{numbers, member, insert-at, all-below}
 use Rattle.tree.specs.Forest.{size}
 use Rattle.tree.specs.Book.{Book, height, power-width, root-full, inserted, inserted-row}

@@ -8,7 +8,7 @@ use native.Mathlib.Omega.{arith}
 use borrow.Author.Tests.{eqb-true}
 use lib.ListN.{length, length-append}
 use lib.Seq.{append-snoc, getD-at}
-use Rattle.types.specs.Limits.{no-tag}
+use Rattle.store_types.specs.Limits.{no-tag}
 use Rattle.tree.specs.Row.{numbers}
 use Rattle.calls.specs.Kind.{Kind, begin, end, text}
 use Rattle.calls.specs.Store.{Fact, no-fact, fact-in}

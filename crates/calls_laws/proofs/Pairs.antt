@@ -8,11 +8,11 @@ use native.Mathlib.Omega.{arith}
 use borrow.Author.Tests.{lt-ltb, lt-leb, eq-eqb, ne-eqb, ltb-true, leb-false, eqb-true, eqb-false, not-true, not-false}
 use lib.Dec.{ltb, leb, eqb}
 use lib.ListN.{length}
-use Rattle.types.specs.declared.HeldPair.{HeldPair}
-use Rattle.types.specs.declared.Answer.{Answer}
-use Rattle.types.specs.declared.Answer.the-variants.{Yes, No, Stale}
-use Rattle.types.specs.declared.QuestionReply.{QuestionReply}
-use Rattle.types.specs.declared.QuestionReply.the-variants.{Answered, Refused}
+use Rattle.store_types.specs.declared.HeldPair.{HeldPair}
+use Rattle.store_types.specs.declared.Answer.{Answer}
+use Rattle.store_types.specs.declared.Answer.the-variants.{Yes, No, Stale}
+use Rattle.store_types.specs.declared.QuestionReply.{QuestionReply}
+use Rattle.store_types.specs.declared.QuestionReply.the-variants.{Answered, Refused}
 use Rattle.tree.specs.Book.{label-of, labels-of}
 use Rattle.tree.specs.Promise.{Labels-rise}
 use Rattle.tree_laws.proofs.Good.{and-left, and-right, and-both}

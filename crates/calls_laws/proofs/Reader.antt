@@ -10,7 +10,7 @@ use borrow.Author.Tests.{eq-eqb, eqb-true}
 use lib.Dec.{leb, eqb}
 use lib.ListN.{length, getD, drop, length-map}
 use lib.Seq.{drop-cons, drop-length, ext-getD}
-use Rattle.types.specs.Limits.{no-tag}
+use Rattle.store_types.specs.Limits.{no-tag}
 use Rattle.tree.specs.Row.{numbers}
 use Rattle.tree.specs.Book.{label-of, labels-of, root-within, book-within}
 use Rattle.tree.specs.Forest.{within-limits}

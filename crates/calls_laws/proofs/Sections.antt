@@ -8,7 +8,7 @@ use Prim.Native.Nat.{ℕ, suc, _+_, _≤_, _<_}
 use native.Mathlib.Omega.{arith}
 use lib.ListN.{length, take, drop, length-append}
 use lib.Seq.{split-at, append-snoc, getD-append-seam}
-use Rattle.types.specs.Limits.{no-tag}
+use Rattle.store_types.specs.Limits.{no-tag}
 use Rattle.tree.specs.Row.{member, place}
 use Rattle.tree_laws.proofs.Rows.{Distinct, member-first, member-later, member-append, member-split, member-of-take, place-append-in, place-append-out, place-of-member, place-getD, getD-place, distinct-right, distinct-apart, apart-sym, distinct-all-below, member-all-below}
 use Rattle.calls.specs.Kind.{end}

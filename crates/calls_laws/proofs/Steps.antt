@@ -7,7 +7,7 @@ use native.Mathlib.Omega.{arith}
 use borrow.Author.Tests.{ltb-false, not-false, eqb-true}
 use lib.Dec.{ltb, eqb}
 use lib.ListN.{length, length-map}
-use Rattle.types.specs.Limits.{no-tag, label-limit, most-tags}
+use Rattle.store_types.specs.Limits.{no-tag, label-limit, most-tags}
 use Rattle.tree.specs.Book.{loaded, load-under, power-width}
 use Rattle.tree_laws.proofs.Rows.{by-test, all-below-numbers}
 use Rattle.tree_laws.proofs.Load.{tags-loaded, size-loaded, sane-loaded}

@@ -6,7 +6,7 @@ use native.Mathlib.Omega.{arith}
 use borrow.Author.Tests.{ltb-true, leb-true, eqb-true, lt-ltb, le-leb, eq-eqb}
 use lib.Dec.{ltb, leb, eqb}
 use lib.ListN.{length}
-use Rattle.types.specs.Limits.{no-tag, label-limit, word-limit, most-tags}
+use Rattle.store_types.specs.Limits.{no-tag, label-limit, word-limit, most-tags}
 use Rattle.tree.specs.Row.{all-below}
 use Rattle.tree.specs.Book.{height, book-within}
 use Rattle.tree.specs.Promise.{Sane}

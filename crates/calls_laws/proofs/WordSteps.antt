@@ -9,7 +9,7 @@ use native.Mathlib.Omega.{arith}
 use borrow.Author.Tests.{le-ltb}
 use lib.Dec.{eqb, eqb·suc-zero}
 use lib.ListN.{length, drop, length-append, length-drop}
-use Rattle.types.specs.Limits.{header-words}
+use Rattle.store_types.specs.Limits.{header-words}
 use Rattle.tree.specs.Book.{labels-of}
 use Rattle.calls.specs.Store.{Store, count, row, width}
 use Rattle.calls.specs.Sound.{sound}

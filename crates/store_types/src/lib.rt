@@ -1,7 +1,7 @@
 // The two kinds of number, held pairs, and the replies of the six calls.
 ghost use mathlib.Core.Path.{_≡_};
 ghost use lib.Dec.{eqb};
-ghost use Rattle.types.specs.Limits.{no-tag};
+ghost use Rattle.store_types.specs.Limits.{no-tag};
 
 // Document 01's tag number: it never changes. Only a tag number finds a record in the store.
 pub struct TagId(pub u32);
