@@ -1,9 +1,8 @@
 -- Held pairs and the question (document 01, "Calls and their replies"). Assumes nothing: these are definitions.
-use mathlib.Core.Bool.{Bool, true, false, _&&_, _||_, not, cond}
+use mathlib.Core.Bool.{Bool, _&&_, _||_, not, cond}
 use Prim.Native.Nat.{ℕ}
 use lib.Dec.{leb, ltb, eqb}
 use Rattle.store_types.specs.declared.HeldPair.{HeldPair}
-use Rattle.store_types.specs.declared.Answer.{Answer}
 use Rattle.store_types.specs.declared.Answer.the-variants.{Yes, No, Stale}
 use Rattle.store_types.specs.declared.QuestionReply.{QuestionReply}
 use Rattle.store_types.specs.declared.QuestionReply.the-variants as asked

@@ -1,6 +1,6 @@
 -- Insertion (document 01, "The tree", "Calls and their replies"): of a row of kinds, of which a text and an element are
 -- the two that the call admits. Assumes nothing: these are definitions.
-use mathlib.Core.Bool.{Bool, true, false, _&&_, _||_, not, cond}
+use mathlib.Core.Bool.{Bool, false, _&&_, _||_, not, cond}
 use mathlib.Core.List.{List, [], _∷_, _++_}
 use Prim.Native.Nat.{ℕ, zero, suc, _+_, _*_, _^_}
 use lib.Dec.{ltb, leb, eqb}

@@ -1,12 +1,12 @@
 -- Load (document 01, "Calls and their replies"). Assumes nothing: these are definitions.
-use mathlib.Core.Bool.{Bool, true, false, _&&_, not, cond}
+use mathlib.Core.Bool.{Bool, true, _&&_, not, cond}
 use mathlib.Core.List.{List, [], _∷_, map}
 use Prim.Native.Nat.{ℕ, suc, _+_, _*_}
 use lib.Dec.{ltb}
 use lib.ListN.{length}
 use Rattle.store_types.specs.Limits.{no-tag, header-words, tag-words, label-limit, most-tags}
 use Rattle.tree.specs.Book.{loaded, load-under, power-width}
-use Rattle.calls.specs.Kind.{Kind, is-kind, kind-of}
+use Rattle.calls.specs.Kind.{is-kind, kind-of}
 use Rattle.calls.specs.Store.{Store}
 use Rattle.calls.specs.Nesting.{nests, new-facts}
 use Rattle.calls.specs.Sound.{degrees-fit}

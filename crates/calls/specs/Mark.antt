@@ -1,8 +1,8 @@
 -- Mark (document 01, "Calls and their replies"): a begin or text and all inside. Labels stay.
 -- Assumes nothing: these are definitions.
-use mathlib.Core.Bool.{Bool, true, false, _&&_, _||_, not, cond}
+use mathlib.Core.Bool.{Bool, _&&_, _||_, not, cond}
 use mathlib.Core.List.{List, [], _∷_}
-use Prim.Native.Nat.{ℕ, zero, suc, _+_}
+use Prim.Native.Nat.{ℕ, suc, _+_}
 use lib.Dec.{leb}
 use Rattle.calls.specs.Kind.{is-end}
 use Rattle.calls.specs.Store.{Store, Fact, fact, count, place-of}

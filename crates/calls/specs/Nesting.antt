@@ -1,7 +1,7 @@
 -- Nesting (document 01, "The book in words", "The tree"): which rows of kinds nest, the mates and ups of new tags, and
 -- the one pass along the book that decides whether mates, ups and marks are right.
 -- Assumes nothing: these are definitions.
-use mathlib.Core.Bool.{Bool, true, false, _&&_, _||_, not, cond, Bool·beq}
+use mathlib.Core.Bool.{Bool, false, _&&_, _||_, not, Bool·beq}
 use mathlib.Core.List.{List, [], _∷_, headD, tail}
 use Prim.Native.Nat.{ℕ, zero, suc}
 use lib.Dec.{eqb}

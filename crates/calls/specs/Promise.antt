@@ -1,12 +1,12 @@
 -- What is promised of the store (demands 2 and 3). Each statement is a type; docs/THEOREMS.md names its proof or says
 -- that it is owed. Assumes nothing.
 use mathlib.Core.Path.{_≡_}
-use mathlib.Core.Bool.{Bool, true, false, not}
-use mathlib.Core.List.{List, [], _∷_, _++_, map}
-use mathlib.Core.Option.{Option, some}
+use mathlib.Core.Bool.{true, false}
+use mathlib.Core.List.{List, _∷_, _++_, map}
+use mathlib.Core.Option.{some}
 use mathlib.Core.Logic.{_↔_, _⊎_}
-use Prim.Native.Nat.{ℕ, zero, suc, _+_, _*_, _-_, _^_, _≤_, _<_}
-use lib.Dec.{ltb, eqb}
+use Prim.Native.Nat.{ℕ, _+_, _*_, _-_, _^_, _≤_, _<_}
+use lib.Dec.{ltb}
 use lib.ListN.{length}
 use Rattle.store_types.specs.Limits.{word-limit}
 use Rattle.store_types.specs.declared.HeldPair.{HeldPair}
@@ -20,11 +20,11 @@ use Rattle.calls.specs.Store.{Store, fact, count, row, place-of, width, 
 use Rattle.calls.specs.Nesting.{nests}
 use Rattle.calls.specs.Sound.{sound}
 use Rattle.calls.specs.Load.{load-refusal, load-store}
-use Rattle.calls.specs.Insert.{row-refusal, insert-store, insert-moved}
+use Rattle.calls.specs.Insert.{row-refusal, insert-store}
 use Rattle.calls.specs.Mark.{section-refusal, mark-store}
-use Rattle.calls.specs.Held.{hold-pair, encloses, current, question}
+use Rattle.calls.specs.Held.{question}
 use Rattle.calls.specs.Words.{words-of, Says, word-at, follow, label-field, read}
-use Rattle.calls.specs.Calls.{Call, load, after, Fits, All-fit, judged, moved-after, Event, loads, Happens, Run, told, calls-of, total-moved}
+use Rattle.calls.specs.Calls.{Call, load, after, All-fit, judged, moved-after, Event, loads, Happens, Run, told, calls-of, total-moved}
 use Rattle.calls.specs.Reference.{Reference, total, reference-load, reference-after}
 
 -- ONE STEP, on any sound store: an accepted load, an accepted insertion of any row of kinds that nests, an accepted mark

@@ -1,6 +1,6 @@
 -- The reference list (document 01, "The bare list"): fed the arguments of load, insert and mark, and of each reply only
 -- whether the call was accepted; no word of the store. Assumes nothing: these are definitions.
-use mathlib.Core.Bool.{Bool, true, false, cond}
+use mathlib.Core.Bool.{cond}
 use mathlib.Core.List.{List, [], _∷_}
 use Prim.Native.Nat.{ℕ, zero, suc, _+_}
 use lib.Dec.{eqb}

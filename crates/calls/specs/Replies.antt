@@ -1,6 +1,6 @@
 -- What each call replies, and what the lent words then hold: for every input, words of any length and content
 -- (document 01, "Calls and their replies"). Assumes nothing: these are definitions.
-use mathlib.Core.Bool.{Bool, true, false, cond}
+use mathlib.Core.Bool.{cond}
 use mathlib.Core.List.{List, [], _∷_}
 use mathlib.Core.Option.{Option, none, some}
 use Prim.Native.Nat.{ℕ, zero, suc}

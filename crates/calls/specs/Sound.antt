@@ -1,5 +1,5 @@
 -- Sound stores (document 01, "Sound means"). Assumes nothing: these are definitions.
-use mathlib.Core.Bool.{Bool, true, false, _&&_}
+use mathlib.Core.Bool.{Bool, _&&_}
 use Prim.Native.Nat.{ℕ, _+_}
 use lib.Dec.{ltb, leb, eqb}
 use lib.ListN.{length}

@@ -1,11 +1,10 @@
 -- Specimens A to L of document 01, and others that tell the calls from wrong ones: one table, which proofs/Specimens.antt
 -- shows to hold. Each is a list of calls over one lent slice of words, all 0 at first, with the numbers that each
 -- replies. Expected values are worked out by hand from document 01.
-use mathlib.Core.Bool.{Bool, true, false, _&&_}
-use mathlib.Core.List.{List, [], _∷_, _++_}
-use Prim.Native.Nat.{ℕ, zero, suc, _+_, _*_}
-use lib.Dec.{eqb}
-use lib.ListN.{length, replicate, take}
+use mathlib.Core.Bool.{Bool, true, _&&_}
+use mathlib.Core.List.{List, [], _∷_}
+use Prim.Native.Nat.{ℕ}
+use lib.ListN.{length, replicate}
 use Rattle.store_types.specs.Limits.{no-tag}
 use Rattle.store_types.specs.declared.HeldPair.{HeldPair}
 use Rattle.tree.specs.Specimens.{same}

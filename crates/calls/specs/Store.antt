@@ -1,8 +1,8 @@
 -- A store: the book's tree, and for each tag its kind, mark, mate and up (document 01, "The book in words").
 -- Assumes nothing: these are definitions.
-use mathlib.Core.Bool.{Bool, true, false, cond}
+use mathlib.Core.Bool.{Bool, false, cond}
 use mathlib.Core.List.{List, [], _∷_}
-use Prim.Native.Nat.{ℕ, zero, suc, _+_}
+use Prim.Native.Nat.{ℕ, suc, _+_}
 use lib.ListN.{length, getD}
 use Rattle.store_types.specs.Limits.{no-tag}
 use Rattle.tree.specs.Row.{place}

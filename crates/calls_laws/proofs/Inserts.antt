@@ -15,7 +15,7 @@ use Rattle.tree.specs.Row.{numbers, member, insert-at, all-below}
 use Rattle.tree.specs.Forest.{size}
 use Rattle.tree.specs.Book.{Book, height, power-width, root-full, inserted, inserted-row}
 use Rattle.tree.specs.Promise.{Sane}
-use Rattle.tree_laws.proofs.Rows.{by-test, fails, or-left-false, or-right-false, getD-place, place-of-member, member-of-take, member-insert, member-numbers, member-all-below, all-below-of}
+use Rattle.tree_laws.proofs.Rows.{by-test, fails, or-left-false, or-right-false, getD-place, place-of-member, member-of-take, member-insert, member-numbers, member-all-below, all-below-of, member-of-drop}
 use Rattle.tree_laws.proofs.Insertion.{inserted-s, inserted-r, inserted-under, size-inserted, sane-inserted, sane-inserted-row, tags-inserted-row, size-inserted-row}
 use Rattle.calls.specs.Kind.{Kind, is-begin}
 use Rattle.calls.specs.Store.{Store, Fact, no-fact, fact, count, row, place-of, marked-count}
@@ -26,7 +26,7 @@ use Rattle.calls.specs.Promise.{Insert-sound}
 use Rattle.calls_laws.proofs.Tests.{passes, Sound, sane, facts-of, sound-of}
 use Rattle.calls_laws.proofs.Nesting.{Step, begins, ends, stands, Pass, pass-join, pass-around, nested-of, chain-mark, Same, same-of, no-tag-fact, no-tag-same}
 use Rattle.calls_laws.proofs.NewFacts.{length-new-facts, pass-new}
-use Rattle.calls_laws.proofs.Sections.{row-below, in-row, is-tag, member-of-drop, pass-row, At, pass-at}
+use Rattle.calls_laws.proofs.Sections.{row-below, in-row, is-tag, pass-row, At, pass-at}
 
 -- THE LABELS STILL FIT. s and r stay, and the height is the one that `raised` says
 pub row-degrees : (n p x : ℕ) (k : Book) → (inserted-row n p x k .s ≡ k .s) × (inserted-row n p x k .r ≡ k .r)

@@ -10,7 +10,7 @@ use lib.ListN.{length, take, drop, length-append}
 use lib.Seq.{split-at, append-snoc, getD-append-seam}
 use Rattle.store_types.specs.Limits.{no-tag}
 use Rattle.tree.specs.Row.{member, place}
-use Rattle.tree_laws.proofs.Rows.{Distinct, member-first, member-later, member-append, member-split, member-of-take, place-append-in, place-append-out, place-of-member, place-getD, getD-place, distinct-right, distinct-apart, apart-sym, distinct-all-below, member-all-below}
+use Rattle.tree_laws.proofs.Rows.{Distinct, member-first, member-later, member-append, member-of-take, place-append-in, place-append-out, place-of-member, place-getD, getD-place, distinct-right, distinct-apart, apart-sym, distinct-all-below, member-all-below, member-of-drop}
 use Rattle.calls.specs.Kind.{end}
 use Rattle.calls.specs.Store.{Store, Fact, fact-in, fact, count, row, place-of}
 use Rattle.calls_laws.proofs.Tests.{Sound}
@@ -127,9 +127,6 @@ pass-element fs gs alike o x n xs s p c marked =
       begins (record { kind = alike x .kind ∙ s .kind; up = alike x .up ∙ s .up; mark = λ e. own .marked; next = refl }),
       pass-join gs no-tag x x o xs (m ∷ []) middle (o, ends (own .tag) close, refl),
     )
-
-pub member-of-drop : (v p : ℕ) (xs : List ℕ) → member v (drop p xs) ≡ true → member v xs ≡ true
-member-of-drop v p xs m = sym (member-split v p xs) ∙ rw m (or-true (member v (take p xs)))
 
 module _ {st : Store} (h : Sound st) (x : ℕ) (l : x < count st) where
   place-in : (xs ys : List ℕ) (v : ℕ) → row st ≡ xs ++ (v ∷ ys) → place-of st v ≡ length xs

@@ -1,12 +1,12 @@
 -- A book as an L-Tree under its root (document 01, "The tree"): load, one insertion, a row of insertions, what moved.
 -- Assumes nothing: these are definitions.
-use mathlib.Core.Bool.{Bool, true, false, _&&_, _||_, not, cond}
-use mathlib.Core.List.{List, [], _∷_, _++_}
-use Prim.Native.Nat.{ℕ, zero, suc, _+_, _*_, _-_, _^_, max}
+use mathlib.Core.Bool.{Bool, _&&_, _||_, cond}
+use mathlib.Core.List.{List, [], _∷_}
+use Prim.Native.Nat.{ℕ, zero, suc, _*_, _-_, _^_, max}
 use lib.Dec.{ltb, leb, eqb}
 use lib.ListN.{length, getD}
 use Rattle.tree.specs.Row.{numbers, place, insert-at}
-use Rattle.tree.specs.Forest.{Forest, nil, leaf, node, leaves, size, labels, spread, put, full, within-limits}
+use Rattle.tree.specs.Forest.{Forest, leaves, size, labels, spread, put, full, within-limits}
 use Rattle.tree.specs.Forest as forest
 
 -- s and r; the height of the root's children, one less than document 01's H; and the root's children

@@ -1,6 +1,6 @@
 -- The L-Tree (document 01, "The tree"): leaves, labels, complete trees, insertion with its split, and the limits of a node.
 -- Assumes nothing: these are definitions.
-use mathlib.Core.Bool.{Bool, true, false, _&&_, _||_, not, cond}
+use mathlib.Core.Bool.{Bool, true, false, _&&_, cond}
 use mathlib.Core.List.{List, [], _∷_, _++_}
 use Prim.Native.Nat.{ℕ, zero, suc, pred, _+_, _*_, _-_, _/_, _^_}
 use lib.Dec.{ltb, leb, eqb}

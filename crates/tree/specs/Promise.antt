@@ -1,13 +1,12 @@
 -- What is promised of one book and one insertion, for any widths. Each statement is a type; docs/THEOREMS.md names its
 -- proof or says that it is owed. Assumes nothing.
 use mathlib.Core.Path.{_≡_}
-use mathlib.Core.Bool.{Bool, true, false}
-use mathlib.Core.List.{List, [], _∷_}
-use Prim.Native.Nat.{ℕ, zero, suc, _+_, _*_, _^_, _≤_, _<_}
-use lib.Dec.{eqb}
-use Rattle.tree.specs.Row.{member, place, rises}
+use mathlib.Core.Bool.{true, false}
+use mathlib.Core.List.{[], _∷_}
+use Prim.Native.Nat.{ℕ, suc, _+_, _*_, _^_, _≤_, _<_}
+use Rattle.tree.specs.Row.{member, place, all-below, rises}
 use Rattle.tree.specs.Forest.{size}
-use Rattle.tree.specs.Book.{Book, height, tags, labels-of, label-of, base, inserted, split-of, root-full, moved, book-within}
+use Rattle.tree.specs.Book.{Book, height, tags, labels-of, label-of, base, inserted, split-of, moved, book-within}
 use Rattle.tree.specs.Reach.{left-of, border, split-book}
 
 -- widths that a tree of s and r may be numbered by; the powers of b are one choice
@@ -45,10 +44,11 @@ unfoldable pub Never-falls : Type 0
 Never-falls =
     (w : ℕ → ℕ) (p x t : ℕ) (k : Book) → Step w p x k → member t (tags k) ≡ true → label-of w k t ≤ label-of w (inserted p x k) t
 
--- THE REACH of one insertion: how many tags it moves at most, with no split, with a split below the root, with a root split
+-- THE REACH of one insertion: how many tags it moves at most, with no split, with a split below the root, with a root
+-- split. (Each number below n stands in the book once: a tag that stood there twice would count twice.)
 unfoldable pub Reach-counts : Type 0
 Reach-counts =
-    (w : ℕ → ℕ) (p x : ℕ) (k : Book) → Step w p x k →
+    (w : ℕ → ℕ) (p x : ℕ) (k : Book) → Step w p x k → all-below (size (k .root)) (tags k) ≡ true →
     (split-of p k ≡ 0 → moved w k (inserted p x k) + 2 ≤ k .s * k .r)
     × ((h : ℕ) → split-of p k ≡ suc h → h < k .under → moved w k (inserted p x k) + 2 ≤ k .s * k .r ^ suc (suc h))
     × (split-of p k ≡ height k → moved w k (inserted p x k) + 1 ≤ k .s * k .r ^ height k)

@@ -2,7 +2,7 @@
 -- proofs/Specimens.antt shows to hold. Expected values are worked out by hand from document 01.
 use mathlib.Core.Bool.{Bool, true, false, _&&_}
 use mathlib.Core.List.{List, [], _∷_}
-use Prim.Native.Nat.{ℕ, zero, suc}
+use Prim.Native.Nat.{ℕ, suc}
 use lib.Dec.{eqb}
 use Rattle.tree.specs.Book.{Book, height, loaded, labels-of, power-width, inserted, split-of, moved}
 

@@ -1,7 +1,7 @@
 -- The tree that labels along a row spell (document 01, "Sound means": the digits of the labels spell a tree).
 -- It is right where some tree within its limits has these tags and labels; whoever reads tests that.
 -- Assumes nothing: these are definitions.
-use mathlib.Core.Bool.{Bool, true, false, cond}
+use mathlib.Core.Bool.{cond}
 use mathlib.Core.List.{List, [], _∷_}
 use Prim.Native.Nat.{ℕ, zero, suc, _+_}
 use lib.Dec.{ltb}

@@ -61,11 +61,11 @@ count-above a b c d (l ∷ ls) r high = go (leb a l) (le-ltb l b (omega (arith, 
     go true e z = rw e z
     go false e z = z
 
-getD-middle : (xs ys zs : List ℕ) (i k : ℕ) → k ≡ length xs + i → i < length ys → getD (xs ++ (ys ++ zs)) k 0 ≡ getD ys i 0
+pub getD-middle : (xs ys zs : List ℕ) (i k : ℕ) → k ≡ length xs + i → i < length ys → getD (xs ++ (ys ++ zs)) k 0 ≡ getD ys i 0
 getD-middle xs ys zs i k e short = rw e (getD-append-add xs (ys ++ zs) i 0 ∙ List·getD-append ys zs 0 i short)
 
 -- THE THREE WAYS at a node of height j, where the tree of height h is sought: right of it, itself, under it
-three-ways : {A : Type 0} (size p j h : ℕ) → (size < p → A) → (p ≤ size → j ≡ h → A) → (p ≤ size → (j ≡ h → ⊥) → A) → A
+pub three-ways : {A : Type 0} (size p j h : ℕ) → (size < p → A) → (p ≤ size → j ≡ h → A) → (p ≤ size → (j ≡ h → ⊥) → A) → A
 three-ways {A} n p j h right here inside = go (ltb n p) (eqb j h) refl refl
   where
     go : (t u : Bool) → ltb n p ≡ t → eqb j h ≡ u → A
@@ -74,19 +74,19 @@ three-ways {A} n p j h right here inside = go (ltb n p) (eqb j h) refl refl
     go false false e d = inside (ltb-false n p e) (eqb-false j h d)
 
 module _ (g f : Forest) (w : ℕ → ℕ) (j h p a : ℕ) where
-  at-right : size g < p →
+  pub at-right : size g < p →
       (number-in (node g f) w j h p a ≡ number-in f w j h (p - size g) (a + w j))
       × (left-in (node g f) j h p ≡ size g + left-in f j h (p - size g))
       × (size-in (node g f) j h p ≡ size-in f j h (p - size g))
   unfolding number-in left-in size-in
   at-right n = let e = lt-ltb (size g) p n in (rw e, rw e, rw e)
 
-  at-here : p ≤ size g → j ≡ h →
+  pub at-here : p ≤ size g → j ≡ h →
       (number-in (node g f) w j h p a ≡ a) × (left-in (node g f) j h p ≡ 0) × (size-in (node g f) j h p ≡ size g)
   unfolding number-in left-in size-in
   at-here n i = let e = le-ltb (size g) p n in let d = eq-eqb j h i in (rw (e, d), rw (e, d), rw (e, d))
 
-  at-inside : p ≤ size g → (j ≡ h → ⊥) →
+  pub at-inside : p ≤ size g → (j ≡ h → ⊥) →
       (number-in (node g f) w j h p a ≡ number-in g w (pred j) h p a)
       × (left-in (node g f) j h p ≡ left-in g (pred j) h p)
       × (size-in (node g f) j h p ≡ size-in g (pred j) h p)

@@ -1,11 +1,10 @@
 -- The limits of a forest as facts, and the bridges to the test of specs/Forest.antt both ways. Assumes nothing.
-use mathlib.Core.Path.{_≡_, refl, ap, sym, _∙_}
-use mathlib.Core.Bool.{Bool, true, false, _&&_, true≢false, false≢true}
-use Prim.Native.Nat.{ℕ, zero, suc, pred, _+_, _*_, _^_, _≤_, _<_}
-use native.Mathlib.Omega.{arith}
-use borrow.Author.Tests.{lt-ltb, le-leb, eq-eqb, ltb-true, leb-true, eqb-true}
-use lib.Dec.{ltb, leb, eqb}
-use Rattle.tree.specs.Forest.{Forest, nil, leaf, node, leaves, size, within-limits}
+use mathlib.Core.Path.{_≡_, refl}
+use mathlib.Core.Bool.{Bool, true, false, _&&_, false≢true}
+use Prim.Native.Nat.{ℕ, zero, suc, _*_, _^_, _≤_, _<_}
+use borrow.Author.Tests.{lt-ltb, le-leb, ltb-true, leb-true}
+use lib.Dec.{ltb, leb}
+use Rattle.tree.specs.Forest.{Forest, nil, leaf, node, size, within-limits}
 
 -- a forest of height j whose nodes keep their limits
 abbrev pub Good : (s r : ℕ) → Forest → (j : ℕ) → Type 0

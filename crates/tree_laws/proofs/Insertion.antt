@@ -1,14 +1,14 @@
 -- One insertion and a row of insertions: the equations of `put` and `inserted`, their tags, and that a sane book stays sane. Assumes nothing.
 use mathlib.Core.Path.{_≡_, refl, ap, sym, _∙_}
 use mathlib.Core.Bool.{Bool, true, false, _&&_, _||_, cond}
-use mathlib.Core.List.{List, [], _∷_, _++_, append-assoc}
+use mathlib.Core.List.{[], _∷_}
 use Prim.Native.Nat.{ℕ, zero, suc, pred, _+_, _*_, _-_, _^_, _≤_, _<_}
 use native.Mathlib.Nat.{pow-succ', mul-le-mul-right, mul-left-comm}
 use native.Mathlib.Omega.{arith}
 use borrow.Author.Tests.{lt-ltb, le-ltb, le-leb, eq-eqb, ne-eqb, ltb-true, ltb-false, leb-true, eqb-true, eqb-false}
 use lib.Dec.{ltb, leb, eqb}
-use lib.ListN.{length, length-append, length-take, length-drop, take-append-drop}
-use lib.Seq.{take-nil, drop-nil, take-append-le, drop-append-le, take-append-add, drop-append-add}
+use lib.ListN.{length, length-append}
+use lib.Seq.{take-nil, drop-nil}
 use Rattle.tree.specs.Row.{numbers, insert-at}
 use Rattle.tree.specs.Forest.{Forest, nil, leaf, node, leaves, size, joined, spread, put, split-height, within-limits}
 use Rattle.tree.specs.Book.{Book, height, tags, root-full, root-split, put-inside, inserted, split-of, inserted-row, root-within, book-within}

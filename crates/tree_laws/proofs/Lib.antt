@@ -8,3 +8,9 @@ pub mod Spelled
 pub mod Ancestors
 pub mod Thinnest
 pub mod Potential
+pub mod Flat
+pub mod Root
+pub mod Border
+pub mod Falls
+pub mod Reach
+pub mod Second

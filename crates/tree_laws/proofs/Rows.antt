@@ -223,6 +223,9 @@ member-split v p xs = sym (member-append v (take p xs) (drop p xs)) ∙ ap (memb
 pub member-of-take : (v p : ℕ) (xs : List ℕ) → member v (take p xs) ≡ true → member v xs ≡ true
 member-of-take v p xs m = sym (member-split v p xs) ∙ (rw m)
 
+pub member-of-drop : (v p : ℕ) (xs : List ℕ) → member v (drop p xs) ≡ true → member v xs ≡ true
+member-of-drop v p xs m = sym (member-split v p xs) ∙ (rw m (or-true (member v (take p xs))))
+
 pub length-insert : (p : ℕ) (ns xs : List ℕ) → length (insert-at p ns xs) ≡ length ns + length xs
 unfolding insert-at
 length-insert p ns xs = simp (length-append, length-take, length-drop) (omega arith)
@@ -248,10 +251,10 @@ distinct-insert p ns xs h k apart =
     distinct-append (take p xs) (ns ++ drop p xs) (distinct-left (take p xs) (drop p xs) whole) rest before
 
 -- a tag of the first p keeps its place; another stands p and its place among the others behind
-place-in-take : (t p : ℕ) (xs : List ℕ) → member t (take p xs) ≡ true → place t xs ≡ place t (take p xs)
+pub place-in-take : (t p : ℕ) (xs : List ℕ) → member t (take p xs) ≡ true → place t xs ≡ place t (take p xs)
 place-in-take t p xs m = ap (place t) (sym (take-append-drop p xs)) ∙ place-append-in t (take p xs) (drop p xs) m
 
-place-past-take : (t p : ℕ) (xs : List ℕ) → member t (take p xs) ≡ false → place t xs ≡ length (take p xs) + place t (drop p xs)
+pub place-past-take : (t p : ℕ) (xs : List ℕ) → member t (take p xs) ≡ false → place t xs ≡ length (take p xs) + place t (drop p xs)
 place-past-take t p xs m = ap (place t) (sym (take-append-drop p xs)) ∙ place-append-out t (take p xs) (drop p xs) m
 
 -- the place of a tag of the row before: what it was, and the number of the new ones more behind them

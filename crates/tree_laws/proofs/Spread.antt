@@ -2,7 +2,7 @@
 use mathlib.Core.Path.{_≡_, refl, ap, _∙_}
 use mathlib.Core.List.{List, [], _∷_, _++_, append-nil, append-assoc}
 use Prim.Native.Nat.{ℕ, zero, suc, _+_, _*_, _/_, _^_, _≤_, _<_}
-use native.Mathlib.Nat.{suc-mul, one-mul, pow-succ', one-le-pow, mul-le-mul-right, div-mul-le-self, lt-div-mul-add, le-div-iff-mul-le, div-eq-of-eq-mul-left}
+use native.Mathlib.Nat.{suc-mul, one-mul, pow-succ', one-le-pow, mul-le-mul, mul-le-mul-right, div-mul-le-self, lt-div-mul-add, le-div-iff-mul-le, div-eq-of-eq-mul-left}
 use native.Mathlib.Omega.{arith}
 use lib.ListN.{length, take, drop, length-drop, take-append-drop}
 use lib.Seq.{length-take-le}
@@ -62,7 +62,7 @@ good-leaf-row s r [] = tt
 good-leaf-row s r (x ∷ xs) = good-leaf-row s r xs
 
 -- the clauses of `parts`
-parts-none : (e : ℕ) (g : List ℕ → Forest) (xs : List ℕ) → parts 0 e g xs ≡ nil
+pub parts-none : (e : ℕ) (g : List ℕ → Forest) (xs : List ℕ) → parts 0 e g xs ≡ nil
 unfolding parts
 parts-none e g xs = refl
 
@@ -160,6 +160,10 @@ some-power r j h = one-le-pow j r (omega arith)
 
 pub lower-power : (r j l : ℕ) → 2 ≤ r → r ^ suc j ≤ l → r ^ j ≤ l
 lower-power r j l h p = omega (arith, pow-succ' r j, mul-le-mul-right (r ^ j) h)
+
+-- a node with its least leaves is two or more short of its limit
+pub far-from-limit : (s r j : ℕ) → 2 ≤ s → 2 ≤ r → r ^ suc j + 2 ≤ s * r ^ suc j
+far-from-limit s r j t q = omega (arith, mul-le-mul-right (r ^ suc j) t, pow-succ' r j, mul-le-mul q (some-power r j q))
 
 -- `spread` keeps the row
 pub leaves-spread-zero : (r : ℕ) (xs : List ℕ) → leaves (spread 0 r xs) ≡ xs
