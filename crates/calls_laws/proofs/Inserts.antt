@@ -2,7 +2,7 @@
 use mathlib.Core.Path.{_≡_, refl, ap, sym, _∙_}
 use mathlib.Core.Bool.{Bool, true, false, _&&_, _||_, not, cond, true≢false, or-true}
 use mathlib.Core.List.{List, [], _∷_, _++_}
-use mathlib.Core.Logic.{_⊎_, inl, inr}
+use mathlib.Core.Logic.{_⊎_, inl, inr, ⊎-elim}
 use Prim.Native.Nat.{ℕ, zero, suc, _+_, _*_, _^_, _≤_, _<_}
 use native.Mathlib.Nat.{le-of-eq}
 use native.Mathlib.Omega.{arith}
@@ -89,6 +89,13 @@ accepted-row w ks y st r =
       room = ltb-false _ _ (or-right-false (ltb most-tags (n + length ks)) _ (c .0));
       labels = d .0;
     }
+
+-- the tags before the new ones are tags of the row
+pub position-fits : (w : ℕ) (ks : List Kind) (y : ℕ) (st : Store) → Sound st → Row-accepted w ks y st → position y st ≤ length (row st)
+unfolding position
+position-fits w ks y st h a =
+    ⊎-elim (λ e. rw (eq-eqb y no-tag e) omega arith)
+    (λ l. rw (ne-eqb y no-tag (λ e. omega (arith, h .few, l .0))) (place-of-member y (row st) (in-row h y (l .0)))) (a .place)
 
 -- THE FACTS with those of the new tags under m
 abbrev facts-with : Store → (m : ℕ) → List Kind → List Fact

@@ -9,3 +9,5 @@ pub mod Pairs
 pub mod Fields
 pub mod Reader
 pub mod WordSteps
+pub mod ListsKeep
+pub mod RunsKeep

@@ -62,7 +62,7 @@ beq-same true = refl
 beq-same false = refl
 
 -- the test of specs/Nesting.antt, both ways
-step-of : (fs : List Fact) (o x : ℕ) (k : Kind) → fact-in fs x .kind ≡ k → fits fs o x k ≡ true → Step fs no-tag o x (opened fs o x k)
+pub step-of : (fs : List Fact) (o x : ℕ) (k : Kind) → fact-in fs x .kind ≡ k → fits fs o x k ≡ true → Step fs no-tag o x (opened fs o x k)
 unfolding fits opened
 step-of fs o x begin e h =
     let up = eqb (fact-in fs x .up) o in

@@ -27,13 +27,13 @@ use Rattle.calls_laws.proofs.Tests.{Sound, facts-of}
 use Rattle.calls_laws.proofs.Fields.{tag-says, header-says}
 
 -- an element of a mapped list, whatever the element that is given past the end
-getD-map : {A B : Type 0} (f : A → B) (xs : List A) (i : ℕ) (d : A) (e : B) → i < length xs → getD (map f xs) i e ≡ f (getD xs i d)
+pub getD-map : {A B : Type 0} (f : A → B) (xs : List A) (i : ℕ) (d : A) (e : B) → i < length xs → getD (map f xs) i e ≡ f (getD xs i d)
 getD-map f [] i d e l = absurd (not-suc-le-zero l)
 getD-map f (x ∷ xs) zero d e l = refl
 getD-map f (x ∷ xs) (suc i) d e l = getD-map f xs i d e (le-of-suc-le-suc l)
 
 -- a kind and a mark back from their word
-kind-back : (k : Kind) (m : Bool) →
+pub kind-back : (k : Kind) (m : Bool) →
     (kind-of (cond (leb 16 (kind-word k m)) (kind-word k m - 16) (kind-word k m)) ≡ k) × (leb 16 (kind-word k m) ≡ m)
 unfolding kind-of kind-word code
 kind-back begin true = (refl, refl)

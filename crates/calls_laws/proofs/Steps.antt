@@ -16,7 +16,7 @@ use Rattle.calls.specs.Store.{Store, Fact, fact-in}
 use Rattle.calls.specs.Nesting.{nests, new-facts}
 use Rattle.calls.specs.Sound.{degrees-fit, sound}
 use Rattle.calls.specs.Load.{words-for, all-kinds, load-refusal, load-store}
-use Rattle.calls.specs.Insert.{insert-kinds, insert-refusal}
+use Rattle.calls.specs.Insert.{insert-kinds, insert-refusal, row-refusal}
 use Rattle.calls.specs.Calls.{Call, load, insert, mark, refusal, changed, accepts, after-one, after, Fits, All-fit}
 use Rattle.calls.specs.Promise.{Load-sound, Insert-sound, Mark-sound, Stays-good, Stores-sound}
 use Rattle.calls_laws.proofs.Tests.{passes, Degrees, degrees-of, facts-of, sound-of}
@@ -78,8 +78,13 @@ load-sound w s r b cs e fits =
       stamp-fits = omega arith;
     })
 
--- the two rows of kinds that the call inserts nest
-kinds-nest : (c : ℕ) → (nests 0 (insert-kinds c) ≡ true) × (1 ≤ length (insert-kinds c))
+-- the call inserts one of its two rows
+pub insert-passed : (w c y : ℕ) (st : Store) → insert-refusal w c y st ≡ 0 → row-refusal w (insert-kinds c) y st ≡ 0
+unfolding insert-refusal
+insert-passed w c y st e = passes (not (eqb c 1 || eqb c 3)) 3 _ e .1
+
+-- which nest
+pub kinds-nest : (c : ℕ) → (nests 0 (insert-kinds c) ≡ true) × (1 ≤ length (insert-kinds c))
 unfolding nests insert-kinds
 kinds-nest c = go (eqb c 1)
   where
@@ -89,11 +94,11 @@ kinds-nest c = go (eqb c 1)
 
 -- one call: an accepted one leaves a sound store, a refused one the same
 pub changed-sound : (w : ℕ) (c : Call) (st : Store) → Fits c → sound st ≡ true → refusal w c st ≡ 0 → sound (changed c st) ≡ true
-unfolding refusal changed Fits insert-refusal Load-sound Insert-sound Mark-sound
+unfolding refusal changed Fits Load-sound Insert-sound Mark-sound
 changed-sound w (load s r b cs) st fits e n = load-sound w s r b cs n fits
 changed-sound w (insert c y) st fits e n =
     let k = kinds-nest c in
-    insert-sound w y (insert-kinds c) st e (k .0) (k .1) (passes (not (eqb c 1 || eqb c 3)) 3 _ n .1)
+    insert-sound w y (insert-kinds c) st e (k .0) (k .1) (insert-passed w c y st n)
 changed-sound w (mark x) st fits e n = mark-sound x st e n
 
 pub one-sound : (w : ℕ) (c : Call) (st : Store) → Fits c → sound st ≡ true → sound (after-one w c st) ≡ true

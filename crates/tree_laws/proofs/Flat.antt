@@ -13,21 +13,7 @@ use Rattle.tree.specs.Reach.{left-in, size-in}
 use Rattle.tree_laws.proofs.Good.{Good}
 use Rattle.tree_laws.proofs.Rows.{by-test}
 use Rattle.tree_laws.proofs.Spread.{parts-none, parts-one, parts-more, spread-suc, some-power}
-use Rattle.tree_laws.proofs.Insertion.{
-  Turn,
-  right,
-  split,
-  below,
-  turn,
-  put-right,
-  put-split,
-  put-below,
-  height-right,
-  height-split,
-  height-below,
-  size-node,
-  split-length,
-}
+use Rattle.tree_laws.proofs.Insertion.{Turn, right, split, below, turn, put-right, put-split, put-below, height-right, height-split, height-below, size-node, split-length}
 use Rattle.tree_laws.proofs.Labels.{trees, length-labels, labels-shift, labels-joined}
 use Rattle.tree_laws.proofs.Ancestors.{number-in, at-right, at-here, at-inside}
 use Rattle.tree_laws.proofs.Thinnest.{label-inside, label-beyond}

@@ -14,3 +14,4 @@ pub mod Border
 pub mod Falls
 pub mod Reach
 pub mod Second
+pub mod Account

@@ -330,25 +330,25 @@ insert-two p x y xs l = insert-next p x (y ∷ []) xs l
 -- EACH NUMBER ONCE
 
 -- a row without the first that is v
-without : (v : ℕ) → List ℕ → List ℕ
+pub without : (v : ℕ) → List ℕ → List ℕ
 without v [] = []
 without v (x ∷ xs) = cond (eqb v x) xs (x ∷ without v xs)
 
-without-first : (x : ℕ) (xs : List ℕ) → without x (x ∷ xs) ≡ xs
+pub without-first : (x : ℕ) (xs : List ℕ) → without x (x ∷ xs) ≡ xs
 unfolding without
 without-first x xs = rw (eq-eqb x x refl)
 
-without-other : (v x : ℕ) (xs : List ℕ) → eqb v x ≡ false → without v (x ∷ xs) ≡ x ∷ without v xs
+pub without-other : (v x : ℕ) (xs : List ℕ) → eqb v x ≡ false → without v (x ∷ xs) ≡ x ∷ without v xs
 unfolding without
 without-other v x xs e = rw e
 
-length-without : (v : ℕ) (xs : List ℕ) → member v xs ≡ true → length xs ≡ suc (length (without v xs))
+pub length-without : (v : ℕ) (xs : List ℕ) → member v xs ≡ true → length xs ≡ suc (length (without v xs))
 length-without v [] h = absurd (false≢true (sym (member-nil v) ∙ h))
 length-without v (x ∷ xs) h =
     member-cases v x xs h (λ e. rw (e, without-first x xs)) (λ e m. rw (without-other v x xs e) (ap suc (length-without v xs m)))
 
 -- other tags are members as before
-member-without : (u v : ℕ) (xs : List ℕ) → eqb u v ≡ false → member u (without v xs) ≡ member u xs
+pub member-without : (u v : ℕ) (xs : List ℕ) → eqb u v ≡ false → member u (without v xs) ≡ member u xs
 unfolding without
 member-without u v [] d = refl
 member-without u v (x ∷ xs) d = go (eqb v x) (eqb u x) refl refl (member-without u v xs d)

@@ -17,33 +17,7 @@ use Rattle.tree.specs.Promise.{Sane, Step, Moves, Second-tag}
 use Rattle.tree_laws.proofs.Good.{Good, Complete}
 use Rattle.tree_laws.proofs.Rows.{Among, by-test, fails, member-first, member-later, member-insert, insert-two}
 use Rattle.tree_laws.proofs.Spread.{complete-spread, leaves-spread, far-from-limit, some-power}
-use Rattle.tree_laws.proofs.Insertion.{
-  Turn,
-  right,
-  split,
-  below,
-  turn,
-  put-right,
-  put-split,
-  put-below,
-  height-right,
-  height-split,
-  height-below,
-  size-node,
-  split-length,
-  leaves-put,
-  size-put,
-  good-put,
-  inserted-split,
-  inserted-inside,
-  split-of-split,
-  split-of-inside,
-  root-at-limit,
-  rooted,
-  empty-low,
-  tags-inserted,
-  size-inserted,
-}
+use Rattle.tree_laws.proofs.Insertion.{Turn, right, split, below, turn, put-right, put-split, put-below, height-right, height-split, height-below, size-node, split-length, leaves-put, size-put, good-put, inserted-split, inserted-inside, split-of-split, split-of-inside, root-at-limit, rooted, empty-low, tags-inserted, size-inserted}
 use Rattle.tree_laws.proofs.Ancestors.{three-ways, at-right, at-here, at-inside}
 use Rattle.tree_laws.proofs.Flat.{split-at-most}
 use Rattle.tree_laws.proofs.Root.{whole, flat-whole, border-whole, border-root, left-unsplit}

@@ -1,0 +1,156 @@
+-- Every list of calls behind an accepted load keeps the store beside the reference list, with its labels rising and few of
+-- them moved. Assumes nothing.
+use mathlib.Core.Path.{sym, _≡_, refl, ap, _∙_}
+use mathlib.Core.Bool.{Bool, true, false, cond}
+use mathlib.Core.List.{List, [], _∷_}
+use Prim.Native.Nat.{ℕ, zero, suc, _+_, _-_, _≤_, _<_}
+use native.Mathlib.Omega.{arith}
+use borrow.Author.Tests.{eqb-true}
+use lib.Dec.{eqb}
+use lib.ListN.{length}
+use Rattle.store_types.specs.Limits.{word-limit}
+use Rattle.tree.specs.Forest.{size}
+use Rattle.tree.specs.Book.{Book, height, base, power-width, loaded, root-full, inserted, inserted-row}
+use Rattle.tree.specs.Promise.{Sane, Labels-rise}
+use Rattle.tree_laws.proofs.Rows.{by-test}
+use Rattle.tree_laws.proofs.Insertion.{size-inserted, sane-inserted, inserted-s, inserted-r, inserted-under, tags-inserted-row}
+use Rattle.tree_laws.proofs.Load.{tags-loaded}
+use Rattle.tree_laws.proofs.Labels.{labels-rise, power-widths}
+use Rattle.tree_laws.proofs.Account.{Account, account-loaded, account-row, account-few, account-low}
+use Rattle.calls.specs.Kind.{Kind}
+use Rattle.calls.specs.Store.{Store, count, row, width}
+use Rattle.calls.specs.Sound.{sound}
+use Rattle.calls.specs.Load.{load-refusal, load-store}
+use Rattle.calls.specs.Insert.{insert-kinds, position, book-after, insert-store, insert-moved, raised, row-refusal}
+use Rattle.calls.specs.Mark.{mark-store}
+use Rattle.calls.specs.Calls.{Call, load, insert, mark, refusal, changed, accepts, after-one, after, Fits, All-fit, moved-by, moved-after, judged}
+use Rattle.calls.specs.Reference.{Reference, reference-load, reference-position, raised-by, reference-insert, reference-call, reference-told, reference-after}
+use Rattle.calls.specs.Promise.{Load-sound, Kept, Lists-keep}
+use Rattle.calls_laws.proofs.Tests.{facts-of}
+use Rattle.calls_laws.proofs.Inserts.{accepted-row, position-fits}
+use Rattle.calls_laws.proofs.Steps.{accepted-load, insert-passed, load-sound, changed-sound}
+
+-- THE HEADER after a row of insertions: s and r stay, and H rises as the reference list says
+
+row-s : (n p x : ℕ) (k : Book) → inserted-row n p x k .s ≡ k .s
+unfolding inserted-row
+row-s zero p x k = refl
+row-s (suc n) p x k = row-s n (suc p) (suc x) (inserted p x k) ∙ inserted-s p x k
+
+row-r : (n p x : ℕ) (k : Book) → inserted-row n p x k .r ≡ k .r
+unfolding inserted-row
+row-r zero p x k = refl
+row-r (suc n) p x k = row-r n (suc p) (suc x) (inserted p x k) ∙ inserted-r p x k
+
+one-higher : (t : Bool) (h : ℕ) → suc (cond t (suc h) h) ≡ cond t (suc (suc h)) (suc h)
+one-higher true h = refl
+one-higher false h = refl
+
+height-inserted : (p x : ℕ) (k : Book) → height (inserted p x k) ≡ raised (k .s) (k .r) (suc (size (k .root))) (height k)
+unfolding raised root-full
+height-inserted p x k = ap suc (inserted-under p x k) ∙ one-higher (root-full k) (k .under)
+
+height-row : (n p x : ℕ) (k : Book) → Sane k → p ≤ size (k .root) →
+    height (inserted-row n p x k) ≡ raised-by (k .s) (k .r) n (size (k .root)) (height k)
+unfolding inserted-row raised-by
+height-row zero p x k h l = refl
+height-row (suc n) p x k h l =
+    let grown = size-inserted p x k h l in
+    height-row n (suc p) (suc x) (inserted p x k) (sane-inserted p x k h l) (omega arith)
+    ∙ rw (inserted-s p x k, inserted-r p x k, grown, height-inserted p x k)
+
+-- A STORE BESIDE THE REFERENCE LIST, where t tags were moved together
+pub record Follows (st : Store) (a : Reference) (t : ℕ) : Type 0 where
+  pub is-sound : sound st ≡ true
+  pub tags : row st ≡ a .row
+  pub degree-s : st .book .s ≡ a .s
+  pub degree-r : st .book .r ≡ a .r
+  pub levels : height (st .book) ≡ a .height
+  pub account : Account (a .n0) (a .m) t (st .book)
+
+-- such a store is kept
+pub kept-of : {st : Store} {a : Reference} {t : ℕ} → Follows st a t → Kept st a t
+unfolding Labels-rise power-width base
+kept-of {st} {a} {t} f =
+    let k = st .book in
+    let under : a .height - 1 ≡ k .under = omega (arith, f .levels) in
+    record {
+      tags = f .tags;
+      degree-s = f .degree-s;
+      degree-r = f .degree-r;
+      levels = f .levels;
+      rise = rw (← f .degree-s, ← f .degree-r, ← f .levels) (labels-rise (width st) k (power-widths (k .s) (k .r)) (f .account .sane));
+      few-moved = rw (← f .degree-s, ← f .degree-r, under) (account-few (f .account));
+      low = λ l. rw (← f .degree-r, under) (account-low (f .account) (omega (arith, f .levels)));
+    }
+
+-- LOAD: a store begins beside its reference list, whatever was before
+started : (w s r b : ℕ) (ks : List ℕ) → load-refusal w s r ks ≡ 0 → b < word-limit →
+    Follows (load-store s r b ks) (reference-load s r (length ks)) 0
+unfolding Load-sound load-store reference-load loaded
+started w s r b ks e fit =
+    let degrees = accepted-load w s r ks e .degrees in
+    record {
+      is-sound = load-sound w s r b ks e fit;
+      tags = tags-loaded s r (length ks) (degrees .r-least);
+      degree-s = refl;
+      degree-r = refl;
+      levels = refl;
+      account = account-loaded s r (length ks) (degrees .s-least) (degrees .r-least);
+    }
+
+-- INSERTION of a row of kinds into a store beside its reference list
+module _ (w y : ℕ) (ks : List Kind) {st : Store} {a : Reference} {t : ℕ} (f : Follows st a t) (e : row-refusal w ks y st ≡ 0) where
+  inserted-beside : sound (insert-store ks y st) ≡ true → Follows (insert-store ks y st) (reference-insert (length ks) y a) (t + insert-moved ks y st)
+  unfolding insert-store book-after insert-moved reference-insert position reference-position
+  inserted-beside good =
+      let k = st .book in
+      let h = facts-of st (f .is-sound) in
+      let n = length ks in
+      let p = position y st in
+      let fits = position-fits w ks y st h (accepted-row w ks y st e) in
+      record {
+        is-sound = good;
+        tags = rw (← f .tags, h .as-many) (tags-inserted-row n p (count st) k (f .account .sane) fits);
+        degree-s = row-s n p (count st) k ∙ f .degree-s;
+        degree-r = row-r n p (count st) k ∙ f .degree-r;
+        levels = rw (← f .degree-s, ← f .degree-r, ← f .levels, ← f .tags) (height-row n p (count st) k (f .account .sane) fits);
+        account = account-row n p (count st) k (power-widths (k .s) (k .r)) fits (sym (h .as-many)) (h .each) (f .account);
+      }
+
+-- ONE CALL and every list of calls
+-- accepted
+follows-changed : (w : ℕ) (c : Call) {st : Store} {a : Reference} {t : ℕ} → Fits c → Follows st a t → refusal w c st ≡ 0 → sound (changed c st) ≡ true →
+    Follows (changed c st) (reference-call c a) (moved-by c st t)
+unfolding Fits refusal changed reference-call moved-by mark-store
+follows-changed w (load s r b ks) fit f e good = started w s r b ks e fit
+follows-changed w (insert c y) {st} fit f e good = inserted-beside w y (insert-kinds c) f (insert-passed w c y st e) good
+follows-changed w (mark x) fit f e good =
+    record {
+      is-sound = good;
+      tags = f .tags;
+      degree-s = f .degree-s;
+      degree-r = f .degree-r;
+      levels = f .levels;
+      account = f .account;
+    }
+
+-- accepted or refused
+follows-one : (w : ℕ) (c : Call) {st : Store} {a : Reference} {t : ℕ} → Fits c → Follows st a t →
+    Follows (after-one w c st) (reference-told (record { call = c; accepted = accepts w c st }) a) (cond (accepts w c st) (moved-by c st t) t)
+unfolding after-one reference-told accepts
+follows-one w c {st} fit f =
+    by-test (eqb (refusal w c st) 0)
+    (λ e. let zero′ = eqb-true _ _ e in rw e (follows-changed w c fit f zero′ (changed-sound w c st fit (f .is-sound) zero′)))
+    (λ e. rw e f)
+
+follows-all : (w : ℕ) (cs : List Call) {st : Store} {a : Reference} {t : ℕ} → All-fit cs → Follows st a t →
+    Follows (after w cs st) (reference-after (judged w cs st) a) (moved-after w cs st t)
+unfolding All-fit after reference-after judged moved-after
+follows-all w [] fit f = f
+follows-all w (c ∷ cs) fit f = follows-all w cs (fit .1) (follows-one w c (fit .0) f)
+
+-- THE THIRD DEMAND, on stores
+pub lists-keep : Lists-keep
+unfolding Lists-keep All-fit Fits
+lists-keep w s r b ks cs h = kept-of (follows-all w cs (h .fit .1) (started w s r b ks (h .accepted) (h .fit .0)))

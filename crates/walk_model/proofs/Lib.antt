@@ -1,0 +1,13 @@
+pub mod Spine
+pub mod Sound
+pub mod Complete
+pub mod Levels
+pub mod Passes
+pub mod Shapes
+pub mod KindPass
+pub mod Counts
+pub mod Links
+pub mod Rebuilt
+pub mod Found
+pub mod WalkRight
+pub mod Decides

@@ -1,0 +1,121 @@
+-- The header's test as facts, and that the walk's tables are right where it is passed. Assumes nothing.
+use mathlib.Core.Path.{_≡_, refl, ap, _∙_}
+use mathlib.Core.Bool.{true, _&&_, _||_}
+use mathlib.Core.List.{List}
+use Prim.Native.Nat.{ℕ, zero, suc, pred, _*_, _-_, _^_, _≤_, _<_}
+use native.Mathlib.Nat.{one-mul, mul-one, mul-assoc, pow-zero, pow-succ', pow-le-pow-left, pow-le-pow-right, mul-le-mul, lt-of-not-le, not-suc-le-zero, le-of-suc-le-suc}
+use native.Mathlib.Omega.{arith}
+use borrow.Author.Tests.{ltb-true, leb-true, eqb-true, lt-ltb, le-leb}
+use lib.Dec.{ltb, leb, eqb, eqb·suc-suc}
+use lib.ListN.{length, getD, replicate, length-append, length-replicate, List·getD-append}
+use Rattle.store_types.specs.Limits.{header-words, most-tags, label-limit}
+use Rattle.tree.specs.Book.{base, power-width}
+use Rattle.tree_laws.proofs.Good.{and-left, and-right, and-both}
+use Rattle.calls.specs.Words.{word-at}
+use Rattle.calls.specs.Load.{words-for}
+use Rattle.calls.specs.Sound.{degrees-fit}
+use Rattle.calls_laws.proofs.Tests.{Degrees, degrees-of, degrees-test}
+use Rattle.walk_model.specs.Levels.{entry}
+use Rattle.walk_model.specs.Walk.{header-passes, powers, table, shape-of}
+use Rattle.walk_model.specs.Promise.{Tables-right}
+use Rattle.walk_model.proofs.Passes.{four}
+
+-- POWERS in a table
+length-powers : (v b m : ℕ) → length (powers v b m) ≡ m
+unfolding powers
+length-powers v b zero = refl
+length-powers v b (suc m) = ap suc (length-powers (v * b) b m)
+
+power-at : (v b m i : ℕ) → i < m → getD (powers v b m) i 0 ≡ v * b ^ i
+unfolding powers
+power-at v b zero i l = absurd (not-suc-le-zero l)
+power-at v b (suc m) zero l = rw (pow-zero, mul-one)
+power-at v b (suc m) (suc i) l = power-at (v * b) b m i (le-of-suc-le-suc l) ∙ rw (pow-succ', mul-assoc)
+
+table-at : (v b top h : ℕ) → h ≤ top → entry (table v b top) h ≡ v * b ^ h
+unfolding table
+table-at v b top h l =
+    List·getD-append (powers v b (suc top)) (replicate (23 - top) 0) 0 h (omega (arith, length-powers v b (suc top)))
+    ∙ power-at v b (suc top) h (omega arith)
+
+length-table : (v b top : ℕ) → top < 24 → length (table v b top) ≡ 24
+unfolding table
+length-table v b top l =
+    length-append (powers v b (suc top)) (replicate (23 - top) 0)
+    ∙ omega (arith, length-powers v b (suc top), length-replicate {A = ℕ} (23 - top) 0)
+
+-- three to the 24th passes the limit of labels, so that no table is too short
+low-enough : (b h : ℕ) → 3 ≤ b → b ^ h ≤ label-limit → h < 24
+low-enough b h l fits =
+    lt-of-not-le λ high.
+    let three : 3 ^ 24 ≤ 3 ^ h = pow-le-pow-right (omega arith) high in
+    let more : 3 ^ h ≤ b ^ h = pow-le-pow-left l h in
+    omega arith
+
+-- THE HEADER'S FACTS, where the root's children have height u, and its test both ways
+pub record Header (ws : List ℕ) (s r u n : ℕ) : Type 0 where
+  pub version : word-at ws 0 ≡ 1
+  pub degree-s : word-at ws 1 ≡ s
+  pub degree-r : word-at ws 2 ≡ r
+  pub levels : word-at ws 3 ≡ suc u
+  pub issued : word-at ws 4 ≡ n
+  pub degrees : Degrees s r
+  pub few : n ≤ most-tags
+  pub room : words-for n ≤ length ws
+  pub labels-fit : power-width s r (suc u) ≤ label-limit
+  pub below : n < s * r ^ suc u
+  pub least : (eqb u 0 || leb (2 * r ^ u) n) ≡ true
+
+pub header-facts : (ws : List ℕ) → header-passes ws ≡ true → Header ws (word-at ws 1) (word-at ws 2) (pred (word-at ws 3)) (word-at ws 4)
+unfolding header-passes
+header-facts ws e =
+    let s = word-at ws 1 in
+    let r = word-at ws 2 in
+    let h = word-at ws 3 in
+    let n = word-at ws 4 in
+    let version = eqb (word-at ws 0) 1 in
+    let few = leb n most-tags in
+    let room = leb (words-for n) (length ws) in
+    let labels = leb (power-width s r h) label-limit in
+    let below = ltb n (s * r ^ h) in
+    let least = eqb h 1 || leb (2 * r ^ pred h) n in
+    let f =
+    four (leb header-words (length ws) && version) (degrees-fit s r && leb 1 h) (few && room) (labels && (below && least)) e in
+    let tree = and-right labels (below && least) (f .fourth) in
+    let levels : h ≡ suc (pred h) = omega (arith, leb-true 1 h (and-right (degrees-fit s r) (leb 1 h) (f .second))) in
+    record {
+      version = eqb-true _ _ (and-right (leb header-words (length ws)) version (f .first));
+      degree-s = refl;
+      degree-r = refl;
+      levels = levels;
+      issued = refl;
+      degrees = degrees-of s r (and-left (degrees-fit s r) (leb 1 h) (f .second));
+      few = leb-true _ _ (and-left few room (f .third));
+      room = leb-true _ _ (and-right few room (f .third));
+      labels-fit = rw (← levels) (leb-true _ _ (and-left labels (below && least) (f .fourth)));
+      below = rw (← levels) (ltb-true _ _ (and-left below least tree));
+      least = rw (← eqb·suc-suc (pred h) 0, ← levels) (and-right below least tree);
+    }
+
+pub header-test : {ws : List ℕ} {s r u n : ℕ} → Header ws s r u n → header-passes ws ≡ true
+unfolding header-passes words-for
+header-test {ws} {s} {r} {u} {n} h =
+    let head : header-words ≤ length ws = omega (arith, h .room) in
+    rw (h .version, h .degree-s, h .degree-r, h .levels, h .issued, eqb·suc-suc u 0)
+    (and-both (and-both (and-both (le-leb _ _ head) refl) (and-both (degrees-test s r (h .degrees)) (le-leb 1 (suc u) (omega arith))))
+    (and-both (and-both (le-leb _ _ (h .few)) (le-leb _ _ (h .room)))
+    (and-both (le-leb _ _ (h .labels-fit)) (and-both (lt-ltb _ _ (h .below)) (h .least)))))
+
+-- THE TABLES of such a header
+pub tables-right : {ws : List ℕ} {s r u n : ℕ} → Header ws s r u n → Tables-right s r (power-width s r) (suc u) (shape-of ws .tables)
+unfolding shape-of power-width base
+tables-right {ws} {s} {r} {u} {n} h =
+    let least : 3 ≤ s * r - 1 = omega (arith, mul-le-mul (h .degrees .s-least) (h .degrees .r-least)) in
+    let low = low-enough (s * r - 1) (suc u) least (h .labels-fit) in
+    rw (h .degree-s, h .degree-r, h .levels) (record {
+      top-fits = low;
+      long = length-table 1 (s * r - 1) (suc u) low;
+      widths = λ j l. table-at 1 (s * r - 1) (suc u) j l ∙ one-mul ((s * r - 1) ^ j);
+      lows = λ j l. table-at 1 r (suc u) j l ∙ one-mul (r ^ j);
+      highs = table-at s r (suc u);
+    })

@@ -1,0 +1,138 @@
+-- The walk decides whether words say a store, if labels decide whether a tree has them (Levels-right).
+-- Assumes nothing more.
+use mathlib.Core.Path.{_≡_, refl, ap, sym, _∙_}
+use mathlib.Core.Bool.{true, _&&_, _||_}
+use mathlib.Core.List.{List, map}
+use mathlib.Core.Logic.{_↔_}
+use Prim.Native.Nat.{ℕ, zero, suc, pred, _*_, _^_, _≤_, _<_}
+use native.Mathlib.Nat.{one-le-pow}
+use native.Mathlib.Omega.{arith}
+use borrow.Author.Tests.{ltb-true, leb-true, ne-eqb}
+use lib.Dec.{ltb, leb, eqb}
+use lib.ListN.{length, length-map}
+use Rattle.store_types.specs.Limits.{word-limit}
+use Rattle.tree.specs.Forest.{Forest, leaves, size, labels, within-limits}
+use Rattle.tree.specs.Book.{power-width, height, root-within, book-within}
+use Rattle.tree_laws.proofs.Good.{Good, good-of, and-left, and-right, and-both}
+use Rattle.tree_laws.proofs.Rows.{distinct-all-below}
+use Rattle.tree_laws.proofs.Labels.{power-widths}
+use Rattle.calls.specs.Store.{Store, count, row}
+use Rattle.calls.specs.Words.{Says, word-at, field, follow, label-field}
+use Rattle.calls_laws.proofs.Tests.{Sound, facts-of}
+use Rattle.calls_laws.proofs.Fields.{Tag-says, tag-says}
+use Rattle.calls_laws.proofs.WordSteps.{words-fit, header-said, labels-said}
+use Rattle.walk_model.specs.Levels.{start-levels, labels-pass}
+use Rattle.walk_model.specs.Walk.{header-passes, shape-of, start, walk, words-pass}
+use Rattle.walk_model.specs.Promise.{Levels-right, Walk-right}
+use Rattle.walk_model.proofs.Levels.{levels-right}
+use Rattle.walk_model.proofs.Passes.{Walked, walked, walks}
+use Rattle.walk_model.proofs.Shapes.{Header, header-facts, header-test, tables-right}
+use Rattle.walk_model.proofs.Links.{linked}
+use Rattle.walk_model.proofs.KindPass.{kinds-same}
+use Rattle.walk_model.proofs.Counts.{marks-same}
+use Rattle.walk_model.proofs.Found.{found, found-said}
+
+-- a root whose children are nodes has a tag
+some-tag : {ws : List ℕ} {s r u n : ℕ} → Header ws s r u n → (u ≡ 0 → ⊥) → 1 ≤ n
+some-tag {ws} {s} {r} {u} {n} h high =
+    omega (arith, leb-true (2 * r ^ u) n (rw (ne-eqb u 0 high) at (h .least)), one-le-pow u r (omega (arith, h .degrees .r-least)))
+
+-- LABELS along a row of n tags
+row-labels : Levels-right → {ws : List ℕ} {s r u n : ℕ} → Header ws s r u n → (xs : List ℕ) → length xs ≡ n →
+    (labels-pass (shape-of ws .tables) u 0 0 (start-levels (shape-of ws .tables)) (map (label-field ws) xs) ≡ true)
+    ↔ ((f : Forest) × Good s r f u × (leaves f ≡ xs) × (labels f (power-width s r) u 0 ≡ map (label-field ws) xs))
+unfolding Levels-right
+row-labels levels {ws} {s} {r} {u} {n} h xs l =
+    let many : length (map (label-field ws) xs) ≡ n = length-map xs (label-field ws) ∙ l in
+    levels s r (power-width s r) (shape-of ws .tables) u xs (map (label-field ws) xs) (h .degrees .s-least) (h .degrees .r-least) (power-widths s r)
+    (tables-right h) (l ∙ sym many) (rw many (h .below)) (rw many (some-tag h))
+
+length-follow : (n : ℕ) (ws : List ℕ) (x : ℕ) → length (follow n ws x) ≡ n
+unfolding follow
+length-follow zero ws x = refl
+length-follow (suc n) ws x = ap suc (length-follow n ws (field ws x 1))
+
+-- WORDS THAT PASS say a store
+passed-said : Levels-right → (ws : List ℕ) → word-at ws 6 < word-limit → words-pass ws ≡ true → (st : Store) × Says ws st
+unfolding words-pass shape-of start start-levels
+passed-said levels ws number e =
+    let rest = walk ws (shape-of ws) (word-at ws 4) 0 (start ws) in
+    let h = header-facts ws (and-left (header-passes ws) rest e) in
+    let w = walked ws (shape-of ws) (word-at ws 4) 0 (start ws) (omega arith) (and-right (header-passes ws) rest e) in
+    let xs = follow (word-at ws 4) ws (word-at ws 5) in
+    let long = length-follow (word-at ws 4) ws (word-at ws 5) in
+    let (f, good, same, labels-are) = row-labels levels h xs long .0 (w .labels) in (
+      found ws (word-at ws 1) (word-at ws 2) (pred (word-at ws 3)) (word-at ws 4) f,
+      found-said ws h f good (ap length same ∙ long) (rw same (w .links)) (rw same labels-are) (rw same (w .kinds)) number (rw same (omega (arith, w .stamp))),
+    )
+
+-- WORDS THAT SAY A STORE pass
+module _ (ws : List ℕ) (st : Store) (h : Says ws st) where
+  given : Sound st
+  unfolding Says
+  given = facts-of st (h .0)
+
+  says : (x : ℕ) → x < count st → Tag-says ws st x
+  unfolding Says
+  says x l = rw (h .1 .1) (tag-says st (h .1 .0) x l)
+
+  -- its header's facts, its tree's limits, and the passes along its row
+  facts : Header ws (st .book .s) (st .book .r) (st .book .under) (count st)
+  unfolding book-within root-within
+  facts =
+      let k = st .book in
+      let head = header-said ws st h in
+      let below = ltb (size (k .root)) (k .s * k .r ^ height k) in
+      let least = eqb (k .under) 0 || leb (2 * k .r ^ k .under) (size (k .root)) in
+      let root = and-left (below && least) (within-limits (k .root) (k .s) (k .r) (k .under)) (given .within) in
+      record {
+        version = head .version;
+        degree-s = head .degree-s;
+        degree-r = head .degree-r;
+        levels = head .levels;
+        issued = head .issued;
+        degrees = given .degrees;
+        few = given .few;
+        room = words-fit ws st h;
+        labels-fit = given .labels-fit;
+        below = rw (← given .as-many) (ltb-true _ _ (and-left below least root));
+        least = rw (← given .as-many) (and-right below least root);
+      }
+
+  good : Good (st .book .s) (st .book .r) (st .book .root) (st .book .under)
+  unfolding book-within
+  good =
+      let k = st .book in
+      let nodes = within-limits (k .root) (k .s) (k .r) (k .under) in
+      good-of (k .s) (k .r) (k .root) (k .under) (and-right (root-within k) nodes (given .within))
+
+  row-walked : Levels-right → Walked ws (shape-of ws) 0 (start ws) (row st)
+  unfolding shape-of start start-levels
+  row-walked levels =
+      let (once, below) = distinct-all-below (count st) (row st) (given .each) (given .as-many) in
+      let head = header-said ws st h in
+      let under : pred (word-at ws 3) ≡ st .book .under = ap pred (head .levels) in
+      let marks = marks-same ws st says (row st) once below (given .as-many) in
+      record {
+        links = rw (head .issued, head .first)
+            (linked ws (count st) (row st) once below (λ x l. says x l .next-word) (λ x l. says x l .prior-word));
+        labels = rw under
+            (row-labels levels facts (row st) (given .as-many) .1 (st .book .root, good, refl, sym (labels-said ws st h)));
+        kinds = rw (head .issued, kinds-same ws st (given .few) says (row st) below) (given .nesting);
+        stamp = rw (head .issued, head .stamp, marks) (omega (arith, given .stamp-fits));
+      }
+
+  said-passes : Levels-right → words-pass ws ≡ true
+  unfolding words-pass shape-of
+  said-passes levels =
+      let many : length (row st) ≡ word-at ws 4 = given .as-many ∙ sym (header-said ws st h .issued) in
+      let along = walks ws (shape-of ws) (row st) 0 (start ws) (omega (arith, many)) (row-walked levels) in
+      and-both (header-test facts) (rw many at along)
+
+-- words pass if and only if they say a store
+pub walk-right-from : Levels-right → Walk-right
+unfolding Walk-right
+walk-right-from levels ws number = (passed-said levels ws number, λ h. said-passes ws (h .0) (h .1) levels)
+
+pub walk-right : Walk-right
+walk-right = walk-right-from levels-right

@@ -1,0 +1,34 @@
+-- What the walk decides. Each statement is a type, proved in proofs/. Assumes nothing.
+use mathlib.Core.Path.{_≡_}
+use mathlib.Core.Bool.{true}
+use mathlib.Core.List.{List}
+use mathlib.Core.Logic.{_↔_}
+use Prim.Native.Nat.{ℕ, suc, _*_, _^_, _≤_, _<_}
+use lib.ListN.{length}
+use Rattle.store_types.specs.Limits.{word-limit}
+use Rattle.tree.specs.Forest.{Forest, leaves, labels}
+use Rattle.tree.specs.Promise.{Widths}
+use Rattle.tree_laws.proofs.Good.{Good}
+use Rattle.calls.specs.Store.{Store}
+use Rattle.calls.specs.Words.{Says, word-at}
+use Rattle.walk_model.specs.Levels.{Tables, entry, start-levels, labels-pass}
+use Rattle.walk_model.specs.Walk.{words-pass}
+
+-- tables that are right up to height H
+pub record Tables-right (s r : ℕ) (w : ℕ → ℕ) (top : ℕ) (t : Tables) : Type 0 where
+  pub top-fits : top < 24
+  pub long : length (t .widths) ≡ 24
+  pub widths : (h : ℕ) → h ≤ top → entry (t .widths) h ≡ w h
+  pub lows : (h : ℕ) → h ≤ top → entry (t .lows) h ≡ r ^ h
+  pub highs : (h : ℕ) → h ≤ top → entry (t .highs) h ≡ s * r ^ h
+
+-- labels pass if and only if a tree within its limits has them, whatever its tags
+unfoldable pub Levels-right : Type 0
+Levels-right =
+    (s r : ℕ) (w : ℕ → ℕ) (t : Tables) (under : ℕ) (xs ls : List ℕ) → 2 ≤ s → 2 ≤ r → Widths s r w → Tables-right s r w (suc under) t →
+    length xs ≡ length ls → length ls < s * r ^ suc under → ((under ≡ 0 → ⊥) → 1 ≤ length ls) →
+    (labels-pass t under 0 0 (start-levels t) ls ≡ true) ↔ ((f : Forest) × Good s r f under × (leaves f ≡ xs) × (labels f w under 0 ≡ ls))
+
+-- words pass if and only if they say a store; the book number is a word, as all that a slice of words holds
+unfoldable pub Walk-right : Type 0
+Walk-right = (ws : List ℕ) → word-at ws 6 < word-limit → (words-pass ws ≡ true) ↔ ((st : Store) × Says ws st)

@@ -1,0 +1,123 @@
+-- The soundness walk over words: the header, then one pass along next. Follows the code of crate walk.
+-- Assumes nothing: these are definitions.
+use mathlib.Core.Bool.{Bool, true, false, _&&_, _||_, not, cond}
+use mathlib.Core.List.{List, [], _∷_, _++_}
+use Prim.Native.Nat.{ℕ, zero, suc, pred, _+_, _*_, _-_, _^_, _%_}
+use lib.Dec.{ltb, leb, eqb}
+use lib.ListN.{length, getD, replicate}
+use Rattle.store_types.specs.Limits.{no-tag, header-words, most-tags, label-limit}
+use Rattle.tree.specs.Book.{power-width}
+use Rattle.calls.specs.Sound.{degrees-fit}
+use Rattle.calls.specs.Load.{words-for}
+use Rattle.calls.specs.Words.{word-at, field}
+use Rattle.walk_model.specs.Levels.{Tables, Levels, Settled, entry, start-levels, place-label, all-close}
+
+-- ONE TAG x of kind word c, where o is the innermost open begin or no tag
+unfoldable pub marked-word : List ℕ → (tag : ℕ) → Bool
+marked-word ws o = not (eqb o no-tag) && leb 16 (field ws o 5)
+
+-- the up of a begin or text is o, and it is marked if o is
+unfoldable pub inner-fits : List ℕ → (o x c : ℕ) → Bool
+inner-fits ws o x c = eqb (field ws x 4) o && (leb 16 c || not (marked-word ws o))
+
+-- an end and o are each other's mates, and have the same up and mark; the up is no tag or a tag
+unfoldable pub end-fits : List ℕ → (n o x c : ℕ) → Bool
+end-fits ws n o x c =
+    (not (eqb o no-tag) && (eqb (field ws x 3) o && eqb (field ws o 3) x))
+    && ((eqb (field ws x 4) (field ws o 4) && eqb (c - 1) (field ws o 5)) && (eqb (field ws x 4) no-tag || ltb (field ws x 4) n))
+
+unfoldable pub kind-fits : List ℕ → (n o x c : ℕ) → Bool
+kind-fits ws n o x c =
+    cond (leb 32 c) false
+    (cond (eqb (c % 16) 3) (eqb (field ws x 3) x && inner-fits ws o x c)
+    (cond (eqb (c % 16) 1) (inner-fits ws o x c) (cond (eqb (c % 16) 2) (end-fits ws n o x c) false)))
+
+-- the innermost open begin behind it
+unfoldable pub open-after : List ℕ → (o x c : ℕ) → ℕ
+open-after ws o x c = cond (eqb (c % 16) 3) o (cond (eqb (c % 16) 1) x (field ws x 4))
+
+-- THE PASS: the next tag, the one before it, the innermost open begin, marked tags so far, the next child's label, levels
+pub record State : Type 0 where
+  pub tag : ℕ
+  pub prior : ℕ
+  pub open-begin : ℕ
+  pub marks : ℕ
+  pub expect : ℕ
+  pub levels : Levels
+
+pub record Shape : Type 0 where
+  pub tables : Tables
+  pub under : ℕ
+  pub n : ℕ
+
+unfoldable pub placed : List ℕ → Shape → (i : ℕ) → State → Settled
+placed ws k i v = place-label (k .tables) (k .under) (v .expect) (field ws (v .tag) 0) i (v .levels)
+
+unfoldable pub tag-passes : List ℕ → Shape → (i : ℕ) → State → Bool
+tag-passes ws k i v =
+    (ltb (v .tag) (k .n) && placed ws k i v .ok)
+    && (eqb (field ws (v .tag) 2) (v .prior) && kind-fits ws (k .n) (v .open-begin) (v .tag) (field ws (v .tag) 5))
+
+unfoldable pub passed : List ℕ → Shape → (i : ℕ) → State → State
+passed ws k i v =
+    let x = v .tag in
+    let c = field ws x 5 in
+    record {
+      tag = field ws x 1;
+      prior = x;
+      open-begin = open-after ws (v .open-begin) x c;
+      marks = v .marks + cond (leb 16 c) 1 0;
+      expect = field ws x 0 + entry (k .tables .widths) 0;
+      levels = placed ws k i v .levels;
+    }
+
+-- at the end: no tag follows, none is open, every node is within its limits, and the stamp is
+unfoldable pub ends-well : List ℕ → Shape → State → Bool
+ends-well ws k v =
+    (eqb (v .tag) no-tag && eqb (v .open-begin) no-tag)
+    && (all-close (k .tables) (k .under) 1 (k .n) (v .levels) && leb (word-at ws 7) (k .n + v .marks))
+
+unfoldable pub walk : List ℕ → Shape → (left i : ℕ) → State → Bool
+walk ws k zero i v = ends-well ws k v
+walk ws k (suc m) i v = let rest = walk ws k m (suc i) (passed ws k i v) in tag-passes ws k i v && rest
+
+-- THE HEADER, before any tag is read
+unfoldable pub header-passes : List ℕ → Bool
+header-passes ws =
+    let s = word-at ws 1 in
+    let r = word-at ws 2 in
+    let h = word-at ws 3 in
+    let n = word-at ws 4 in
+    ((leb header-words (length ws) && eqb (word-at ws 0) 1) && (degrees-fit s r && leb 1 h))
+    && ((leb n most-tags && leb (words-for n) (length ws))
+    && (leb (power-width s r h) label-limit && (ltb n (s * r ^ h) && (eqb h 1 || leb (2 * r ^ pred h) n))))
+
+-- v, v times b, .. : count numbers; and a table of 24 entries, of which those up to a height are used
+-- (b^21 is over 2^32 for every b, so that no sound store is as high as 21)
+unfoldable pub powers : (v b count : ℕ) → List ℕ
+powers v b zero = []
+powers v b (suc m) = v ∷ powers (v * b) b m
+
+unfoldable pub table : (v b top : ℕ) → List ℕ
+table v b top = powers v b (suc top) ++ replicate (23 - top) 0
+
+unfoldable pub shape-of : List ℕ → Shape
+shape-of ws =
+    let s = word-at ws 1 in
+    let r = word-at ws 2 in
+    let h = word-at ws 3 in
+    record { tables = record { widths = table 1 (s * r - 1) h; lows = table 1 r h; highs = table s r h }; under = pred h; n = word-at ws 4 }
+
+unfoldable pub start : List ℕ → State
+start ws =
+    record {
+      tag = word-at ws 5;
+      prior = no-tag;
+      open-begin = no-tag;
+      marks = 0;
+      expect = 0;
+      levels = record { ends = shape-of ws .tables .widths; firsts = replicate 24 0 };
+    }
+
+unfoldable pub words-pass : List ℕ → Bool
+words-pass ws = let rest = walk ws (shape-of ws) (word-at ws 4) 0 (start ws) in header-passes ws && rest
