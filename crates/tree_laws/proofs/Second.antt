@@ -61,7 +61,7 @@ module _ {s r : ℕ} (s-least : 2 ≤ s) (r-least : 2 ≤ r) where
       go (below l n) onward inside = height-below g c s r (suc j) q l n ∙ inside
 
   -- nor where they stand before other trees
-  unsplit-joined : (c f : Forest) (j q : ℕ) → Complete r c j → 1 ≤ q → q ≤ size c → split-height (joined c f) s r j q ≡ 0
+  pub unsplit-joined : (c f : Forest) (j q : ℕ) → Complete r c j → 1 ≤ q → q ≤ size c → split-height (joined c f) s r j q ≡ 0
   unfolding split-height joined leaves
   unsplit-joined nil f j q k low high = absurd (omega arith)
   unsplit-joined (leaf z c) f j q k low high = refl
@@ -123,7 +123,7 @@ module _ {s r : ℕ} (s-least : 2 ≤ s) (r-least : 2 ≤ r) where
 
 -- and in a book
 module _ (p x y h : ℕ) (k : Book) (sane : Sane k) (fits : p ≤ size (k .root)) where
-  unsplit-root : root-full k ≡ true → split-of (suc p) (inserted p x k) ≡ 0
+  pub unsplit-root : root-full k ≡ true → split-of (suc p) (inserted p x k) ≡ 0
   unfolding root-split
   unsplit-root t =
       let m = root-split p x k in
@@ -164,7 +164,7 @@ module _ (p x y h : ℕ) (k : Book) (sane : Sane k) (fits : p ≤ size (k .root)
       (λ t. rw (inserted-inside p k x t) (second-inside (rw (inserted-inside p k x t) at e)))
 
 -- WHERE ANCESTORS END: how many leaves stand left of, and under, the tree of height h that p goes into
-abbrev end-in : Forest → (j h p : ℕ) → ℕ
+abbrev pub end-in : Forest → (j h p : ℕ) → ℕ
 end-in f j h p = left-in f j h p + size-in f j h p
 
 module _ (g f : Forest) (j h p : ℕ) where
@@ -177,7 +177,7 @@ module _ (g f : Forest) (j h p : ℕ) where
   end-inside : p ≤ size g → (j ≡ h → ⊥) → end-in (node g f) j h p ≡ end-in g (pred j) h p
   end-inside l n = omega (arith, at-inside g f (λ i. 0) j h p 0 l n .1, at-inside g f (λ i. 0) j h p 0 l n .2)
 
-end-most : (f : Forest) (j h p : ℕ) → p ≤ size f → end-in f j h p ≤ size f
+pub end-most : (f : Forest) (j h p : ℕ) → p ≤ size f → end-in f j h p ≤ size f
 unfolding left-in size-in leaves
 end-most nil j h p fits = omega arith
 end-most (leaf z f) j h p fits = omega arith
@@ -189,7 +189,7 @@ end-most (node g f) j h p fits =
     (λ l n. omega (arith, end-inside g f j h p l n, end-most g (pred j) h p l))
 
 -- a higher one ends no sooner
-end-higher : (f : Forest) (j h i p : ℕ) → h ≤ i → i ≤ j → p ≤ size f → end-in f j h p ≤ end-in f j i p
+pub end-higher : (f : Forest) (j h i p : ℕ) → h ≤ i → i ≤ j → p ≤ size f → end-in f j h p ≤ end-in f j i p
 unfolding left-in size-in leaves
 end-higher nil j h i p low high fits = omega arith
 end-higher (leaf z f) j h i p low high fits = omega arith

@@ -1,0 +1,46 @@
+-- The row of an image by its words: what stands at each place, and what stands along next. Assumes nothing.
+use mathlib.Core.Path.{_≡_, refl, _∙_}
+use mathlib.Core.List.{List, _∷_, _++_}
+use Prim.Native.Nat.{ℕ, zero, suc, _+_, _≤_, _<_}
+use native.Mathlib.Nat.{add-zero, add-suc, suc-add}
+use native.Mathlib.Omega.{arith}
+use lib.ListN.{length, getD, take, drop}
+use lib.Seq.{drop-cons}
+use Rattle.store_types.specs.Limits.{no-tag}
+use Rattle.tree_laws.proofs.Rows.{place-getD}
+use Rattle.calls.specs.Store.{next-in, prior-in}
+use Rattle.calls.specs.Words.{field, follow}
+use Rattle.edit_model.specs.Image.{Image, image-words}
+use Rattle.edit_model.specs.Relabel.{along}
+use Rattle.edit_model.proofs.Image.{Proper, distinct-tags, tag-below, record-says}
+
+module _ {v : Image} (h : Proper v) (rest : List ℕ) where
+  -- AT A PLACE: the label, the tag behind and the tag before
+  module _ (i d : ℕ) (inside : i < length (v .tags)) where
+    pub label-at : field (image-words v ++ rest) (getD (v .tags) i d) 0 ≡ getD (v .labels) i 0
+    label-at =
+        record-says v rest (getD (v .tags) i d) (tag-below h i d inside) .label-word ∙ rw (place-getD (v .tags) i d (distinct-tags h) inside)
+
+    pub next-at : field (image-words v ++ rest) (getD (v .tags) i d) 1 ≡ getD (v .tags) (suc i) no-tag
+    unfolding next-in
+    next-at =
+        record-says v rest (getD (v .tags) i d) (tag-below h i d inside) .next-word ∙ rw (place-getD (v .tags) i d (distinct-tags h) inside)
+
+    pub prior-at : field (image-words v ++ rest) (getD (v .tags) i d) 2 ≡ getD (no-tag ∷ v .tags) i no-tag
+    unfolding prior-in
+    prior-at =
+        record-says v rest (getD (v .tags) i d) (tag-below h i d inside) .prior-word ∙ rw (place-getD (v .tags) i d (distinct-tags h) inside)
+
+  -- ALONG NEXT from a place: so many tags, and the one behind them
+  pub follow-at : (k i : ℕ) → i + k ≤ length (v .tags) → follow k (image-words v ++ rest) (getD (v .tags) i no-tag) ≡ take k (drop i (v .tags))
+  unfolding follow
+  follow-at zero i l = refl
+  follow-at (suc k) i l =
+      let inside : i < length (v .tags) = omega arith in
+      rw (next-at i no-tag inside, follow-at k (suc i) (omega arith), drop-cons (v .tags) i no-tag inside)
+
+  pub along-at : (k i : ℕ) → i + k ≤ length (v .tags) → along k (image-words v ++ rest) (getD (v .tags) i no-tag) ≡ getD (v .tags) (i + k) no-tag
+  unfolding along
+  along-at zero i l = rw add-zero
+  along-at (suc k) i l =
+      rw (next-at i no-tag (omega arith), along-at k (suc i) (omega arith), suc-add, add-suc)

@@ -1,0 +1,9 @@
+pub mod Fields
+pub mod Image
+pub mod Along
+pub mod Differ
+pub mod Relabels
+pub mod Moves
+pub mod Numbers
+pub mod Spans
+pub mod Splits

@@ -1,0 +1,214 @@
+-- Labels written along the row of an image: its words afterwards, and how many labels were others. Assumes nothing.
+use mathlib.Core.Path.{_≡_, refl, ap, sym, _∙_}
+use mathlib.Core.Bool.{true, false, _||_, cond, or-true}
+use mathlib.Core.List.{List, [], _∷_, _++_, map, append-assoc, map-append}
+use Prim.Native.Nat.{ℕ, zero, suc, pred, _+_, _-_, _%_, _≤_, _<_}
+use native.Mathlib.Nat.{mod-eq-of-lt, mod-mod, mod-add-mod}
+use native.Mathlib.Omega.{arith}
+use borrow.Author.Tests.{ltb-true, ltb-false, le-leb, lt-leb}
+use lib.Dec.{leb, ltb, eqb}
+use lib.ListN.{length, getD, take, drop, set, length-set, length-drop, length-map, List·getD-eq-default}
+use lib.Seq.{length-take-le, drop-cons, getD-set-other, drop-set-lt, sets, length-sets, sets-eq}
+use Rattle.store_types.specs.Limits.{no-tag, word-limit, most-tags}
+use Rattle.tree.specs.Forest.{Forest, nil, leaf, node, labels}
+use Rattle.tree_laws.proofs.Rows.{by-test}
+use Rattle.calls.specs.Words.{field}
+use Rattle.words.specs.Fields.{with-field}
+use Rattle.edit_model.specs.Image.{Image, image-words, with-labels}
+use Rattle.edit_model.specs.Relabel.{relabel, cut, shift}
+use Rattle.edit_model.proofs.Image.{Proper, proper-with-labels, tag-below, label-written}
+use Rattle.edit_model.proofs.Along.{label-at, next-at}
+use Rattle.edit_model.proofs.Differ.{differ}
+
+-- ONE ROW AFTER ANOTHER
+pub relabel-append-words : (xs ys ls ms ws : List ℕ) → length xs ≡ length ls →
+    relabel (xs ++ ys) (ls ++ ms) ws .words ≡ relabel ys ms (relabel xs ls ws .words) .words
+unfolding relabel
+relabel-append-words [] ys [] ms ws e = refl
+relabel-append-words [] ys (l ∷ ls) ms ws e = absurd (omega arith)
+relabel-append-words (x ∷ xs) ys [] ms ws e = absurd (omega arith)
+relabel-append-words (x ∷ xs) ys (l ∷ ls) ms ws e = relabel-append-words xs ys ls ms (with-field ws x 0 l) (omega arith)
+
+pub relabel-append-moved : (xs ys ls ms ws : List ℕ) → length xs ≡ length ls →
+    relabel (xs ++ ys) (ls ++ ms) ws .moved ≡ relabel xs ls ws .moved + relabel ys ms (relabel xs ls ws .words) .moved
+unfolding relabel
+relabel-append-moved [] ys [] ms ws e = omega arith
+relabel-append-moved [] ys (l ∷ ls) ms ws e = absurd (omega arith)
+relabel-append-moved (x ∷ xs) ys [] ms ws e = absurd (omega arith)
+relabel-append-moved (x ∷ xs) ys (l ∷ ls) ms ws e =
+    omega (arith, relabel-append-moved xs ys ls ms (with-field ws x 0 l) (omega arith))
+
+-- ALONG A ROW: from place i on as many tags as there are new labels
+next-label : (x l : ℕ) (xs ls ws : List ℕ) →
+    relabel (x ∷ xs) (l ∷ ls) ws
+    ≡ record { words = relabel xs ls (with-field ws x 0 l) .words; moved = cond (eqb (field ws x 0) l) 0 1 + relabel xs ls (with-field ws x 0 l) .moved }
+unfolding relabel
+next-label x l xs ls ws = refl
+
+relabel-sets : {v : Image} (h : Proper v) (rest ls : List ℕ) (i : ℕ) → i + length ls ≤ length (v .tags) →
+    relabel (take (length ls) (drop i (v .tags))) ls (image-words v ++ rest)
+    ≡ record { words = image-words (with-labels (sets (v .labels) i ls) v) ++ rest; moved = differ (take (length ls) (drop i (v .labels))) ls }
+unfolding relabel with-labels differ
+relabel-sets {v} h rest [] i fits = refl
+relabel-sets {v} h rest (l ∷ ls) i fits =
+    let inside : i < length (v .tags) = omega arith in
+    rw (
+      drop-cons (v .tags) i no-tag inside,
+      drop-cons (v .labels) i 0 (omega (arith, h .labelled)),
+      next-label,
+      label-at h rest i no-tag inside,
+      label-written h i no-tag l inside rest,
+      relabel-sets (proper-with-labels h (set (v .labels) i l) (length-set (v .labels) i l)) rest ls (suc i) (omega arith),
+      drop-set-lt (suc i) (v .labels) i l (omega arith),
+    )
+
+sets-parts : (xs ls : List ℕ) (i : ℕ) → i + length ls ≤ length xs → sets xs i ls ≡ take i xs ++ (ls ++ drop (i + length ls) xs)
+sets-parts xs ls i fits = rw append-assoc at (sets-eq ls xs i fits)
+
+module _ {v : Image} (h : Proper v) (rest ls : List ℕ) (i k : ℕ) (many : length ls ≡ k) (fits : i + k ≤ length (v .tags)) where
+  -- the image then has these labels at these places
+  pub relabel-words : relabel (take k (drop i (v .tags))) ls (image-words v ++ rest) .words
+      ≡ image-words (with-labels (take i (v .labels) ++ (ls ++ drop (i + k) (v .labels))) v) ++ rest
+  relabel-words =
+      rw (← many, relabel-sets h rest ls i (omega arith)) (rw (sets-parts (v .labels) ls i (omega (arith, h .labelled))))
+
+  pub relabel-proper : Proper (with-labels (take i (v .labels) ++ (ls ++ drop (i + k) (v .labels))) v)
+  relabel-proper =
+      let spliced = sets-parts (v .labels) ls i (omega (arith, h .labelled)) in
+      proper-with-labels h _ (rw (← many, ← spliced) (length-sets (v .labels) i ls))
+
+  pub relabel-moved : relabel (take k (drop i (v .tags))) ls (image-words v ++ rest) .moved ≡ differ (take k (drop i (v .labels))) ls
+  relabel-moved = rw (← many, relabel-sets h rest ls i (omega arith))
+
+-- LABELS AS WORDS: one that fits is as it was, and so are all of a list
+pub cut-below : (l : ℕ) → l < word-limit → cut l ≡ l
+unfolding cut
+cut-below l small = mod-eq-of-lt small
+
+pub cut-all : (ls : List ℕ) → ((i : ℕ) → i < length ls → getD ls i 0 < word-limit) → map cut ls ≡ ls
+cut-all [] small = refl
+cut-all (l ∷ ls) small = rw (cut-below l (small 0 (omega arith)), cut-all ls (λ i n. small (suc i) (omega arith)))
+
+pub cut-twice : (a : ℕ) → cut (cut a) ≡ cut a
+unfolding cut
+cut-twice a = mod-mod a word-limit
+
+-- numbers of which the same is left, with the same added, and the labels from them
+cut-add : (a c d : ℕ) → cut a ≡ cut c → cut (a + d) ≡ cut (c + d)
+unfolding cut
+cut-add a c d e = sym (mod-add-mod a word-limit d) ∙ ap (λ (n : ℕ). (n + d) % word-limit) e ∙ mod-add-mod c word-limit d
+
+labels-alike : (f : Forest) (w : ℕ → ℕ) (j a c : ℕ) → cut a ≡ cut c → map cut (labels f w j a) ≡ map cut (labels f w j c)
+unfolding labels
+labels-alike nil w j a c e = refl
+labels-alike (leaf x f) w j a c e = rw (e, labels-alike f w j (a + w j) (c + w j) (cut-add a c (w j) e))
+labels-alike (node g f) w j a c e =
+    simp (map-append, labels-alike g w (pred j) a c e, labels-alike f w j (a + w j) (c + w j) (cut-add a c (w j) e))
+
+pub labels-cut : (f : Forest) (w : ℕ → ℕ) (j a : ℕ) → map cut (labels f w j (cut a)) ≡ map cut (labels f w j a)
+labels-cut f w j a = labels-alike f w j (cut a) a (cut-twice a)
+
+-- LABELS RAISED BY d from place i on, as long as they are below b: those up to place m
+pub record Stretch (ls : List ℕ) (i m b d : ℕ) : Type 0 where
+  pub order : i ≤ m
+  pub last : m ≤ length ls
+  pub low : (j : ℕ) → i ≤ j → j < m → getD ls j 0 < b
+  pub fit : (j : ℕ) → i ≤ j → j < m → getD ls j 0 + d < word-limit
+  pub stop : m < length ls → b ≤ getD ls m 0
+
+-- one step less, whatever the first label becomes
+stretch-next : (ls : List ℕ) (i m b d l : ℕ) → i < m → Stretch ls i m b d → Stretch (set ls i l) (suc i) m b d
+stretch-next ls i m b d l inside e =
+    record {
+      order = inside;
+      last = rw length-set (e .last);
+      low = λ j from to. rw (getD-set-other ls i j l 0 (λ same. omega arith)) (e .low j (omega arith) to);
+      fit = λ j from to. rw (getD-set-other ls i j l 0 (λ same. omega arith)) (e .fit j (omega arith) to);
+      stop = λ to. rw (getD-set-other ls i m l 0 (λ same. omega arith)) (e .stop (rw length-set at to));
+    }
+
+-- the clauses of shift
+shift-stays : (k n x b d : ℕ) (ws : List ℕ) → (leb n x || leb b (field ws x 0)) ≡ true → shift (suc k) n ws x b d ≡ record { words = ws; moved = 0 }
+unfolding shift
+shift-stays k n x b d ws e = rw e
+
+shift-goes : (k n x b d : ℕ) (ws : List ℕ) → (leb n x || leb b (field ws x 0)) ≡ false →
+    shift (suc k) n ws x b d
+    ≡ record {
+      words = shift k n (with-field ws x 0 (cut (field ws x 0 + d))) (field ws x 1) b d .words;
+      moved = suc (shift k n (with-field ws x 0 (cut (field ws x 0 + d))) (field ws x 1) b d .moved);
+    }
+unfolding shift
+shift-goes k n x b d ws e = rw e
+
+-- the test at the end of a stretch and inside it
+module _ {v : Image} (h : Proper v) (rest : List ℕ) (i m b d : ℕ) (e : Stretch (v .labels) i m b d) where
+  ends : length (v .facts) ≤ most-tags →
+      (leb (length (v .facts)) (getD (v .tags) m no-tag) || leb b (field (image-words v ++ rest) (getD (v .tags) m no-tag) 0)) ≡ true
+  ends few =
+      by-test (ltb m (length (v .tags)))
+      (λ t. let inside = ltb-true m (length (v .tags)) t in
+      rw (label-at h rest m no-tag inside, le-leb b (getD (v .labels) m 0) (e .stop (omega (arith, h .labelled)))) (or-true (leb (length (v .facts)) (getD (v .tags) m no-tag))))
+      (λ t. let outside = ltb-false m (length (v .tags)) t in
+      rw (List·getD-eq-default (v .tags) no-tag outside, le-leb (length (v .facts)) no-tag (omega arith)))
+
+  goes-on : i < m →
+      (leb (length (v .facts)) (getD (v .tags) i no-tag) || leb b (field (image-words v ++ rest) (getD (v .tags) i no-tag) 0)) ≡ false
+  goes-on first =
+      let inside : i < length (v .tags) = omega (arith, e .last, h .labelled) in
+      rw (
+        lt-leb (length (v .facts)) (getD (v .tags) i no-tag) (tag-below h i no-tag inside),
+        label-at h rest i no-tag inside,
+        lt-leb b (getD (v .labels) i 0) (e .low i (omega arith) first),
+      )
+
+shift-sets : (most c : ℕ) {v : Image} (h : Proper v) (rest : List ℕ) (i m b d : ℕ) → length (v .facts) ≤ most-tags → Stretch (v .labels) i m b d →
+    i + c ≡ m → c ≤ most →
+    shift most (length (v .facts)) (image-words v ++ rest) (getD (v .tags) i no-tag) b d
+    ≡ record { words = image-words (with-labels (sets (v .labels) i (map (λ l. l + d) (take c (drop i (v .labels))))) v) ++ rest; moved = c }
+unfolding shift with-labels
+shift-sets zero zero h rest i m b d few e sum enough = refl
+shift-sets zero (suc c) h rest i m b d few e sum enough = absurd (omega arith)
+shift-sets (suc k) zero {v} h rest i m b d few e sum enough =
+    let same : i ≡ m = omega arith in
+    rw same (shift-stays k (length (v .facts)) (getD (v .tags) m no-tag) b d (image-words v ++ rest) (ends h rest i m b d e few))
+shift-sets (suc k) (suc c) {v} h rest i m b d few e sum enough =
+    let first : i < m = omega arith in
+    let inside : i < length (v .tags) = omega (arith, e .last, h .labelled) in
+    let l = getD (v .labels) i 0 in
+    let x = getD (v .tags) i no-tag in
+    rw (
+      shift-goes k (length (v .facts)) x b d (image-words v ++ rest) (goes-on h rest i m b d e first),
+      drop-cons (v .labels) i 0 (omega (arith, h .labelled)),
+      label-at h rest i no-tag inside,
+      next-at h rest i no-tag inside,
+      cut-below (l + d) (e .fit i (omega arith) first),
+      label-written h i no-tag (l + d) inside rest,
+      ← drop-set-lt (suc i) (v .labels) i (l + d) (omega arith),
+      shift-sets k c (proper-with-labels h (set (v .labels) i (l + d)) (length-set (v .labels) i (l + d))) rest (suc i) m b d few (stretch-next (v .labels) i m b d (l + d) first e) (omega arith) (omega arith),
+    )
+
+-- how many the labels of a stretch are
+length-raised : (ls : List ℕ) (i m d : ℕ) → m ≤ length ls → length (map (λ l. l + d) (take (m - i) (drop i ls))) ≡ m - i
+length-raised ls i m d fits = length-map (take (m - i) (drop i ls)) (λ l. l + d) ∙ length-take-le (m - i) (drop i ls) (rw length-drop (omega arith))
+
+module _ {v : Image} (h : Proper v) (rest : List ℕ) (most i m b d : ℕ) (few : length (v .facts) ≤ most-tags) (e : Stretch (v .labels) i m b d) (enough : m - i ≤ most) where
+  pub shift-words : shift most (length (v .facts)) (image-words v ++ rest) (getD (v .tags) i no-tag) b d .words
+      ≡ image-words (with-labels (take i (v .labels) ++ (map (λ l. l + d) (take (m - i) (drop i (v .labels))) ++ drop m (v .labels))) v) ++ rest
+  shift-words =
+      let raised = map (λ l. l + d) (take (m - i) (drop i (v .labels))) in
+      let many = length-raised (v .labels) i m d (e .last) in
+      let whole : i + length raised ≡ m = omega (arith, e .order) in
+      rw (
+        shift-sets most (m - i) h rest i m b d few e (omega (arith, e .order)) enough,
+        sets-parts (v .labels) raised i (omega (arith, e .last)),
+        whole,
+      )
+
+  pub shift-proper : Proper (with-labels (take i (v .labels) ++ (map (λ l. l + d) (take (m - i) (drop i (v .labels))) ++ drop m (v .labels))) v)
+  shift-proper =
+      let whole : i + (m - i) ≡ m = omega (arith, e .order) in
+      rw whole at (relabel-proper h rest (map (λ l. l + d) (take (m - i) (drop i (v .labels)))) i (m - i) (length-raised (v .labels) i m d (e .last)) (omega (arith, e .order, e .last, h .labelled)))
+
+  pub shift-moved : shift most (length (v .facts)) (image-words v ++ rest) (getD (v .tags) i no-tag) b d .moved ≡ m - i
+  shift-moved = rw (shift-sets most (m - i) h rest i m b d few e (omega (arith, e .order)) enough)

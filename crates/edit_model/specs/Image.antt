@@ -1,0 +1,64 @@
+-- Words while a store is being changed: like words-of (crate calls), with any labels along the row. The words of a store are
+-- the image of its row, labels and facts. Assumes nothing: these are definitions.
+use mathlib.Core.List.{List, [], _∷_, _++_}
+use Prim.Native.Nat.{ℕ}
+use lib.ListN.{length, getD}
+use Rattle.store_types.specs.Limits.{no-tag}
+use Rattle.tree.specs.Row.{numbers, place}
+use Rattle.tree.specs.Book.{height, labels-of}
+use Rattle.calls.specs.Kind.{kind-word}
+use Rattle.calls.specs.Store.{Store, Fact, fact-in, row, width, next-in, prior-in}
+
+-- header numbers, the tags in book order, their labels in book order, and their facts by number
+pub record Image : Type 0 where
+  pub s : ℕ
+  pub r : ℕ
+  pub levels : ℕ
+  pub number : ℕ
+  pub stamp : ℕ
+  pub tags : List ℕ
+  pub labels : List ℕ
+  pub facts : List Fact
+
+unfoldable pub image-header : Image → List ℕ
+image-header v =
+    1 ∷ v .s ∷ v .r ∷ v .levels ∷ length (v .facts) ∷ getD (v .tags) 0 no-tag ∷ v .number ∷ v .stamp ∷ []
+
+unfoldable pub image-record : Image → (tag : ℕ) → List ℕ
+image-record v x =
+    let t = fact-in (v .facts) x in
+    getD (v .labels) (place x (v .tags)) 0 ∷ next-in (v .tags) x ∷ prior-in (v .tags) x ∷ t .mate ∷ t .up ∷ kind-word (t .kind) (t .marked) ∷ []
+
+unfoldable pub image-records : Image → (tags : List ℕ) → List ℕ
+image-records v [] = []
+image-records v (x ∷ xs) = image-record v x ++ image-records v xs
+
+unfoldable pub image-words : Image → List ℕ
+image-words v = image-header v ++ image-records v (numbers 0 (length (v .facts)))
+
+unfoldable pub image-of : Store → Image
+image-of st =
+    record {
+      s = st .book .s;
+      r = st .book .r;
+      levels = height (st .book);
+      number = st .number;
+      stamp = st .stamp;
+      tags = row st;
+      labels = labels-of (width st) (st .book);
+      facts = st .facts;
+    }
+
+-- an image with other labels
+unfoldable pub with-labels : List ℕ → Image → Image
+with-labels ls v =
+    record {
+      s = v .s;
+      r = v .r;
+      levels = v .levels;
+      number = v .number;
+      stamp = v .stamp;
+      tags = v .tags;
+      labels = ls;
+      facts = v .facts;
+    }

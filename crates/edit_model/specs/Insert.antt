@@ -1,0 +1,168 @@
+-- Insertion over words. Follows the code of crate store_insert. Assumes nothing: these are definitions.
+use mathlib.Core.Bool.{cond}
+use mathlib.Core.List.{List, map}
+use Prim.Native.Nat.{ℕ, suc, pred, _+_, _*_, _-_}
+use lib.Dec.{ltb, eqb}
+use lib.ListN.{replicate, set}
+use Rattle.store_types.specs.Limits.{no-tag}
+use Rattle.tree.specs.Forest.{labels, spread}
+use Rattle.calls.specs.Words.{word-at, field, follow}
+use Rattle.words.specs.Fields.{with-field}
+use Rattle.walk_model.specs.Levels.{entry}
+use Rattle.walk_model.specs.Walk.{table}
+use Rattle.edit_model.specs.Relabel.{Relabelled, relabel, along, cut, shift}
+use Rattle.edit_model.specs.Span.{Span, Split, ancestor-numbers, highest-full}
+
+-- the tag behind a place: the first where the place is the front
+unfoldable pub behind : List ℕ → (place : ℕ) → ℕ
+behind ws y = cond (eqb y no-tag) (word-at ws 5) (field ws y 1)
+
+-- A NEW TAG n with its record, linked behind a place. Its label is none that a tag can have, so that it counts as moved
+-- where it is numbered.
+unfoldable pub with-record : List ℕ → (tag next prior mate up kind : ℕ) → List ℕ
+with-record ws x next prior mate up kind =
+    with-field (with-field (with-field (with-field (with-field (with-field ws x 0 no-tag) x 1 next) x 2 prior) x 3 mate) x 4 up) x 5 kind
+
+unfoldable pub linked-place : List ℕ → (place n : ℕ) → List ℕ
+linked-place ws y n = cond (eqb y no-tag) (set ws 5 n) (with-field ws y 1 n)
+
+unfoldable pub linked-next : List ℕ → (next n : ℕ) → List ℕ
+linked-next ws x n = cond (eqb x no-tag) ws (with-field ws x 2 n)
+
+unfoldable pub added : List ℕ → (n place mate up kind : ℕ) → List ℕ
+added ws n y mate up kind =
+    let next = behind ws y in
+    set (linked-next (linked-place (with-record ws n next y mate up kind) y n) next n) 4 (suc n)
+
+-- A RENUMBERING: from the tag behind `left` on, `count` tags as trees of a height from a number on; then the labels below
+-- a bound are shifted
+pub record Plan : Type 0 where
+  pub height : ℕ
+  pub left : ℕ
+  pub number : ℕ
+  pub count : ℕ
+  pub bound : ℕ
+  pub by : ℕ
+
+unfoldable pub applied : List ℕ → (widths : List ℕ) → (r n : ℕ) → Plan → Relabelled
+applied ws w r n p =
+    let x = behind ws (p .left) in
+    let xs = follow (p .count) ws x in
+    let q = relabel xs (map cut (labels (spread (p .height) r xs) (entry w) (p .height) (p .number))) ws in
+    let t = shift n n (q .words) (along (p .count) ws x) (p .bound) (p .by) in
+    record { words = t .words; moved = q .moved + t .moved }
+
+-- the label of a place; the front's is 0, that of the first leaf
+unfoldable pub place-label : List ℕ → (place : ℕ) → ℕ
+place-label ws y = cond (eqb y no-tag) 0 (field ws y 0)
+
+unfoldable pub numbers-at : List ℕ → (widths : List ℕ) → (under place : ℕ) → List ℕ
+numbers-at ws w u y = ancestor-numbers w u (place-label ws y) 0 (replicate 24 0)
+
+-- no split: one tag right behind the place, and its right siblings are shifted
+unfoldable pub plain-plan : List ℕ → (widths : List ℕ) → (under place : ℕ) → Plan
+plain-plan ws w u y =
+    let ns = numbers-at ws w u y in
+    record {
+      height = 0;
+      left = y;
+      number = cond (eqb y no-tag) 0 (field ws y 0 + entry w 0);
+      count = 1;
+      bound = entry ns 1 + entry w 1;
+      by = entry w 0;
+    }
+
+unfoldable pub root-plan : (height count : ℕ) → Plan
+root-plan h n = record { height = h; left = no-tag; number = 0; count = n; bound = 0; by = 0 }
+
+unfoldable pub split-plan : (s : ℕ) → (widths highs numbers : List ℕ) → Split → Plan
+split-plan s w hi ns q =
+    let h = q .height in
+    record {
+      height = h;
+      left = q .span .left;
+      number = entry ns h;
+      count = entry hi h;
+      bound = entry ns (suc h) + entry w (suc h);
+      by = (s - 1) * entry w h;
+    }
+
+-- the split of k tags at a place, below the root
+unfoldable pub split-at : List ℕ → (widths highs : List ℕ) → (n k under place : ℕ) → Split
+split-at ws w hi n k u y =
+    let v : Span = record { left = y; right = behind ws y; size = 0 } in
+    highest-full ws w hi (numbers-at ws w u y) n k u 1 v (record { height = 0; span = v })
+
+-- the plan of k tags at a place
+unfoldable pub plan : List ℕ → (s : ℕ) → (widths highs : List ℕ) → (n k under place : ℕ) → Plan
+plan ws s w hi n k u y =
+    let q = split-at ws w hi n k u y in
+    cond (eqb (n + k) (entry hi (suc u))) (root-plan (suc u) (n + k))
+    (cond (eqb (q .height) 0) (plain-plan ws w u y) (split-plan s w hi (numbers-at ws w u y) q))
+
+-- the up of new tags: the place if it is a begin, else its up; at the front none
+unfoldable pub up-word : List ℕ → (place : ℕ) → ℕ
+up-word ws y = cond (eqb y no-tag) no-tag (cond (eqb (field ws y 5) 1) y (field ws y 4))
+
+-- H is one higher where the root was split
+unfoldable pub raised-words : List ℕ → (split : ℕ) → List ℕ
+raised-words ws h = cond (eqb h (word-at ws 3)) (set ws 3 (suc (word-at ws 3))) ws
+
+-- THE CHANGE: the words afterwards, how many tags moved, and the split height
+pub record Edited : Type 0 where
+  pub words : List ℕ
+  pub moved : ℕ
+  pub split : ℕ
+
+unfoldable pub widths-of : List ℕ → List ℕ
+widths-of ws = table 1 (word-at ws 1 * word-at ws 2 - 1) (word-at ws 3)
+
+unfoldable pub highs-of : List ℕ → List ℕ
+highs-of ws = table (word-at ws 1) (word-at ws 2) (word-at ws 3)
+
+unfoldable pub plan-of : List ℕ → (k place : ℕ) → Plan
+plan-of ws k y = plan ws (word-at ws 1) (widths-of ws) (highs-of ws) (word-at ws 4) k (pred (word-at ws 3)) y
+
+-- one tag goes in behind a place by a plan made before; c of the numbered tags are new
+unfoldable pub put-words : List ℕ → (widths : List ℕ) → (r n c : ℕ) → Plan → Edited
+put-words ws w r n c p =
+    let q = applied ws w r n p in
+    record { words = raised-words (q .words) (p .height); moved = q .moved - c; split = p .height }
+
+unfoldable pub text-edit : (place : ℕ) → List ℕ → Edited
+text-edit y ws =
+    let n = word-at ws 4 in
+    put-words (added ws n y n (up-word ws y) 3) (widths-of ws) (word-at ws 2) (suc n) 1 (plan-of ws 1 y)
+
+-- both tags at once, where the second splits
+unfoldable pub both-edit : (place : ℕ) → List ℕ → Edited
+both-edit y ws =
+    let n = word-at ws 4 in
+    let u = up-word ws y in
+    put-words (added (added ws n y (suc n) u 1) (suc n) n n u 2) (widths-of ws) (word-at ws 2) (suc (suc n)) 2 (plan-of ws 2 y)
+
+-- else one after the other; the second shifts only what the first has moved
+unfoldable pub begin-edit : (place : ℕ) → List ℕ → Edited
+begin-edit y ws =
+    let n = word-at ws 4 in
+    put-words (added ws n y (suc n) (up-word ws y) 1) (widths-of ws) (word-at ws 2) (suc n) 1 (plan-of ws 1 y)
+
+unfoldable pub end-edit : (widths : List ℕ) → (n up : ℕ) → List ℕ → List ℕ
+end-edit w n u ws =
+    let p = plain-plan ws w (pred (word-at ws 3)) n in
+    applied (added ws (suc n) n n u 2) w (word-at ws 2) (suc (suc n)) p .words
+
+unfoldable pub in-turn-edit : (place : ℕ) → List ℕ → Edited
+in-turn-edit y ws =
+    let q = begin-edit y ws in
+    record { words = end-edit (widths-of ws) (word-at ws 4) (up-word ws y) (q .words); moved = q .moved; split = q .split }
+
+unfoldable pub element-edit : (place : ℕ) → List ℕ → Edited
+element-edit y ws =
+    let both = both-edit y ws in
+    let turn = in-turn-edit y ws in
+    cond (ltb (plan-of ws 1 y .height) (plan-of ws 2 y .height)) both turn
+
+-- the words of an accepted insertion: the stamp is raised
+unfoldable pub stamped : List ℕ → List ℕ
+stamped ws = set ws 7 (suc (word-at ws 7))
