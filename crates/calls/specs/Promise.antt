@@ -5,7 +5,7 @@ use mathlib.Core.Bool.{true, false}
 use mathlib.Core.List.{List, _∷_, _++_, map}
 use mathlib.Core.Option.{some}
 use mathlib.Core.Logic.{_↔_, _⊎_}
-use Prim.Native.Nat.{ℕ, _+_, _*_, _-_, _^_, _≤_, _<_}
+use Prim.Native.Nat.{ℕ, _*_, _-_, _^_, _≤_, _<_}
 use lib.Dec.{ltb}
 use lib.ListN.{length}
 use Rattle.store_types.specs.Limits.{word-limit}
@@ -15,6 +15,7 @@ use Rattle.store_types.specs.declared.LoadReply.the-variants.{Loaded}
 use Rattle.store_types.specs.declared.QuestionReply.the-variants.{Answered}
 use Rattle.tree.specs.Row.{rises}
 use Rattle.tree.specs.Book.{height, labels-of, book-within}
+use Rattle.tree.specs.Reach.{account-bound}
 use Rattle.calls.specs.Kind.{Kind, is-begin}
 use Rattle.calls.specs.Store.{Store, fact, count, row, place-of, width, label}
 use Rattle.calls.specs.Nesting.{nests}
@@ -108,8 +109,7 @@ pub record Kept (st : Store) (a : Reference) (t : ℕ) : Type 0 where
   pub degree-r : st .book .r ≡ a .r
   pub levels : height (st .book) ≡ a .height
   pub rise : rises ((a .s * a .r - 1) ^ a .height) (labels-of (width st) (st .book)) ≡ true
-  pub few-moved :
-      (a .s - 1) * t ≤ (a .s - 1) * (a .s * a .r * a .m + 2 * total a) + a .s * a .r * ((a .height - 1) * a .m + a .n0)
+  pub few-moved : (a .s - 1) * t ≤ account-bound (a .s) (a .r) (a .n0) (a .m) (a .height)
   pub low : 2 ≤ a .height → 2 * a .r ^ (a .height - 1) ≤ total a
 
 unfoldable pub Lists-keep : Type 0

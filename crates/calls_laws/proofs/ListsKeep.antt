@@ -80,7 +80,7 @@ kept-of {st} {a} {t} f =
       degree-r = f .degree-r;
       levels = f .levels;
       rise = rw (← f .degree-s, ← f .degree-r, ← f .levels) (labels-rise (width st) k (power-widths (k .s) (k .r)) (f .account .sane));
-      few-moved = rw (← f .degree-s, ← f .degree-r, under) (account-few (f .account));
+      few-moved = rw (← f .degree-s, ← f .degree-r, ← f .levels) (account-few (f .account));
       low = λ l. rw (← f .degree-r, under) (account-low (f .account) (omega (arith, f .levels)));
     }
 

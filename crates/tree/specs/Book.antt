@@ -5,7 +5,7 @@ use mathlib.Core.List.{List, [], _∷_}
 use Prim.Native.Nat.{ℕ, zero, suc, _*_, _-_, _^_, max}
 use lib.Dec.{ltb, leb, eqb}
 use lib.ListN.{length, getD}
-use Rattle.tree.specs.Row.{numbers, place, insert-at}
+use Rattle.tree.specs.Row.{numbers, place, insert-at, rises}
 use Rattle.tree.specs.Forest.{Forest, leaves, size, labels, spread, put, full, within-limits}
 use Rattle.tree.specs.Forest as forest
 
@@ -27,6 +27,10 @@ tags k = leaves (k .root)
 -- the labels in book order, the root's number being 0; width j is that of a child of height j
 abbrev pub labels-of : (width : ℕ → ℕ) → Book → List ℕ
 labels-of w k = labels (k .root) w (k .under) 0
+
+-- whether the labels rise strictly, all below the width of H
+abbrev pub labels-in-order : (width : ℕ → ℕ) → Book → Bool
+labels-in-order w k = rises (w (height k)) (labels-of w k)
 
 -- the label of a tag
 unfoldable pub label-of : (width : ℕ → ℕ) → Book → (tag : ℕ) → ℕ

@@ -3,11 +3,11 @@
 use mathlib.Core.Path.{_≡_}
 use mathlib.Core.Bool.{true, false}
 use mathlib.Core.List.{[], _∷_}
-use Prim.Native.Nat.{ℕ, suc, _+_, _*_, _^_, _≤_, _<_}
-use Rattle.tree.specs.Row.{member, place, all-below, rises}
+use Prim.Native.Nat.{ℕ, suc, _*_, _≤_, _<_}
+use Rattle.tree.specs.Row.{member, place, all-below}
 use Rattle.tree.specs.Forest.{size}
-use Rattle.tree.specs.Book.{Book, height, tags, labels-of, label-of, base, inserted, split-of, moved, book-within}
-use Rattle.tree.specs.Reach.{left-of, border, split-book}
+use Rattle.tree.specs.Book.{Book, height, tags, labels-in-order, label-of, base, inserted, split-of, moved, book-within}
+use Rattle.tree.specs.Reach.{left-of, border, split-book, reach-bound}
 
 -- widths that a tree of s and r may be numbered by; the powers of b are one choice
 pub record Widths (s r : ℕ) (w : ℕ → ℕ) : Type 0 where
@@ -33,7 +33,7 @@ Stays-sane = (p x : ℕ) (k : Book) → Sane k → p ≤ size (k .root) → Sane
 
 -- labels rise strictly below the width of H
 unfoldable pub Labels-rise : Type 0
-Labels-rise = (w : ℕ → ℕ) (k : Book) → Widths (k .s) (k .r) w → Sane k → rises (w (height k)) (labels-of w k) ≡ true
+Labels-rise = (w : ℕ → ℕ) (k : Book) → Widths (k .s) (k .r) w → Sane k → labels-in-order w k ≡ true
 
 -- whether an insertion moves a tag: its label afterwards is another
 unfoldable pub Moves : (w : ℕ → ℕ) → (p x tag : ℕ) → Book → Type 0
@@ -45,13 +45,11 @@ Never-falls =
     (w : ℕ → ℕ) (p x t : ℕ) (k : Book) → Step w p x k → member t (tags k) ≡ true → label-of w k t ≤ label-of w (inserted p x k) t
 
 -- THE REACH of one insertion: how many tags it moves at most, with no split, with a split below the root, with a root
--- split. (Each number below n stands in the book once: a tag that stood there twice would count twice.)
+-- split: reach-bound. (Each number below n stands in the book once: a tag that stood there twice would count twice.)
 unfoldable pub Reach-counts : Type 0
 Reach-counts =
     (w : ℕ → ℕ) (p x : ℕ) (k : Book) → Step w p x k → all-below (size (k .root)) (tags k) ≡ true →
-    (split-of p k ≡ 0 → moved w k (inserted p x k) + 2 ≤ k .s * k .r)
-    × ((h : ℕ) → split-of p k ≡ suc h → h < k .under → moved w k (inserted p x k) + 2 ≤ k .s * k .r ^ suc (suc h))
-    × (split-of p k ≡ height k → moved w k (inserted p x k) + 1 ≤ k .s * k .r ^ height k)
+    moved w k (inserted p x k) ≤ reach-bound (k .s) (k .r) (height k) (split-of p k)
 
 -- and where they stand: under the parent of the split node (of the new tag, where none is split), none left of that
 -- node (of the new tag); and right of the new tag all that stand there

@@ -1,8 +1,9 @@
 -- The ancestors of a place, and a split at a given height: what the reach of an insertion is measured by (document 02,
--- CR 11, stated for any widths). Assumes nothing: these are definitions.
+-- CR 11, stated for any widths); how many tags one insertion moves at most, and all since a load.
+-- Assumes nothing: these are definitions.
 use mathlib.Core.Bool.{cond}
 use mathlib.Core.List.{List}
-use Prim.Native.Nat.{ℕ, suc, pred, _+_, _-_}
+use Prim.Native.Nat.{ℕ, zero, suc, pred, _+_, _*_, _-_, _^_}
 use lib.Dec.{ltb, eqb}
 use Rattle.tree.specs.Row.{insert-at}
 use Rattle.tree.specs.Forest.{Forest, nil, leaf, node, leaves, size, joined, spread}
@@ -54,3 +55,13 @@ split-book h p ns k =
     let raised : Book = record { s = k .s; r = k .r; under = height k; root = spread (height k) (k .r) (insert-at p ns (leaves (k .root))) } in
     let inner : Book = record { s = k .s; r = k .r; under = k .under; root = split-with (k .root) (k .r) (k .under) h p ns } in
     cond (eqb h (height k)) raised inner
+
+-- HOW MANY one insertion moves at most, by the height of the split: f − 2 where it is 0 and no node is split, s times
+-- r^(j + 1) − 2 with a split at j below the root, s times r^j − 1 with a split of the root, where j is H
+unfoldable pub reach-bound : (s r height split : ℕ) → ℕ
+reach-bound s r h zero = s * r - 2
+reach-bound s r h (suc j) = cond (eqb (suc j) h) (s * r ^ suc j - 1) (s * r ^ suc (suc j) - 2)
+
+-- and s − 1 times what m insertions behind a load of n0 tags move together at most (demand 3)
+abbrev pub account-bound : (s r n0 m height : ℕ) → ℕ
+account-bound s r n0 m h = (s - 1) * (s * r * m + 2 * (n0 + m)) + s * r * ((h - 1) * m + n0)

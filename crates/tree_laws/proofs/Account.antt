@@ -12,12 +12,13 @@ use lib.ListN.{length, take, drop, take-append-drop}
 use Rattle.tree.specs.Row.{numbers, member, insert-at, all-below}
 use Rattle.tree.specs.Forest.{size, spread, split-height}
 use Rattle.tree.specs.Book.{Book, height, tags, label-of, load-under, loaded, root-full, root-split, put-inside, inserted, inserted-row, moved-among, moved}
+use Rattle.tree.specs.Reach.{reach-bound, account-bound}
 use Rattle.tree.specs.Promise.{Widths, Sane, Step, Reach-counts}
 use Rattle.tree_laws.proofs.Rows.{by-test, fails, member-first, member-all-below, all-below-of, distinct-all-below, member-insert, length-numbers}
 use Rattle.tree_laws.proofs.Spread.{complete-spread}
 use Rattle.tree_laws.proofs.Insertion.{below, split-length, inserted-split, inserted-inside, split-of-split, split-of-inside, root-at-limit, rooted, tags-inserted, size-inserted, sane-inserted, inserted-s, inserted-r}
 use Rattle.tree_laws.proofs.Flat.{split-at-most}
-use Rattle.tree_laws.proofs.Reach.{reach-counts}
+use Rattle.tree_laws.proofs.Reach.{reach-root, reach-inner, reach-counts}
 use Rattle.tree_laws.proofs.Load.{Least, load-least, size-loaded, sane-loaded}
 use Rattle.tree_laws.proofs.Potential.{excess, freed, excess-complete, excess-put, excess-spread-zero, excess-spread}
 
@@ -150,15 +151,16 @@ paid-root : (d f m h t e rs n0 mv : ℕ) → d * t + f * e ≤ d * (f * m + rs) 
 paid-root d f m h t e rs n0 mv old = omega arith
 
 -- what is moved where no root is split is paid by the insertion's own share and by what the split frees
-own-share : (s r mv h under : ℕ) → h ≤ under → (h ≡ 0 → mv + 2 ≤ s * r) →
-    ((i : ℕ) → h ≡ suc i → i < under → mv + 2 ≤ s * r ^ suc (suc i)) → (s - 1) * mv ≤ (s - 1) * (s * r) + s * r * freed s r h
-unfolding freed
-own-share s r mv zero under l none some = omega (arith, mul-le-mul-left (s - 1) (none refl))
-own-share s r mv (suc h) under l none some =
+own-share : (s r mv h under : ℕ) → h ≤ under → mv ≤ reach-bound s r (suc under) h →
+    (s - 1) * mv ≤ (s - 1) * (s * r) + s * r * freed s r h
+unfolding freed reach-bound
+own-share s r mv zero under l most =
+    let own : mv ≤ s * r - 2 = most in let few : mv ≤ s * r = omega arith in omega (arith, mul-le-mul-left (s - 1) few)
+own-share s r mv (suc h) under l most =
     let d = s - 1 in
     let e = r ^ suc h in
     let far : s * r ^ suc (suc h) ≡ s * r * e = rw pow-succ' (sym (mul-assoc s r e)) in
-    let few : mv ≤ s * r * e = omega (arith, some h refl l) in
+    let few : mv ≤ s * r * e = omega (arith, most, reach-inner s r (suc under) (suc h) (omega arith)) in
     let share : d * (s * r * e) ≡ s * r * (d * e) = mul-left-comm d (s * r) e in
     omega (arith, mul-le-mul-left d few)
 
@@ -178,7 +180,8 @@ module _ {w : ℕ → ℕ} {n0 m t : ℕ} where
       let next = inserted-split p k x e in
       let grown = rw next at (size-inserted p x k (st .sane) (st .place-fits)) in
       let mv = moved w k (root-split p x k) in
-      let most : mv + 1 ≤ k .s * k .r ^ height k = rw next at (reach-counts w p x k st each .2 (split-of-split p k e)) in
+      let far = rw (next, split-of-split p k e) at (reach-counts w p x k st each) in
+      let most : mv + 1 ≤ k .s * k .r ^ height k = omega (arith, far, reach-root (k .s) (k .r) (k .under), limit) in
       let none = excess-complete (k .r) (spread (height k) (k .r) row) (height k) (complete-spread (height k) (k .r) (k .s) row (st .sane .r-least) (split-length p x (k .root) ∙ limit)) in
       let roots = roots-twice (k .s) (k .r) (k .under) (a .at-roots) mv (st .sane .r-least) (a .roots-low) most in
       record {
@@ -195,14 +198,11 @@ module _ {w : ℕ → ℕ} {n0 m t : ℕ} where
   account-inside p x k st each a e =
       let next = inserted-inside p k x e in
       let grown = rw next at (size-inserted p x k (st .sane) (st .place-fits)) in
-      let far = reach-counts w p x k st each in
-      let at-height = split-of-inside p k e in
       let j = split-height (k .root) (k .s) (k .r) (k .under) p in
       let mv = moved w k (put-inside p x k) in
       let share : (k .s - 1) * mv ≤ (k .s - 1) * (k .s * k .r) + k .s * k .r * freed (k .s) (k .r) j =
       own-share (k .s) (k .r) mv j (k .under) (split-at-most (k .root) (k .s) (k .r) (k .under) p (rooted k (st .sane) .good))
-      (λ z. rw next at (far .0 (at-height ∙ z)))
-      (λ i z l. rw next at (far .1 i (at-height ∙ z) l)) in
+      (rw (next, split-of-inside p k e) at (reach-counts w p x k st each)) in
       let up = excess-put (k .s) (k .r) (k .root) (k .under) p x (st .sane .s-least) (st .sane .r-least) (rooted k (st .sane) .good) in
       record {
         sane = rw next at (sane-inserted p x k (st .sane) (st .place-fits));
@@ -246,8 +246,9 @@ account-row {w} {n0} {m} {t} (suc n) p x k widths fits next each a =
 
 -- what the account says of all that was moved, and of the height
 module _ {n0 m t : ℕ} {k : Book} (a : Account n0 m t k) where
-  pub account-few : (k .s - 1) * t ≤ (k .s - 1) * (k .s * k .r * m + 2 * (n0 + m)) + k .s * k .r * (k .under * m + n0)
-  account-few = omega (arith, a .balance, mul-le-mul-left (k .s - 1) (a .roots-few))
+  pub account-few : (k .s - 1) * t ≤ account-bound (k .s) (k .r) n0 m (height k)
+  account-few =
+      let under : height k - 1 ≡ k .under = omega arith in rw under omega (arith, a .balance, mul-le-mul-left (k .s - 1) (a .roots-few))
 
   pub account-low : 2 ≤ height k → 2 * k .r ^ k .under ≤ n0 + m
   account-low l = omega (arith, a .all, rooted k (a .sane) .low (omega arith))

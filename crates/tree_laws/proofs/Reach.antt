@@ -2,7 +2,7 @@
 use mathlib.Core.Path.{_≡_, refl, ap, sym, _∙_}
 use mathlib.Core.Bool.{true}
 use mathlib.Core.List.{List, [], _∷_, _++_}
-use Prim.Native.Nat.{ℕ, suc, _+_, _*_, _^_, _≤_, _<_}
+use Prim.Native.Nat.{ℕ, zero, suc, _+_, _*_, _-_, _^_, _≤_, _<_}
 use native.Mathlib.Nat.{pow-zero, pow-succ', mul-one}
 use native.Mathlib.Omega.{arith}
 use borrow.Author.Tests.{eq-eqb, ne-eqb, eqb-true, eqb-false, ltb-true, ltb-false}
@@ -11,7 +11,7 @@ use lib.ListN.{length, take, drop, length-take, length-drop, take-append-drop}
 use lib.Seq.{take-take}
 use Rattle.tree.specs.Row.{member, place}
 use Rattle.tree.specs.Book.{Book, height, tags, label-of, inserted, split-of, moved-among, moved}
-use Rattle.tree.specs.Reach.{left-of, border}
+use Rattle.tree.specs.Reach.{left-of, border, reach-bound}
 use Rattle.tree.specs.Promise.{Step, Moves, Reach-places, Reach-counts}
 use Rattle.tree_laws.proofs.Rows.{Distinct, by-test, member-first, member-later, member-of-take, member-of-drop, place-of-member, place-in-take, place-past-take, distinct-apart, apart-sym, distinct-all-below}
 use Rattle.tree_laws.proofs.Insertion.{rooted}
@@ -125,12 +125,27 @@ moved-all : {w : ℕ → ℕ} {p x : ℕ} {k : Book} → Step w p x k → moved 
 unfolding moved
 moved-all {w} {p} {x} {k} step = omega (arith, moved-at-most w k (inserted p x k) (tags k), rooted k (step .sane) .high)
 
+-- what the bound is at the root, and below it
+pub reach-root : (s r h : ℕ) → reach-bound s r (suc h) (suc h) ≡ s * r ^ suc h - 1
+unfolding reach-bound
+reach-root s r h = rw (eq-eqb (suc h) (suc h) refl)
+
+pub reach-inner : (s r h j : ℕ) → j < h → reach-bound s r h j ≡ s * r ^ suc j - 2
+unfolding reach-bound
+reach-inner s r h zero l = rw (pow-succ', pow-zero, mul-one)
+reach-inner s r h (suc j) l = rw (ne-eqb (suc j) h (λ e. omega arith))
+
 -- how many tags one insertion moves at most
 pub reach-counts : Reach-counts
 unfolding Reach-counts
 reach-counts w p x k step each =
-    let once = distinct-all-below _ (tags k) each refl .0 in (
-      λ e. rw (pow-succ', pow-zero, mul-one) at (moved-inner step once 0 e (omega arith)),
-      λ h e l. moved-inner step once (suc h) e (omega arith),
-      λ e. moved-all step,
-    )
+    let once = distinct-all-below _ (tags k) each refl .0 in
+    let d = flat-whole p k (step .place-fits) w x (step .sane) in
+    let e = split-flat (step .place-fits) d in
+    by-test (ltb (split-of p k) (height k))
+    (λ t.
+    let l = ltb-true (split-of p k) (height k) t in
+    rw (reach-inner (k .s) (k .r) (height k) (split-of p k) l) (omega (arith, moved-inner step once (split-of p k) refl l)))
+    (λ t.
+    let top : split-of p k ≡ height k = omega (arith, e, d .most, ltb-false (split-of p k) (height k) t) in
+    rw (top, reach-root (k .s) (k .r) (k .under)) (omega (arith, moved-all step)))
