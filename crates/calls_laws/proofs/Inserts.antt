@@ -52,7 +52,7 @@ raised-fits s r m h e fits =
     (λ t. rw t (ltb-false label-limit _ (rw (le-leb (s * r ^ h) (suc m) (le-of-eq (sym (eqb-true _ _ t)))) at e)))
     (λ t. rw t fits)
 
-labels-kept : (s r n p x : ℕ) (k : Book) → Sane k → k .s ≡ s → k .r ≡ r → p ≤ size (k .root) →
+pub labels-kept : (s r n p x : ℕ) (k : Book) → Sane k → k .s ≡ s → k .r ≡ r → p ≤ size (k .root) →
     labels-run-out s r n (size (k .root)) (height k) ≡ false → power-width s r (height k) ≤ label-limit →
     power-width s r (height (inserted-row n p x k)) ≤ label-limit
 unfolding inserted-row labels-run-out
@@ -174,7 +174,7 @@ module _ {st : Store} (h : Sound st) where
       (λ same. pass-new gs small m (same .marked ∙ g .free) 0 m [] (count st) ks fs refl refl n refl)
 
 -- THE ROW with them holds each number once
-all-below-with : (n k p : ℕ) (xs : List ℕ) → all-below n xs ≡ true → all-below (n + k) (insert-at p (numbers n k) xs) ≡ true
+pub all-below-with : (n k p : ℕ) (xs : List ℕ) → all-below n xs ≡ true → all-below (n + k) (insert-at p (numbers n k) xs) ≡ true
 all-below-with n k p xs e =
     all-below-of (n + k) (insert-at p (numbers n k) xs) λ i l.
     rw (member-insert i p (numbers n k) xs) (by-test (ltb i n)

@@ -53,7 +53,7 @@ records-joined v (x ∷ xs) = rw (records-joined v xs)
 
 -- HOW MANY WORDS
 
-length-image-header : (v : Image) → length (image-header v) ≡ header-words
+pub length-image-header : (v : Image) → length (image-header v) ≡ header-words
 unfolding image-header
 length-image-header v = refl
 
@@ -70,7 +70,7 @@ length-image v =
     ∙ omega (arith, length-image-header v, length-joined (image-record v) (length-image-record v) (numbers 0 n), length-numbers 0 n))
 
 -- THE WORDS OF A TAG: the k-th of tag x
-own-field : (v : Image) (x k : ℕ) → x < length (v .facts) → k < tag-words → field (image-words v) x k ≡ getD (image-record v x) k 0
+pub own-field : (v : Image) (x k : ℕ) → x < length (v .facts) → k < tag-words → field (image-words v) x k ≡ getD (image-record v x) k 0
 unfolding image-words field
 own-field v x k l small =
     let n = length (v .facts) in
@@ -110,7 +110,7 @@ record-says v rest x l =
     }
 
 -- the words of the header
-own-header : (v : Image) (i : ℕ) → i < header-words → word-at (image-words v) i ≡ word-at (image-header v) i
+pub own-header : (v : Image) (i : ℕ) → i < header-words → word-at (image-words v) i ≡ word-at (image-header v) i
 unfolding image-words
 own-header v i l = List·getD-append (image-header v) _ 0 i (omega (arith, length-image-header v))
 

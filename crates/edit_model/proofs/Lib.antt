@@ -7,3 +7,9 @@ pub mod Moves
 pub mod Numbers
 pub mod Spans
 pub mod Splits
+pub mod Added
+pub mod Applied
+pub mod Plans
+pub mod Widest
+pub mod Single
+pub mod Inserted

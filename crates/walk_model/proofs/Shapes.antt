@@ -45,7 +45,7 @@ length-table v b top l =
     ∙ omega (arith, length-powers v b (suc top), length-replicate {A = ℕ} (23 - top) 0)
 
 -- three to the 24th passes the limit of labels, so that no table is too short
-low-enough : (b h : ℕ) → 3 ≤ b → b ^ h ≤ label-limit → h < 24
+pub low-enough : (b h : ℕ) → 3 ≤ b → b ^ h ≤ label-limit → h < 24
 low-enough b h l fits =
     lt-of-not-le λ high.
     let three : 3 ^ 24 ≤ 3 ^ h = pow-le-pow-right (omega arith) high in

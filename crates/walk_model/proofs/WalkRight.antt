@@ -77,7 +77,7 @@ module _ (ws : List ℕ) (st : Store) (h : Says ws st) where
   says x l = rw (h .1 .1) (tag-says st (h .1 .0) x l)
 
   -- its header's facts, its tree's limits, and the passes along its row
-  facts : Header ws (st .book .s) (st .book .r) (st .book .under) (count st)
+  pub facts : Header ws (st .book .s) (st .book .r) (st .book .under) (count st)
   unfolding book-within root-within
   facts =
       let k = st .book in

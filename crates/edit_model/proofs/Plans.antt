@@ -1,0 +1,291 @@
+-- The plan of one tag: it is what the flat view of that insertion says. Assumes nothing.
+use mathlib.Core.Path.{_≡_, refl, ap, sym, _∙_}
+use mathlib.Core.Bool.{true, false, cond}
+use mathlib.Core.List.{List, _∷_, _++_}
+use Prim.Native.Nat.{ℕ, zero, suc, _+_, _*_, _-_, _^_, _≤_, _<_}
+use native.Mathlib.Omega.{arith}
+use borrow.Author.Tests.{eq-eqb, ne-eqb, eqb-true, eqb-false}
+use lib.Dec.{eqb}
+use lib.ListN.{length, getD, replicate, length-append, List·getD-append, List·getD-eq-default}
+use lib.Seq.{getD-append-add}
+use Rattle.store_types.specs.Limits.{no-tag}
+use Rattle.tree.specs.Forest.{Forest, nil, leaf, node, leaves, size, labels, split-height}
+use Rattle.tree.specs.Book.{height, labels-of, root-full, split-of}
+use Rattle.tree_laws.proofs.Good.{Good}
+use Rattle.tree_laws.proofs.Rows.{by-test, member-getD}
+use Rattle.tree_laws.proofs.Spread.{some-power}
+use Rattle.tree_laws.proofs.Labels.{length-labels, rising-from, rising-below, power-widths}
+use Rattle.tree_laws.proofs.Insertion.{rooted, empty-low, root-at-limit, split-of-split, split-of-inside}
+use Rattle.tree_laws.proofs.Ancestors.{number-in, at-here, at-inside}
+use Rattle.tree_laws.proofs.Flat.{Piece, Flat, split-at-most}
+use Rattle.tree_laws.proofs.Root.{whole, labels-whole, split-flat}
+use Rattle.tree_laws.proofs.Border.{Cut, cut-root, cut-inside}
+use Rattle.calls.specs.Store.{Store, count, row, width}
+use Rattle.calls.specs.Words.{Says, field}
+use Rattle.calls_laws.proofs.Tests.{Sound, sane, facts-of}
+use Rattle.calls_laws.proofs.Sections.{row-below}
+use Rattle.calls_laws.proofs.WordSteps.{header-said}
+use Rattle.walk_model.specs.Levels.{entry}
+use Rattle.walk_model.specs.Walk.{shape-of}
+use Rattle.walk_model.specs.Promise.{Tables-right}
+use Rattle.walk_model.proofs.Shapes.{tables-right}
+use Rattle.walk_model.proofs.WalkRight.{facts as header-facts-said}
+use Rattle.edit_model.specs.Image.{image-words, image-of}
+use Rattle.edit_model.specs.Span.{Split, ancestor-numbers, highest-full}
+use Rattle.edit_model.specs.Insert.{Plan, behind, place-label, numbers-at, plain-plan, root-plan, split-plan, split-at, plan, widths-of, highs-of, plan-of}
+use Rattle.edit_model.proofs.Image.{store-image, proper-image}
+use Rattle.edit_model.proofs.Along.{label-at}
+use Rattle.edit_model.proofs.Numbers.{number-above, numbers-right}
+use Rattle.edit_model.proofs.Splits.{counted, counted-one, counted-span}
+use Rattle.edit_model.proofs.Added.{behind-place}
+
+-- the first label of a forest is its number
+first-label : (s r : ℕ) (f : Forest) (w : ℕ → ℕ) (j a : ℕ) → 2 ≤ r → Good s r f j → 1 ≤ size f → getD (labels f w j a) 0 0 ≡ a
+unfolding labels leaves
+first-label s r nil w j a r-least good some = absurd (omega arith)
+first-label s r (leaf x f) w j a r-least good some = refl
+first-label s r (node g f) w zero a r-least good some = absurd good
+first-label s r (node g f) w (suc j) a r-least good some =
+    let inner : 1 ≤ size g = omega (arith, good .0, some-power r (suc j) r-least) in
+    List·getD-append (labels g w j a) (labels f w (suc j) (a + w (suc j))) 0 0 (rw (length-labels g w j a) inner) ∙ first-label s r g w j a r-least (good .2) inner
+
+-- the tag before the place behind the first p tags, and the numbers of the ancestors of that place
+abbrev pub place-tag : Store → (p : ℕ) → ℕ
+place-tag st p = getD (no-tag ∷ row st) p no-tag
+
+abbrev pub numbers-before : (ws : List ℕ) → Store → (p : ℕ) → List ℕ
+numbers-before ws st p = ancestor-numbers (widths-of ws) (st .book .under) (getD (labels-of (width st) (st .book)) (p - 1) 0) 0 (replicate 24 0)
+
+-- the flat view of an insertion into a store
+abbrev pub Flat-in : Store → (p x : ℕ) → Type 0
+Flat-in st p x = Flat (st .book .s) (st .book .r) (width st) (whole (st .book)) (height (st .book)) p x 0
+
+-- A PLAN THAT IS RIGHT: what the flat view says; its bound cuts what is shifted from what stands behind
+pub record Planned (st : Store) (p x : ℕ) (d : Flat-in st p x) (q : Plan) : Type 0 where
+  pub height-is : q .height ≡ d .height
+  pub left-is : q .left ≡ place-tag st (length (d .before))
+  pub number-is : q .number ≡ d .number
+  pub count-is : q .count ≡ suc (length (d .old))
+  pub by-is : 1 ≤ length (d .beside) → q .by ≡ d .shift
+  pub low : (i : ℕ) → i < length (d .beside) → getD (d .beside) i 0 < q .bound
+  pub stop : 1 ≤ length (d .after) → q .bound ≤ getD (d .after) 0 0
+
+-- how many labels there are
+parts-of : (st : Store) (p x : ℕ) (d : Flat-in st p x) → length (d .before) + (length (d .old) + (length (d .beside) + length (d .after))) ≡ size (st .book .root)
+parts-of st p x d =
+    let k = st .book in
+    omega (arith, simp length-append at (ap length (labels-whole (width st) k ∙ d .was)), length-labels (k .root) (width st) (k .under) 0)
+
+-- where labels are cut, those just before the cut are below it and the first behind it is not
+pub cut-low : (a c e : ℕ) (xs ys zs ts : List ℕ) → Cut a c e (xs ++ (ys ++ zs)) ts → (i : ℕ) → i < length zs → getD zs i 0 < c
+cut-low a c e xs ys zs ts cut i l =
+    let at = getD-append-add xs (ys ++ zs) (length ys + i) 0 ∙ getD-append-add ys zs i 0 in
+    rw at at (rising-below a c (xs ++ (ys ++ zs)) (cut .0) (length xs + (length ys + i)) (simp length-append (omega arith)))
+
+module _ (ws : List ℕ) (st : Store) (says : Says ws st) where
+  pub sound-said : Sound st
+  unfolding Says
+  sound-said = facts-of st (says .0)
+
+  -- THE WORDS are an image's
+  pub image-said : (rest : List ℕ) × (ws ≡ image-words (image-of st) ++ rest)
+  unfolding Says
+  image-said = (says .1 .0, says .1 .1 ∙ rw (store-image st))
+
+  -- THE TABLES are right
+  tables-said : Tables-right (st .book .s) (st .book .r) (width st) (height (st .book)) (shape-of ws .tables)
+  tables-said = tables-right (header-facts-said ws st says)
+
+  pub low-enough : st .book .under ≤ 22
+  low-enough = omega (arith, tables-said .top-fits)
+
+  pub widths-right : (h : ℕ) → h ≤ height (st .book) → entry (widths-of ws) h ≡ width st h
+  unfolding shape-of widths-of
+  widths-right h l = tables-said .widths h l
+
+  pub highs-right : (h : ℕ) → h ≤ height (st .book) → entry (highs-of ws) h ≡ st .book .s * st .book .r ^ h
+  unfolding shape-of highs-of
+  highs-right h l = tables-said .highs h l
+
+  -- A PLACE behind the first p tags: the tag before it, its label, and the tag behind it
+  pub is-tag : (i : ℕ) → i < count st → eqb (getD (row st) i no-tag) no-tag ≡ false
+  is-tag i l =
+      ne-eqb (getD (row st) i no-tag) no-tag
+      (λ e. omega (arith, sound-said .few, row-below sound-said _ (member-getD (row st) i no-tag (omega (arith, sound-said .as-many)))))
+
+  pub behind-said : (p : ℕ) → p ≤ count st → behind ws (place-tag st p) ≡ getD (row st) p no-tag
+  unfolding image-of
+  behind-said p fits =
+      rw (image-said .1) (behind-place (proper-image sound-said) (sound-said .few) (image-said .0) p (omega (arith, sound-said .as-many)))
+
+  pub label-said : (i : ℕ) → i < count st → field ws (getD (row st) i no-tag) 0 ≡ getD (labels-of (width st) (st .book)) i 0
+  unfolding image-of
+  label-said i l = rw (image-said .1) (label-at (proper-image sound-said) (image-said .0) i no-tag (omega (arith, sound-said .as-many)))
+
+  first-said : getD (labels-of (width st) (st .book)) 0 0 ≡ 0
+  first-said =
+      let k = st .book in
+      by-test (eqb (size (k .root)) 0)
+      (λ t. List·getD-eq-default (labels-of (width st) k) 0 {n = 0} (omega (arith, length-labels (k .root) (width st) (k .under) 0, eqb-true (size (k .root)) 0 t)))
+      (λ t. let some = eqb-false (size (k .root)) 0 t in
+      first-label (k .s) (k .r) (k .root) (width st) (k .under) 0 (sound-said .degrees .r-least) (rooted k (sane sound-said) .good) (omega arith))
+
+  pub place-label-said : (p : ℕ) → p ≤ count st → place-label ws (place-tag st p) ≡ getD (labels-of (width st) (st .book)) (p - 1) 0
+  unfolding place-label
+  place-label-said zero fits = sym first-said
+  place-label-said (suc q) fits = let before : suc q - 1 ≡ q = omega arith in rw (is-tag q fits, before) (label-said q fits)
+
+  -- the label right behind it
+  pub next-number : (p n : ℕ) → p ≤ count st → (p ≡ 0 → n ≡ 0) → ((q : ℕ) → p ≡ suc q → n ≡ getD (labels-of (width st) (st .book)) q 0 + width st 0) →
+      cond (eqb (place-tag st p) no-tag) 0 (field ws (place-tag st p) 0 + entry (widths-of ws) 0) ≡ n
+  next-number zero n fits front next = sym (front refl)
+  next-number (suc q) n fits front next = rw (is-tag q fits, label-said q fits, widths-right 0 (omega arith)) (sym (next q refl))
+
+  module _ (p : ℕ) (fits : p ≤ count st) where
+    pub numbers-said : numbers-at ws (widths-of ws) (st .book .under) (place-tag st p) ≡ numbers-before ws st p
+    unfolding numbers-at
+    numbers-said = rw (place-label-said p fits)
+
+    -- what is counted at it for m tags, and their plan
+    pub split-said : (m : ℕ) → split-at ws (widths-of ws) (highs-of ws) (count st) m (st .book .under) (place-tag st p) ≡ counted ws (widths-of ws) (highs-of ws) st p m
+    unfolding split-at
+    split-said m = let none : p - p ≡ 0 = omega arith in rw (numbers-said, behind-said p fits, none)
+
+    pub plan-said : (m : ℕ) → plan-of ws m (place-tag st p) ≡ plan ws (st .book .s) (widths-of ws) (highs-of ws) (count st) m (st .book .under) (place-tag st p)
+    unfolding plan-of
+    plan-said m = let head = header-said ws st says in rw (head .degree-s, head .levels, head .issued)
+
+    pub size-said : p ≤ size (st .book .root)
+    size-said = omega (arith, sound-said .as-many)
+
+    -- the numbers, and the bound of a height
+    pub number-right : (h : ℕ) → 1 ≤ h → h ≤ st .book .under → entry (numbers-before ws st p) h ≡ number-in (st .book .root) (width st) (st .book .under) h p 0
+    number-right h least most =
+        let k = st .book in
+        let own = rooted k (sane sound-said) in
+        let some : 1 ≤ size (k .root) = omega (arith, own .low (λ e. omega arith), some-power (k .r) (k .under) (sound-said .degrees .r-least)) in
+        numbers-right (sound-said .degrees .s-least) (sound-said .degrees .r-least) (power-widths (k .s) (k .r)) (widths-of ws) (k .root) (k .under) p (own .good) size-said some widths-right low-enough h least most
+
+    pub bound-cuts : (x : ℕ) (d : Flat-in st p x) → d .height ≤ st .book .under →
+        Cut 0 (entry (numbers-before ws st p) (suc (d .height)) + entry (widths-of ws) (suc (d .height))) (width st (height (st .book))) (d .before ++ (d .old ++ d .beside)) (d .after)
+    bound-cuts x d low =
+        let k = st .book in
+        let powers = power-widths (k .s) (k .r) in
+        by-test (eqb (d .height) (k .under))
+        (λ t.
+        let top = eqb-true (d .height) (k .under) t in
+        let none : entry (numbers-before ws st p) (suc (k .under)) ≡ 0 = number-above (widths-of ws) 24 (k .under) (getD (labels-of (width st) k) (p - 1) 0) (suc (k .under)) (omega arith) in
+        let bound : entry (numbers-before ws st p) (suc (d .height)) + entry (widths-of ws) (suc (d .height)) ≡ width st (height k) = rw (top, none, widths-right (height k) (omega arith)) (omega arith) in
+        rw bound (cut-root powers (sane sound-said) size-said d top))
+        (λ t.
+        let below : d .height < k .under = omega (arith, eqb-false (d .height) (k .under) t) in
+        rw (number-right (suc (d .height)) (omega arith) below, widths-right (suc (d .height)) (omega arith))
+        (cut-inside powers (sane sound-said) size-said d below))
+
+    module _ (x : ℕ) (d : Flat-in st p x) where
+      split-is : split-of p (st .book) ≡ d .height
+      split-is = split-flat size-said d
+
+      -- A ROOT SPLIT numbers all tags anew
+      root-planned : root-full (st .book) ≡ true → Planned st p x d (root-plan (height (st .book)) (count st + 1))
+      unfolding root-plan
+      root-planned t =
+          let k = st .book in
+          let top : d .height ≡ height k = sym split-is ∙ split-of-split p k t in
+          let piece : Piece (k .s) (k .r) (width st) x (suc (k .under)) (d .offset) (d .number) (d .old) (d .new) (d .shift) = rw top at (d .piece) in
+          let old = ap length (piece .old-is) ∙ length-labels (piece .under) (width st) (k .under) (d .number) in
+          let all = parts-of st p x d in
+          let full = root-at-limit k t in
+          let none : length (d .before) ≡ 0 = omega (arith, piece .limit) in
+          let zero-number : d .number ≡ 0 = sym (d .number-is (k .under) top) ∙ at-here (k .root) nil (width st) (height k) (height k) p 0 size-said refl .0 in
+          record {
+            height-is = sym top;
+            left-is = rw none;
+            number-is = sym zero-number;
+            count-is = omega (arith, piece .limit, sound-said .as-many);
+            by-is = λ l. absurd (omega (arith, piece .limit));
+            low = λ i l. absurd (omega (arith, piece .limit));
+            stop = λ l. absurd (omega (arith, piece .limit));
+          }
+
+      -- NO SPLIT: the new tag alone
+      plain-planned : d .height ≡ 0 → Planned st p x d (plain-plan ws (widths-of ws) (st .book .under) (place-tag st p))
+      unfolding plain-plan
+      plain-planned none =
+          let k = st .book in
+          let piece : Piece (k .s) (k .r) (width st) x 0 (d .offset) (d .number) (d .old) (d .new) (d .shift) = rw none at (d .piece) in
+          let here : p ≡ length (d .before) = omega (arith, d .place-is, piece .0) in
+          let cuts = rw none at (bound-cuts x d (omega arith)) in
+          record {
+            height-is = sym none;
+            left-is = rw (← here);
+            number-is =
+                next-number p (d .number) fits (d .front) (λ q e. d .next none q e ∙ rw (← labels-whole (width st) k));
+            count-is = rw (piece .1);
+            by-is = λ l. widths-right 0 (omega arith) ∙ sym (piece .3);
+            low = rw numbers-said (cut-low _ _ _ (d .before) (d .old) (d .beside) (d .after) cuts);
+            stop = rw numbers-said (rising-from _ _ (d .after) (cuts .1) 0);
+          }
+
+      -- BELOW THE ROOT: the height that is counted is that of the split
+      module _ (room : root-full (st .book) ≡ false) where
+        split-inside : split-height (st .book .root) (st .book .s) (st .book .r) (st .book .under) p ≡ d .height
+        split-inside = sym (split-of-inside p (st .book) room) ∙ split-is
+
+        at-most : d .height ≤ st .book .under
+        at-most = omega (arith, split-inside, split-at-most (st .book .root) (st .book .s) (st .book .r) (st .book .under) p (rooted (st .book) (sane sound-said) .good))
+
+        split-height-said : split-at ws (widths-of ws) (highs-of ws) (count st) 1 (st .book .under) (place-tag st p) .height ≡ d .height
+        unfolding split-at highest-full
+        split-height-said =
+            by-test (eqb (count st) 0)
+            (λ t.
+            let flat-root : st .book .under ≡ 0 = empty-low (st .book) (sane sound-said) (sound-said .as-many ∙ eqb-true (count st) 0 t) in
+            rw flat-root (omega (arith, at-most)))
+            (λ t. let some = eqb-false (count st) 0 t in
+            ap (λ (q : Split). q .height) (split-said 1)
+            ∙ counted-one ws st says p fits (omega arith) low-enough (widths-of ws) (highs-of ws) widths-right highs-right ∙ split-inside)
+
+        split-planned : (h : ℕ) → d .height ≡ suc h →
+            Planned st p x d (split-plan (st .book .s) (widths-of ws) (highs-of ws) (numbers-at ws (widths-of ws) (st .book .under) (place-tag st p))
+            (split-at ws (widths-of ws) (highs-of ws) (count st) 1 (st .book .under) (place-tag st p)))
+        unfolding split-plan
+        split-planned h e =
+            let k = st .book in
+            let piece : Piece (k .s) (k .r) (width st) x (suc h) (d .offset) (d .number) (d .old) (d .new) (d .shift) = rw e at (d .piece) in
+            let old = ap length (piece .old-is) ∙ length-labels (piece .under) (width st) h (d .number) in
+            let cuts = bound-cuts x d at-most in
+            let some : 1 ≤ count st = omega (arith, sound-said .as-many, rooted k (sane sound-said) .low (λ i. omega (arith, at-most)), some-power (k .r) (k .under) (sound-said .degrees .r-least)) in
+            let inside = at-inside (k .root) nil (width st) (height k) (d .height) p 0 size-said (λ i. omega (arith, at-most)) in
+            let span = counted-span ws st says p fits some low-enough (widths-of ws) (highs-of ws) widths-right highs-right 1 in
+            let same-height : counted ws (widths-of ws) (highs-of ws) st p 1 .height ≡ d .height = sym (ap (λ (q : Split). q .height) (split-said 1)) ∙ split-height-said in
+            let left : split-at ws (widths-of ws) (highs-of ws) (count st) 1 (k .under) (place-tag st p) .span .left ≡ place-tag st (length (d .before)) =
+            ap (λ (q : Split). q .span .left) (split-said 1 ∙ span) ∙ rw (same-height, ← inside .1, d .left-is) in
+            rw (split-height-said, left, numbers-said) (record {
+              height-is = refl;
+              left-is = refl;
+              number-is = number-right (d .height) (omega arith) at-most ∙ sym (inside .0) ∙ rw e (d .number-is h e);
+              count-is = rw (highs-right (d .height) (omega (arith, at-most)), e, ← piece .limit, old);
+              by-is = λ l. rw (widths-right (d .height) (omega (arith, at-most)), e) (sym (piece .shift-is));
+              low = cut-low _ _ _ (d .before) (d .old) (d .beside) (d .after) cuts;
+              stop = rising-from _ _ (d .after) (cuts .1) 0;
+            })
+
+      -- THE PLAN OF ONE TAG
+      pub planned : Planned st p x d (plan-of ws 1 (place-tag st p))
+      unfolding plan root-full
+      planned =
+          let k = st .book in
+          let more : count st + 1 ≡ suc (size (k .root)) = omega (arith, sound-said .as-many) in
+          let tested : eqb (count st + 1) (entry (highs-of ws) (height k)) ≡ root-full k = rw (highs-right (height k) (omega arith), more) in
+          rw (plan-said 1) (by-test (root-full k) (λ t. rw (tested ∙ t) (root-planned t)) (λ t. rw (tested ∙ t) (inside t (d .height) refl)))
+        where
+          inside : root-full (st .book) ≡ false → (h : ℕ) → d .height ≡ h → Planned st p x d
+              (cond (eqb (split-at ws (widths-of ws) (highs-of ws) (count st) 1 (st .book .under) (place-tag st p) .height) 0)
+              (plain-plan ws (widths-of ws) (st .book .under) (place-tag st p))
+              (split-plan (st .book .s) (widths-of ws) (highs-of ws) (numbers-at ws (widths-of ws) (st .book .under) (place-tag st p))
+              (split-at ws (widths-of ws) (highs-of ws) (count st) 1 (st .book .under) (place-tag st p))))
+          inside t zero e = rw (eq-eqb _ 0 (split-height-said t ∙ e)) (plain-planned e)
+          inside t (suc h) e =
+              let high = split-height-said t in
+              rw (ne-eqb (split-at ws (widths-of ws) (highs-of ws) (count st) 1 (st .book .under) (place-tag st p) .height) 0 (λ i. omega arith)) (split-planned t h e)
