@@ -1,0 +1,5 @@
+pub mod Rows
+pub mod Parts
+pub mod Shifts
+pub mod AncestorNumbers
+pub mod Spans

@@ -1,0 +1,223 @@
+-- Labels written along next: the row stays, what is written one part after the other is written at once, and how far a loop
+-- that does so has come. Assumes nothing.
+use mathlib.Core.Path.{_≡_, refl, ap, sym, _∙_}
+use mathlib.Core.Bool.{Bool, true, false, cond}
+use mathlib.Core.List.{List, [], _∷_, _++_, map, map-append}
+use Prim.Native.Nat.{ℕ, zero, suc, pred, _+_, _-_, _≤_, _<_}
+use native.Mathlib.Nat.{zero-add, add-zero, add-assoc, suc-add, mod-mod, mod-lt, mod-add-mod}
+use native.Mathlib.Omega.{arith}
+use borrow.Author.Tests.{eq-eqb, ne-eqb}
+use lib.Dec.{eqb}
+use lib.ListN.{length, take, drop, take-append-drop}
+use Rattle.store_types.specs.Limits.{word-limit, tag-words}
+use Rattle.tree.specs.Forest.{Forest, nil, leaf, node, labels, leaf-row}
+use Rattle.calls.specs.Words.{field, follow}
+use Rattle.words.specs.Fields.{with-field, Room}
+use Rattle.edit_model.specs.Relabel.{Relabelled, relabel, along, cut}
+use Rattle.edit_model.proofs.Fields.{field-other-word, length-with-field}
+use Rattle.renumber.specs.Needs.{Records, Row-there, Row-numbered, leaves-numbered}
+
+-- THE RECORDS of n tags have room for each of their words
+pub room : {ws : List ℕ} {n x : ℕ} → Records ws n → x < n → (k : ℕ) → k < tag-words → Room (length ws) x k
+room h below k l = omega (arith, h .long)
+
+pub records-kept : {ws vs : List ℕ} {n : ℕ} → Records ws n → length vs ≡ length ws → Records vs n
+records-kept h e = record { few = h .few; long = rw e (h .long) }
+
+-- THE ROW is the same by words in which each tag has the same next
+abbrev pub Same-next : (ws vs : List ℕ) → Type 0
+Same-next ws vs = (y : ℕ) → field ws y 1 ≡ field vs y 1
+
+pub follow-same : (k : ℕ) (ws vs : List ℕ) (x : ℕ) → Same-next ws vs → follow k ws x ≡ follow k vs x
+unfolding follow
+follow-same zero ws vs x same = refl
+follow-same (suc k) ws vs x same = rw (same x, follow-same k ws vs (field vs x 1) same)
+
+pub along-same : (k : ℕ) (ws vs : List ℕ) (x : ℕ) → Same-next ws vs → along k ws x ≡ along k vs x
+unfolding along
+along-same zero ws vs x same = refl
+along-same (suc k) ws vs x same = rw (same x) (along-same k ws vs (field vs x 1) same)
+
+pub label-keeps-next : (ws : List ℕ) (x l : ℕ) → Same-next (with-field ws x 0 l) ws
+label-keeps-next ws x l y = field-other-word ws x y 0 1 l (omega arith) (omega arith) (λ e. omega arith)
+
+pub relabel-keeps-next : (xs ls ws : List ℕ) → Same-next (relabel xs ls ws .words) ws
+unfolding relabel
+relabel-keeps-next [] ls ws y = refl
+relabel-keeps-next (x ∷ xs) [] ws y = refl
+relabel-keeps-next (x ∷ xs) (l ∷ ls) ws y = relabel-keeps-next xs ls (with-field ws x 0 l) y ∙ label-keeps-next ws x l y
+
+-- SO MANY TAGS of a row, and those behind them
+pub length-follow : (k : ℕ) (ws : List ℕ) (x : ℕ) → length (follow k ws x) ≡ k
+unfolding follow
+length-follow zero ws x = refl
+length-follow (suc k) ws x = ap suc (length-follow k ws (field ws x 1))
+
+pub take-follow : (e d : ℕ) (ws : List ℕ) (x : ℕ) → take e (follow (e + d) ws x) ≡ follow e ws x
+unfolding follow
+take-follow zero d ws x = refl
+take-follow (suc e) d ws x = rw (suc-add, take-follow e d ws (field ws x 1))
+
+pub drop-follow : (e d : ℕ) (ws : List ℕ) (x : ℕ) → drop e (follow (e + d) ws x) ≡ follow d ws (along e ws x)
+unfolding follow along
+drop-follow zero d ws x = rw zero-add
+drop-follow (suc e) d ws x = rw suc-add (drop-follow e d ws (field ws x 1))
+
+pub follow-add : (e d : ℕ) (ws : List ℕ) (x : ℕ) → follow (e + d) ws x ≡ follow e ws x ++ follow d ws (along e ws x)
+follow-add e d ws x = sym (take-append-drop e (follow (e + d) ws x)) ∙ rw (take-follow, drop-follow)
+
+pub along-add : (e d : ℕ) (ws : List ℕ) (x : ℕ) → along (e + d) ws x ≡ along d ws (along e ws x)
+unfolding along
+along-add zero d ws x = rw zero-add
+along-add (suc e) d ws x = rw suc-add (along-add e d ws (field ws x 1))
+
+-- NEW LABELS for one row and then for another
+pub relabel-none : (xs ws : List ℕ) → relabel xs [] ws ≡ record { words = ws; moved = 0 }
+unfolding relabel
+relabel-none [] ws = refl
+relabel-none (x ∷ xs) ws = refl
+
+pub moved-one : (same : Bool) → cond same 0 1 ≤ 1
+moved-one true = omega arith
+moved-one false = omega arith
+
+pub moved-most : (xs ls ws : List ℕ) → relabel xs ls ws .moved ≤ length xs
+unfolding relabel
+moved-most [] ls ws = omega arith
+moved-most (x ∷ xs) [] ws = omega arith
+moved-most (x ∷ xs) (l ∷ ls) ws = omega (arith, moved-one (eqb (field ws x 0) l), moved-most xs ls (with-field ws x 0 l))
+
+pub relabel-append : (xs ys ls ms ws : List ℕ) → length xs ≡ length ls →
+    relabel (xs ++ ys) (ls ++ ms) ws
+    ≡ record { words = relabel ys ms (relabel xs ls ws .words) .words; moved = relabel xs ls ws .moved + relabel ys ms (relabel xs ls ws .words) .moved }
+unfolding relabel
+relabel-append [] ys [] ms ws e = rw zero-add refl
+relabel-append [] ys (l ∷ ls) ms ws e = absurd (omega arith)
+relabel-append (x ∷ xs) ys [] ms ws e = absurd (omega arith)
+relabel-append (x ∷ xs) ys (l ∷ ls) ms ws e = rw (relabel-append xs ys ls ms (with-field ws x 0 l) (omega arith), add-assoc) refl
+
+-- one more has moved where the label that was read, o, is not the new one
+pub same-label : {o f l : ℕ} → o ≡ f → o ≡ l → _≡_ {A = ℕ} 0 (cond (eqb f l) 0 1)
+same-label {o} {f} {l} e same = rw (eq-eqb f l (sym e ∙ same))
+
+pub other-label : {o f l : ℕ} → o ≡ f → (o ≡ l → ⊥) → _≡_ {A = ℕ} 1 (cond (eqb f l) 0 1)
+other-label {o} {f} {l} e other = rw (ne-eqb f l (λ same. other (e ∙ same)))
+
+-- NUMBERS AS LABELS: only what is left of 32 bits counts
+pub cut-cut : (a : ℕ) → cut (cut a) ≡ cut a
+unfolding cut
+cut-cut a = mod-mod a word-limit
+
+pub cut-small : (a : ℕ) → cut a < word-limit
+unfolding cut
+cut-small a = mod-lt a (omega arith)
+
+pub cut-add : (a b d : ℕ) → cut a ≡ cut b → cut (a + d) ≡ cut (b + d)
+unfolding cut
+cut-add a b d e = sym (mod-add-mod a word-limit d) ∙ rw e (mod-add-mod b word-limit d)
+
+pub labels-cut : (f : Forest) (w : ℕ → ℕ) (j a b : ℕ) → cut a ≡ cut b → map cut (labels f w j a) ≡ map cut (labels f w j b)
+unfolding labels
+labels-cut nil w j a b e = refl
+labels-cut (leaf x f) w j a b e = rw (e, labels-cut f w j (a + w j) (b + w j) (cut-add a b (w j) e))
+labels-cut (node g f) w j a b e =
+    simp map-append (rw (labels-cut g w (pred j) a b e, labels-cut f w j (a + w j) (b + w j) (cut-add a b (w j) e)))
+
+-- leaves take the width of height 0
+pub leaf-widths : (xs : List ℕ) (u v : ℕ → ℕ) (a : ℕ) → u 0 ≡ v 0 → labels (leaf-row xs) u 0 a ≡ labels (leaf-row xs) v 0 a
+unfolding leaf-row labels
+leaf-widths [] u v a e = refl
+leaf-widths (x ∷ xs) u v a e = rw (e, leaf-widths xs u v (a + v 0) e)
+
+-- A LOOP ON ITS WAY: it has come to a tag with so many left; what it does from here, `rest`, with what it has counted as
+-- moved, comes to the whole
+pub record On-way (whole rest : Relabelled) (before ws : List ℕ) (n first count tag left at done : ℕ) : Type 0 where
+  pub row : Row-there ws n tag left
+  pub number : at < word-limit
+  pub counted : done + left ≤ count
+  pub words : rest .words ≡ whole .words
+  pub moved : done + rest .moved ≡ whole .moved
+  pub behind : along left ws tag ≡ along count before first
+  pub long : length ws ≡ length before
+
+-- the tag where it stands has a record
+pub tag-room : {ws : List ℕ} {n x count : ℕ} → Row-there ws n x count → 1 ≤ count → (k : ℕ) → k < tag-words → Room (length ws) x k
+unfolding along
+tag-room h some k l = room (h .records) (h .below 0 some) k l
+
+pub start : (q : Relabelled) (ws : List ℕ) (n x count a : ℕ) → Row-there ws n x count → a < word-limit → On-way q q ws ws n x count x count a 0
+start q ws n x count a row small =
+    record { row = row; number = small; counted = omega arith; words = refl; moved = omega arith; behind = refl; long = refl }
+
+-- so many tags further, of which m held another label
+module _ {whole rest : Relabelled} {before ws : List ℕ} {n first count tag left at done : ℕ}
+    (h : On-way whole rest before ws n first count tag left at done)
+    (further : Relabelled) (vs : List ℕ) (size m next here : ℕ) where
+  pub on : size ≤ left → m ≤ size → here < word-limit → next ≡ along size ws tag → Same-next vs ws → length vs ≡ length ws →
+      further .words ≡ rest .words → m + further .moved ≡ rest .moved →
+      On-way whole further before vs n first count next (left - size) here (done + m)
+  on fits few small step same long words moved =
+      let all : size + (left - size) ≡ left = omega arith in
+      let move : (i : ℕ) → along i vs next ≡ along (size + i) ws tag = λ i. along-same i vs ws next same ∙ rw step (sym (along-add size i ws tag)) in
+      record {
+        row =
+            record {
+              records = records-kept (h .row .records) long;
+              most = omega (arith, h .row .most);
+              below = λ i l. rw (move i) (h .row .below (size + i) (omega arith));
+            };
+        number = small;
+        counted = omega (arith, h .counted);
+        words = words ∙ h .words;
+        moved = omega (arith, h .moved);
+        behind = move (left - size) ∙ rw all (h .behind);
+        long = long ∙ h .long;
+      }
+
+-- at its end nothing is left to do
+pub arrived : {whole rest : Relabelled} {before ws : List ℕ} {n first count tag left at done : ℕ} →
+    On-way whole rest before ws n first count tag left at done → left ≡ 0 → rest ≡ record { words = ws; moved = 0 } →
+    Row-numbered before ws whole first count tag done
+unfolding along
+arrived h none nothing =
+    record {
+      words = sym (ap (λ (q : Relabelled). q .words) nothing) ∙ h .words;
+      moved = sym (add-zero _) ∙ (rw nothing at (h .moved));
+      next = rw none at (h .behind);
+    }
+
+-- LEAVES one by one
+pub leaves-turn : (ws : List ℕ) (v a x k : ℕ) →
+    leaves-numbered ws v a x (suc k)
+    ≡ record {
+      words = leaves-numbered (with-field ws x 0 (cut a)) v (cut (a + v)) (field ws x 1) k .words;
+      moved = cond (eqb (field ws x 0) (cut a)) 0 1 + leaves-numbered (with-field ws x 0 (cut a)) v (cut (a + v)) (field ws x 1) k .moved;
+    }
+unfolding leaves-numbered follow leaf-row labels relabel
+leaves-turn ws v a x k =
+    rw (follow-same k (with-field ws x 0 (cut a)) ws (field ws x 1) (label-keeps-next ws x (cut a)), labels-cut (leaf-row (follow k ws (field ws x 1))) (λ i. v) 0 (cut (a + v)) (a + v) (cut-cut (a + v)))
+    refl
+
+pub leaf-on : {whole : Relabelled} {before ws : List ℕ} {n first count tag left at done : ℕ} (v : ℕ) →
+    On-way whole (leaves-numbered ws v at tag left) before ws n first count tag left at done → 1 ≤ left → (vs : List ℕ) (m next : ℕ) →
+    vs ≡ with-field ws tag 0 (cut at) → m ≡ cond (eqb (field ws tag 0) (cut at)) 0 1 → next ≡ field vs tag 1 →
+    On-way whole (leaves-numbered vs v (cut (at + v)) next (left - 1)) before vs n first count next (left - 1) (cut (at + v)) (done + m)
+unfolding along
+leaf-on {ws = ws} {tag = tag} {left = left} {at = at} v h some vs m next e f g =
+    let same : Same-next vs ws = rw e (label-keeps-next ws tag (cut at)) in
+    let step : next ≡ field ws tag 1 = g ∙ same tag in
+    let all : suc (left - 1) ≡ left = omega arith in
+    let turn = rw all at (leaves-turn ws v at tag (left - 1)) in
+    on h (leaves-numbered vs v (cut (at + v)) next (left - 1)) vs 1 m next (cut (at + v))
+    some
+    (rw f (moved-one (eqb (field ws tag 0) (cut at))))
+    (cut-small (at + v))
+    step
+    same
+    (rw e (length-with-field ws tag 0 (cut at)))
+    (rw (step, e) (rw turn))
+    (rw (step, f, e) (rw turn))
+
+pub leaves-end : (ws : List ℕ) (v a x left : ℕ) → left ≡ 0 → leaves-numbered ws v a x left ≡ record { words = ws; moved = 0 }
+unfolding leaves-numbered follow relabel
+leaves-end ws v a x left none = rw none

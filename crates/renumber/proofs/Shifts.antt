@@ -1,0 +1,67 @@
+-- Labels shifted along next: where a shift ends, one step of it, and how far a loop that does so has come. Assumes nothing.
+use mathlib.Core.Path.{_≡_, refl, _∙_}
+use mathlib.Core.Bool.{or-true}
+use mathlib.Core.List.{List}
+use Prim.Native.Nat.{ℕ, zero, suc, _+_, _-_, _≤_, _<_}
+use native.Mathlib.Omega.{arith}
+use borrow.Author.Tests.{le-leb, lt-leb}
+use lib.Dec.{leb}
+use lib.ListN.{length}
+use Rattle.calls.specs.Words.{field}
+use Rattle.words.specs.Fields.{with-field}
+use Rattle.edit_model.specs.Relabel.{Relabelled, shift, cut}
+use Rattle.edit_model.proofs.Fields.{length-with-field}
+use Rattle.renumber.specs.Needs.{Records}
+use Rattle.renumber.proofs.Rows.{label-keeps-next, records-kept}
+
+-- IT ENDS after its last step, at no tag of n, or at a label that is not below the bound
+pub shift-spent : (k n : ℕ) (ws : List ℕ) (x b d : ℕ) → k ≡ 0 → shift k n ws x b d ≡ record { words = ws; moved = 0 }
+unfolding shift
+shift-spent k n ws x b d e = rw e refl
+
+pub shift-out : (k n : ℕ) (ws : List ℕ) (x b d : ℕ) → n ≤ x → shift k n ws x b d ≡ record { words = ws; moved = 0 }
+unfolding shift
+shift-out zero n ws x b d h = refl
+shift-out (suc k) n ws x b d h = rw (le-leb n x h)
+
+pub shift-far : (k n : ℕ) (ws : List ℕ) (x b d : ℕ) → b ≤ field ws x 0 → shift k n ws x b d ≡ record { words = ws; moved = 0 }
+unfolding shift
+shift-far zero n ws x b d h = refl
+shift-far (suc k) n ws x b d h = rw (le-leb b (field ws x 0) h, or-true (leb n x))
+
+-- ONE STEP
+shift-step : (k n : ℕ) (ws : List ℕ) (x b d : ℕ) → x < n → field ws x 0 < b →
+    let rest = shift k n (with-field ws x 0 (cut (field ws x 0 + d))) (field ws x 1) b d in
+    shift (suc k) n ws x b d ≡ record { words = rest .words; moved = suc (rest .moved) }
+unfolding shift
+shift-step k n ws x b d below small = rw (lt-leb n x below, lt-leb b (field ws x 0) small)
+
+-- A LOOP ON ITS WAY: so many labels are shifted; what it does from here, with those, comes to the whole
+pub record Shifting (whole : Relabelled) (before ws : List ℕ) (n tag bound by done : ℕ) : Type 0 where
+  pub records : Records ws n
+  pub fits : done ≤ n
+  pub long : length ws ≡ length before
+  pub words : shift (n - done) n ws tag bound by .words ≡ whole .words
+  pub moved : done + shift (n - done) n ws tag bound by .moved ≡ whole .moved
+
+pub shift-start : (ws : List ℕ) (n x b d : ℕ) → Records ws n → Shifting (shift n n ws x b d) ws ws n x b d 0
+shift-start ws n x b d there = let all : n - 0 ≡ n = omega arith in record { records = there; fits = omega arith; long = refl; words = rw all; moved = rw all (omega arith) }
+
+module _ {whole : Relabelled} {before ws : List ℕ} {n tag bound by done : ℕ} (h : Shifting whole before ws n tag bound by done) where
+  pub shift-on : done < n → tag < n → field ws tag 0 < bound → (vs : List ℕ) (next : ℕ) → vs ≡ with-field ws tag 0 (cut (field ws tag 0 + by)) →
+      next ≡ field vs tag 1 → Shifting whole before vs n next bound by (done + 1)
+  shift-on more below small vs next e f =
+      let step : next ≡ field ws tag 1 = f ∙ rw e (label-keeps-next ws tag (cut (field ws tag 0 + by)) tag) in
+      let left : n - done ≡ suc (n - (done + 1)) = omega arith in
+      let turn = rw (← left) at (shift-step (n - (done + 1)) n ws tag bound by below small) in
+      let long : length vs ≡ length ws = rw e (length-with-field ws tag 0 (cut (field ws tag 0 + by))) in
+      record {
+        records = records-kept (h .records) long;
+        fits = omega arith;
+        long = long ∙ h .long;
+        words = rw (e, step) (rw turn at (h .words));
+        moved = rw (e, step) (omega (arith, rw turn at (h .moved)));
+      }
+
+  pub shift-end : shift (n - done) n ws tag bound by ≡ record { words = ws; moved = 0 } → (ws ≡ whole .words) × (done ≡ whole .moved)
+  shift-end end = (rw end at (h .words), omega (arith, rw end at (h .moved)))

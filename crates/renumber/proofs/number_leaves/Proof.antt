@@ -1,0 +1,81 @@
+-- `renumber::number_leaves` meets its contract. The loop's invariant: the leaves that are left, numbered from here, come to the
+-- whole (On-way). The measure is how many are left. Assumes nothing.
+use mathlib.Core.Path.{_≡_}
+use native.Mathlib.Omega.{arith}
+use lib.Dec.{eqb}
+use Rattle.calls.specs.Words.{field}
+use Rattle.edit_model.specs.Relabel.{cut}
+use Rattle.renumber.specs.Needs.{leaves-numbered}
+use Rattle.renumber.proofs.Rows.{On-way, start, tag-room, moved-one, leaf-on, leaves-end, arrived}
+use Rattle.renumber.proofs.number_leaves.Statement.{statement}
+use Rattle.renumber.proofs.number_leaves.Tie as tie
+
+abbrev Inv-loop : tie.InvT-loop
+Inv-loop words₀ n a count width at₀ tag₀ left₀ moved₀ words at tag left moved =
+    On-way (leaves-numbered words₀ width a (tag₀ .0) count) (leaves-numbered words width at (tag .0) left) words₀ words n (tag₀ .0) count (tag .0) left at moved
+
+abbrev μ-loop : tie.MeasureT-loop
+μ-loop words₀ n a count width at₀ tag₀ left₀ moved₀ words at tag left moved = left
+
+loop-holds : tie.Need-loop-holds Inv-loop μ-loop
+loop-holds c = start _ _ _ _ _ _ (c .before .pre .0) (c .before .pre .1)
+
+number-leaf-requires : tie.Need-number-leaf-requires Inv-loop μ-loop
+number-leaf-requires c κs =
+    tag-room (c .before .before .loop .inv .row) (c .before .loop-test .taken) 0 (omega arith)
+
+add-moved : tie.Need-add-moved Inv-loop μ-loop
+add-moved c =
+    let turn = c .before .before .before .before in
+    let loop = turn .before .loop in
+    let few = rw (← c .before .before .number-leaf .ensures .1) at (moved-one (eqb (field (loop .words) (loop .tag .0) 0) (cut (loop .at)))) in
+    omega (arith, few, loop .inv .counted, turn .loop-test .taken, turn .before .before .before .pre .0 .most)
+
+next-of-requires : tie.Need-next-of-requires Inv-loop μ-loop
+next-of-requires c κs =
+    let turn = c .before .before .before .before .before in
+    rw (c .before .before .before .number-leaf .kept .0) (tag-room (turn .before .loop .inv .row) (turn .loop-test .taken) 1 (omega arith))
+
+add-at : tie.Need-add-at Inv-loop μ-loop
+add-at c =
+    let turn = c .before .before .before .before .before .before in
+    omega (arith, turn .before .loop .inv .number, turn .before .before .before .pre .2)
+
+sub-left : tie.Need-sub-left Inv-loop μ-loop
+sub-left c = omega arith
+
+loop-less : tie.Need-loop-less Inv-loop μ-loop
+loop-less c = omega arith
+
+loop-again : tie.Need-loop-again Inv-loop μ-loop
+unfolding cut
+loop-again c =
+    let turn = c .before .before .before .before .before .before in
+    let leaf = c .before .before .before .before .number-leaf in
+    leaf-on (turn .before .before .before .args .width) (turn .before .loop .inv) (turn .loop-test .taken) (leaf .last .0) (leaf .result) (c .next-of .result .0) (leaf .ensures .0) (leaf .ensures .1) (c .next-of .ensures)
+
+same-length : tie.Need-same-length Inv-loop μ-loop
+same-length c = c .before .loop .inv .long
+
+returns : tie.Need-returns Inv-loop μ-loop
+returns c =
+    let loop = c .before .loop in
+    let none : loop .left ≡ 0 = omega arith in
+    arrived (loop .inv) none (leaves-end (loop .words) (c .before .before .before .args .width) (loop .at) (loop .tag .0) (loop .left) none)
+
+pub number-leaves-spec : {M : Type 1} → statement M
+number-leaves-spec =
+    tie.close
+    (tie.spec
+    Inv-loop
+    μ-loop
+    loop-holds
+    number-leaf-requires
+    add-moved
+    next-of-requires
+    add-at
+    sub-left
+    loop-less
+    loop-again
+    same-length
+    returns)

@@ -1,0 +1,118 @@
+-- `renumber::shift` meets its contract. The loop's invariant: what is shifted from here comes to the whole (Shifting). The
+-- measure is how many steps are left. Assumes nothing.
+use Prim.Native.Nat.{ℕ, _-_, _≤_, _<_}
+use native.Mathlib.Omega.{arith}
+use borrow.Author.Tests.{ltb-true, ltb-false}
+use lib.ListN.{length}
+use Rattle.store_types.specs.Limits.{tag-words}
+use Rattle.calls.specs.Words.{field}
+use Rattle.words.specs.Fields.{Room}
+use Rattle.edit_model.specs.Relabel.{shift, cut}
+use Rattle.renumber.proofs.Rows.{room}
+use Rattle.renumber.proofs.Shifts.{Shifting, shift-start, shift-on, shift-end, shift-spent, shift-out, shift-far}
+use Rattle.renumber.proofs.shift.Statement.{statement}
+use Rattle.renumber.proofs.shift.Tie as tie
+
+abbrev Inv-loop : tie.InvT-loop
+Inv-loop words₀ n bound by tag₀ moved₀ words tag moved =
+    Shifting (shift n n words₀ (tag₀ .0) bound by) words₀ words n (tag .0) bound by moved
+
+abbrev μ-loop : tie.MeasureT-loop
+μ-loop words₀ n bound by tag₀ moved₀ words tag moved = n - moved
+
+-- in a turn the tag is one of n, and has a record
+below : (c : tie.Then1 Inv-loop μ-loop) → c .before .before .before .loop .tag .0 < c .before .before .before .before .before .args .n
+below c = ltb-true _ _ (c .if1 .taken)
+
+there : (c : tie.Then1 Inv-loop μ-loop) (k : ℕ) → k < tag-words → Room (length (c .before .before .before .loop .words)) (c .before .before .before .loop .tag .0) k
+there c = room (c .before .before .before .loop .inv .records) (below c)
+
+loop-holds : tie.Need-loop-holds Inv-loop μ-loop
+loop-holds c =
+    let args = c .before .args in
+    shift-start (args .words .now) (args .n) (args .x .0) (args .bound) (args .by) (c .before .pre .0)
+
+label-of-requires : tie.Need-label-of-requires Inv-loop μ-loop
+label-of-requires c κs = there (c .before) 0 (omega arith)
+
+cast-if2 : tie.Need-cast-if2 Inv-loop μ-loop
+cast-if2 c = omega (arith, c .struct-known2 .given)
+
+same-length : tie.Need-same-length Inv-loop μ-loop
+same-length c = c .before .before .before .before .before .before .before .loop .inv .long
+
+returns : tie.Need-returns Inv-loop μ-loop
+returns c =
+    let turn = c .before .before .before .before in
+    let loop = turn .before .before .before .loop in
+    let args = turn .before .before .before .before .before .args in
+    let far : args .bound ≤ field (loop .words) (loop .tag .0) 0 = omega (arith, c .before .before .label-of .ensures) in
+    shift-end (loop .inv) (shift-far _ _ (loop .words) (loop .tag .0) (args .bound) (args .by) far)
+
+raised-requires : tie.Need-raised-requires Inv-loop μ-loop
+raised-requires c κs = c .before .before .before .before .before .before .before .before .before .before .pre .1
+
+set-label-requires : tie.Need-set-label-requires Inv-loop μ-loop
+set-label-requires c κs = there (c .before .before .before .before .before .before) 0 (omega arith)
+
+next-of-requires : tie.Need-next-of-requires Inv-loop μ-loop
+next-of-requires c κs = rw (c .before .before .before .set-label .kept .0) (there (c .before .before .before .before .before .before .before .before .before .before) 1 (omega arith))
+
+add-moved : tie.Need-add-moved Inv-loop μ-loop
+add-moved c = omega arith
+
+loop-less : tie.Need-loop-less Inv-loop μ-loop
+loop-less c = omega arith
+
+loop-again : tie.Need-loop-again Inv-loop μ-loop
+unfolding cut
+loop-again c =
+    let set = c .before .before .before .before in
+    let read = set .before .before .before .before .before in
+    let turn = read .before .before in
+    let loop = turn .before .before .before .loop in
+    let args = turn .before .before .before .before .before .args in
+    let same = read .label-of .ensures in
+    let near : field (loop .words) (loop .tag .0) 0 < args .bound = omega (arith, same, set .before .before .before .if2 .left) in
+    let put = rw (set .before .raised .ensures, same) at (set .set-label .ensures) in
+    shift-on (loop .inv) (turn .before .before .loop-test .taken) (below turn) near (set .set-label .last .0) (c .next-of .result .0) put (c .next-of .ensures)
+
+same-length-2 : tie.Need-same-length-2 Inv-loop μ-loop
+same-length-2 c = c .before .before .before .loop .inv .long
+
+returns-2 : tie.Need-returns-2 Inv-loop μ-loop
+returns-2 c =
+    let loop = c .before .before .before .loop in
+    let args = c .before .before .before .before .before .args in
+    shift-end (loop .inv) (shift-out _ (args .n) (loop .words) (loop .tag .0) (args .bound) (args .by) (ltb-false _ _ (c .if1 .left)))
+
+same-length-3 : tie.Need-same-length-3 Inv-loop μ-loop
+same-length-3 c = c .before .loop .inv .long
+
+returns-3 : tie.Need-returns-3 Inv-loop μ-loop
+returns-3 c =
+    let loop = c .before .loop in
+    let args = c .before .before .before .args in
+    shift-end (loop .inv) (shift-spent _ (args .n) (loop .words) (loop .tag .0) (args .bound) (args .by) (omega arith))
+
+pub shift-spec : {M : Type 1} → statement M
+shift-spec =
+    tie.close
+    (tie.spec
+    Inv-loop
+    μ-loop
+    loop-holds
+    label-of-requires
+    cast-if2
+    same-length
+    returns
+    raised-requires
+    set-label-requires
+    next-of-requires
+    add-moved
+    loop-less
+    loop-again
+    same-length-2
+    returns-2
+    same-length-3
+    returns-3)

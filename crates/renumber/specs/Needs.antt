@@ -1,0 +1,80 @@
+-- What the functions of this crate ask of their callers, and what they leave. Assumes nothing: these are definitions.
+use mathlib.Core.Path.{_≡_}
+use mathlib.Core.List.{List, map}
+use Prim.Native.Nat.{ℕ, _+_, _*_, _^_, _≤_, _<_}
+use lib.ListN.{length}
+use Rattle.store_types.specs.Limits.{most-tags, header-words, tag-words, word-limit}
+use Rattle.tree.specs.Forest.{labels, leaf-row, spread}
+use Rattle.calls.specs.Words.{follow}
+use Rattle.walk_model.specs.Levels.{entry}
+use Rattle.edit_model.specs.Relabel.{Relabelled, relabel, along, cut}
+use Rattle.edit_model.specs.Span as span
+use Rattle.renumber.specs.declared.ancestors.Span.{Span}
+use Rattle.renumber.specs.declared.ancestors.Split.{Split}
+
+-- no number, width or limit in a table passes this, so that sums of a few fit 64 bits
+abbrev pub table-limit : ℕ
+table-limit = 1099511627776
+
+-- the records of n tags are there
+pub record Records (ws : List ℕ) (n : ℕ) : Type 0 where
+  pub few : n ≤ most-tags
+  pub long : header-words + tag-words * n ≤ length ws
+
+-- so many tags along next are tags of n
+pub record Row-there (ws : List ℕ) (n x count : ℕ) : Type 0 where
+  pub records : Records ws n
+  pub most : count ≤ most-tags
+  pub below : (i : ℕ) → i < count → along i ws x < n
+
+-- numbers for trees of height j over a row: from height 1 on there are leaves for one tree at least
+pub record Trees-fit (r j a count : ℕ) (w l : List ℕ) : Type 0 where
+  pub degree : 2 ≤ r
+  pub height : j ≤ 22
+  pub least : 1 ≤ j → r ^ j ≤ count
+  pub number : a < word-limit
+  pub widths : (k : ℕ) → entry w k ≤ table-limit
+  pub lows : (k : ℕ) → k ≤ j → entry l k ≡ r ^ k
+
+-- how many tags the next of so many parts takes: the last takes all that remain
+pub record Part-size (parts each left size : ℕ) : Type 0 where
+  pub last : parts ≡ 1 → size ≡ left
+  pub other : (parts ≡ 1 → ⊥) → size ≡ each
+
+-- labels for so many tags along next from x on
+unfoldable pub leaves-numbered : (ws : List ℕ) → (width a x count : ℕ) → Relabelled
+leaves-numbered ws v a x count = let xs = follow count ws x in relabel xs (map cut (labels (leaf-row xs) (λ k. v) 0 a)) ws
+
+unfoldable pub trees-numbered : (ws widths : List ℕ) → (r j a x count : ℕ) → Relabelled
+trees-numbered ws w r j a x count = let xs = follow count ws x in relabel xs (map cut (labels (spread j r xs) (entry w) j a)) ws
+
+-- what numbering a row leaves: the words, how many labels changed, and the tag behind the row
+pub record Row-numbered (before after : List ℕ) (q : Relabelled) (x count behind changed : ℕ) : Type 0 where
+  pub words : after ≡ q .words
+  pub moved : changed ≡ q .moved
+  pub next : behind ≡ along count before x
+
+-- SPANS: the structs of the code as the records of the mirror
+unfoldable pub span-record : Span → span.Span
+span-record v = record { left = v .left .0; right = v .right .0; size = v .size }
+
+abbrev pub split-at : (height : ℕ) → span.Span → span.Split
+split-at h v = record { height = h; span = v }
+
+unfoldable pub split-record : Split → span.Split
+split-record q = split-at (q .height) (span-record (q .span))
+
+-- a span's count stays far below 32 bits
+abbrev pub count-limit : ℕ
+count-limit = 1000000000
+
+-- heights below the root: every node of them has a width
+pub record Ancestors-fit (under : ℕ) (w : List ℕ) : Type 0 where
+  pub height : under ≤ 22
+  pub widths : (k : ℕ) → 1 ≤ k → k ≤ under → 1 ≤ entry w k
+
+pub record Heights-fit (under k size : ℕ) (w ns : List ℕ) : Type 0 where
+  pub height : under ≤ 22
+  pub counted : size ≤ most-tags
+  pub widths : (h : ℕ) → entry w h ≤ table-limit
+  pub numbers : (h : ℕ) → entry ns h ≤ table-limit

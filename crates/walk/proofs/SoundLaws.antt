@@ -1,0 +1,134 @@
+-- The whole walk (walk_model's Walk): the header is the frame and the root, tables of a header that passes fit, and the three
+-- parts decide. Assumes nothing.
+use mathlib.Core.Path.{_≡_, sym, _∙_}
+use mathlib.Core.Bool.{Bool, true, false, _&&_, not, and-assoc, and-false, and-eq-true-iff}
+use mathlib.Core.Logic.{by-cases}
+use mathlib.Core.List.{List}
+use Prim.Native.Nat.{ℕ, pred, _+_, _*_, _-_, _^_, _≤_}
+use native.Mathlib.Nat.{one-mul, mul-le-mul, mul-le-mul-right, pow-le-pow-left, pow-le-pow-right}
+use native.Mathlib.Numerals.{sub-one}
+use native.Mathlib.Decide.{decLe}
+use native.Mathlib.Omega.{arith}
+use borrow.Author.Tests.{leb-true, not-true, not-false}
+use lib.ListN.{length, getD}
+use Rattle.tree.specs.Book.{base, power-width}
+use Rattle.calls.specs.Sound.{degrees-fit}
+use Rattle.calls.specs.Load.{words-for}
+use Rattle.calls.specs.Words.{word-at}
+use Rattle.walk_model.specs.Walk.{table, shape-of, start, walk, header-passes, words-pass}
+use Rattle.walk.specs.Needs.{entry-limit, Table-fits, Root-fits, Pass-fits, tables-of, levels-of, shape-with, start-with, power-fits, frame-passes, root-passes}
+use Rattle.walk.proofs.TableLaws.{table-at, table-bound}
+use Rattle.walk.proofs.HeaderLaws.{degrees-product}
+
+module _ (ws : List ℕ) where
+  -- the numbers of the header
+  abbrev pub s-of : ℕ
+  s-of = word-at ws 1
+
+  abbrev pub r-of : ℕ
+  r-of = word-at ws 2
+
+  abbrev pub h-of : ℕ
+  h-of = word-at ws 3
+
+  abbrev pub n-of : ℕ
+  n-of = word-at ws 4
+
+-- what a frame that passes says
+pub record Frame (ws : List ℕ) : Type 0 where
+  pub header : 8 ≤ length ws
+  pub s-low : 2 ≤ s-of ws
+  pub s-high : s-of ws ≤ 16
+  pub r-low : 2 ≤ r-of ws
+  pub r-high : r-of ws ≤ 16
+  pub low : 1 ≤ h-of ws
+  pub few : n-of ws ≤ 200000
+  pub long : 8 + 6 * n-of ws ≤ length ws
+  pub power : (s-of ws * r-of ws - 1) ^ h-of ws ≤ 4294967296
+
+pub frame : (ws : List ℕ) {t : Bool} → t ≡ frame-passes ws → not t ≡ false → Frame ws
+unfolding frame-passes degrees-fit words-for power-fits
+frame ws e p =
+    let all = simp and-eq-true-iff at (sym e ∙ not-false _ p) in
+    record {
+      header = leb-true _ _ (all .0 .0 .0);
+      s-low = leb-true _ _ (all .0 .1 .0 .0 .0);
+      s-high = leb-true _ _ (all .0 .1 .0 .0 .1);
+      r-low = leb-true _ _ (all .0 .1 .0 .1 .0);
+      r-high = leb-true _ _ (all .0 .1 .0 .1 .1);
+      low = leb-true _ _ (all .0 .1 .1);
+      few = leb-true _ _ (all .1 .0 .0);
+      long = leb-true _ _ (all .1 .0 .1);
+      power = leb-true _ _ (all .1 .1);
+    }
+
+-- ITS TABLES FIT
+module _ (ws : List ℕ) (a : Frame ws) where
+  pub f-range : (4 ≤ s-of ws * r-of ws) × (s-of ws * r-of ws ≤ 256)
+  f-range = degrees-product (a .s-low) (a .s-high) (a .r-low) (a .r-high)
+
+  -- 3^21 is over 2^32
+  pub high : h-of ws ≤ 20
+  high =
+      let b = s-of ws * r-of ws - 1 in
+      by-cases (decLe (h-of ws) 20) (λ p. p)
+      (λ p. absurd (omega (arith, a .power, pow-le-pow-left {n = 3} {m = b} (omega (arith, f-range)) 21, pow-le-pow-right {n = b} (omega (arith, f-range)) {i = 21} {j = h-of ws} (omega arith))))
+
+  -- r is at most b
+  r-power : r-of ws ^ h-of ws ≤ 4294967296
+  r-power =
+      omega (arith, a .power, pow-le-pow-left {n = r-of ws} {m = s-of ws * r-of ws - 1} (omega (arith, a .r-low, mul-le-mul-right (r-of ws) (a .s-low))) (h-of ws))
+
+  pub widths-fit : Table-fits 1 (s-of ws * r-of ws - 1) (h-of ws)
+  widths-fit = record { height = omega (arith, high); grows = omega (arith, f-range); last = rw one-mul (omega (arith, a .power)) }
+
+  pub lows-fit : Table-fits 1 (r-of ws) (h-of ws)
+  lows-fit = record { height = omega (arith, high); grows = omega (arith, a .r-low); last = rw one-mul (omega (arith, r-power)) }
+
+  pub highs-fit : Table-fits (s-of ws) (r-of ws) (h-of ws)
+  highs-fit = record { height = omega (arith, high); grows = omega (arith, a .r-low); last = omega (arith, mul-le-mul (a .s-high) r-power) }
+
+entries-fit : {v b top : ℕ} → Table-fits v b top → {t : List ℕ} → t ≡ table v b top → (k : ℕ) → getD t k 0 ≤ entry-limit
+entries-fit {v} {b} {top} a e k = rw e (omega (arith, a .last, table-bound v b top (a .grows) k))
+
+module _ (ws lo : List ℕ) (a : Frame ws) (of-lo : lo ≡ table 1 (r-of ws) (h-of ws)) where
+  pub root-fits : Root-fits (h-of ws) lo
+  root-fits = record { low = a .low; high = omega (arith, high ws a); lows = entries-fit (lows-fit ws a) of-lo }
+
+  pub pass-fits : {w hi : List ℕ} → w ≡ table 1 (s-of ws * r-of ws - 1) (h-of ws) → hi ≡ table (s-of ws) (r-of ws) (h-of ws) → Pass-fits ws (n-of ws) (h-of ws - 1) w lo hi
+  pass-fits of-w of-hi =
+      record {
+        few = a .few;
+        long = a .long;
+        levels = record {
+          height = omega (arith, high ws a);
+          widths = entries-fit (widths-fit ws a) of-w;
+          lows = entries-fit (lows-fit ws a) of-lo;
+          highs = entries-fit (highs-fit ws a) of-hi;
+        };
+      }
+
+-- THE PARTS DECIDE
+module _ (ws : List ℕ) where
+  abbrev root : Bool
+  root = root-passes (n-of ws) (h-of ws) (table 1 (r-of ws) (h-of ws)) (table (s-of ws) (r-of ws) (h-of ws))
+
+  header-split : header-passes ws ≡ (frame-passes ws && root)
+  unfolding header-passes frame-passes root-passes power-fits power-width base
+  header-split =
+      rw (table-at (s-of ws) (r-of ws) (h-of ws) (h-of ws) (omega arith), table-at 1 (r-of ws) (h-of ws) (pred (h-of ws)) (omega arith), one-mul)
+      (simp and-assoc)
+
+  module _ {t : Bool} where
+    pub frame-refuses : t ≡ frame-passes ws → not t ≡ true → false ≡ words-pass ws
+    unfolding words-pass
+    frame-refuses e p = rw (header-split, sym e ∙ not-true t p)
+
+    module _ {lo hi : List ℕ} (of-lo : lo ≡ table 1 (r-of ws) (h-of ws)) (of-hi : hi ≡ table (s-of ws) (r-of ws) (h-of ws)) where
+      pub root-refuses : t ≡ root-passes (n-of ws) (h-of ws) lo hi → not t ≡ true → false ≡ words-pass ws
+      unfolding words-pass
+      root-refuses e p = simp (header-split, ← of-lo, ← of-hi, sym e ∙ not-true t p, and-false)
+
+      pub pass-decides : {w : List ℕ} {q r : Bool} → w ≡ table 1 (s-of ws * r-of ws - 1) (h-of ws) → q ≡ frame-passes ws → not q ≡ false → r ≡ root-passes (n-of ws) (h-of ws) lo hi → not r ≡ false → t ≡ walk ws (shape-with w lo hi (h-of ws - 1) (n-of ws)) (n-of ws) 0 (start-with ws w) → t ≡ words-pass ws
+      unfolding words-pass shape-of start shape-with start-with tables-of levels-of
+      pass-decides of-w a b c d e = rw (header-split, sym a ∙ not-false _ b, ← of-lo, ← of-hi, ← of-w, sym c ∙ not-false _ d, ← sub-one (h-of ws)) e
