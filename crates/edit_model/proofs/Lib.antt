@@ -11,5 +11,12 @@ pub mod Added
 pub mod Applied
 pub mod Plans
 pub mod Widest
+pub mod Renumbered
 pub mod Single
 pub mod Inserted
+pub mod PlanTwo
+pub mod TwoTags
+pub mod BothTags
+pub mod NextTag
+pub mod InTurn
+pub mod Elements

@@ -7,11 +7,15 @@ use borrow.Author.Tests.{eqb-true, eqb-false}
 use lib.Dec.{eqb}
 use lib.ListN.{getD, length, set, replicate, length-set}
 use lib.Seq.{getD-set-same, getD-set-other}
-use Rattle.tree.specs.Forest.{Forest, size, labels}
-use Rattle.tree.specs.Promise.{Widths}
+use Rattle.tree.specs.Forest.{Forest, nil, size, labels}
+use Rattle.tree.specs.Book.{Book, height, labels-of}
+use Rattle.tree.specs.Promise.{Widths, Sane}
 use Rattle.tree_laws.proofs.Good.{Good}
 use Rattle.tree_laws.proofs.Rows.{by-test}
-use Rattle.tree_laws.proofs.Ancestors.{number-in, number-top, number-next, found, number-by-quotient}
+use Rattle.tree_laws.proofs.Spread.{some-power}
+use Rattle.tree_laws.proofs.Insertion.{rooted}
+use Rattle.tree_laws.proofs.Ancestors.{number-in, number-top, number-next, at-here, at-inside, found, number-by-quotient}
+use Rattle.tree_laws.proofs.Root.{whole}
 use Rattle.walk_model.specs.Levels.{entry}
 use Rattle.edit_model.specs.Span.{ancestor-numbers}
 
@@ -35,7 +39,7 @@ number-above t n u l i above = entry-kept t u l 0 (replicate n 0) i above ∙ ze
 -- THE NUMBERS in a good forest, by the label before the place p (the first, where p is 0)
 module _ {s r : ℕ} {w : ℕ → ℕ} (s-least : 2 ≤ s) (r-least : 2 ≤ r) (widths : Widths s r w)
     (t : List ℕ) (f : Forest) (u p : ℕ) (good : Good s r f u) (fits : p ≤ size f) (some : 1 ≤ size f)
-    (wide : (h : ℕ) → h ≤ suc u → entry t h ≡ w h) where
+    (wide : (h : ℕ) → h ≤ u → entry t h ≡ w h) where
   -- from a number that the next one down is a multiple of its width behind
   numbers-from : (h a : ℕ) (ns : List ℕ) → h ≤ u → u < length ns → (k : ℕ) × (number-in f w u h p 0 ≡ a + k * w h) →
       (i : ℕ) → 1 ≤ i → i ≤ h → entry (ancestor-numbers t h (getD (labels f w u 0) (p - 1) 0) a ns) i ≡ number-in f w u i p 0
@@ -54,6 +58,28 @@ module _ {s r : ℕ} {w : ℕ → ℕ} (s-least : 2 ≤ s) (r-least : 2 ≤ r) (
       (λ e.
       numbers-from h b (set ns (suc h) b) (omega arith) (rw length-set long) (below .0, omega (arith, below .1)) i least (omega (arith, eqb-false i (suc h) e)))
 
-  pub numbers-right : u ≤ 22 → (i : ℕ) → 1 ≤ i → i ≤ u →
+  pub numbers-below : u ≤ 22 → (i : ℕ) → 1 ≤ i → i ≤ u →
       entry (ancestor-numbers t u (getD (labels f w u 0) (p - 1) 0) 0 (replicate 24 0)) i ≡ number-in f w u i p 0
-  numbers-right small = numbers-from u 0 (replicate 24 0) (omega arith) (omega arith) (number-top f w u p 0)
+  numbers-below small = numbers-from u 0 (replicate 24 0) (omega arith) (omega arith) (number-top f w u p 0)
+
+-- with a width more in the table
+pub numbers-right : {s r : ℕ} {w : ℕ → ℕ} (s-least : 2 ≤ s) (r-least : 2 ≤ r) (widths : Widths s r w) (t : List ℕ) (f : Forest) (u p : ℕ) → Good s r f u → p ≤ size f → 1 ≤ size f →
+    ((h : ℕ) → h ≤ suc u → entry t h ≡ w h) → u ≤ 22 → (i : ℕ) → 1 ≤ i → i ≤ u →
+    entry (ancestor-numbers t u (getD (labels f w u 0) (p - 1) 0) 0 (replicate 24 0)) i ≡ number-in f w u i p 0
+numbers-right s-least r-least widths t f u p good fits some wide = numbers-below s-least r-least widths t f u p good fits some (λ h l. wide h (omega arith))
+
+-- IN A BOOK, the root's too
+pub numbers-whole : {w : ℕ → ℕ} (k : Book) → Widths (k .s) (k .r) w → Sane k → (t : List ℕ) (p : ℕ) → p ≤ size (k .root) → ((h : ℕ) → h ≤ k .under → entry t h ≡ w h) → k .under ≤ 22 →
+    (i : ℕ) → 1 ≤ i → i ≤ height k → entry (ancestor-numbers t (k .under) (getD (labels-of w k) (p - 1) 0) 0 (replicate 24 0)) i ≡ number-in (whole k) w (height k) i p 0
+numbers-whole {w} k widths sane t p fits wide small i least most =
+    let own = rooted k sane in
+    let l = getD (labels-of w k) (p - 1) 0 in
+    by-test (eqb i (height k))
+    (λ e.
+    let top = eqb-true i (height k) e in
+    number-above t 24 (k .under) l i (omega arith) ∙ sym (at-here (k .root) nil w (height k) i p 0 fits (sym top) .0))
+    (λ e.
+    let other = eqb-false i (height k) e in
+    let some : 1 ≤ size (k .root) = omega (arith, own .low (λ z. omega arith), some-power (k .r) (k .under) (sane .r-least)) in
+    numbers-below (sane .s-least) (sane .r-least) widths t (k .root) (k .under) p (own .good) fits some wide small i least (omega arith)
+    ∙ sym (at-inside (k .root) nil w (height k) i p 0 fits (λ z. other (sym z)) .0))

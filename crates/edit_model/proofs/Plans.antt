@@ -19,7 +19,7 @@ use Rattle.tree_laws.proofs.Insertion.{rooted, empty-low, root-at-limit, split-
 use Rattle.tree_laws.proofs.Ancestors.{number-in, at-here, at-inside}
 use Rattle.tree_laws.proofs.Flat.{Piece, Flat, split-at-most}
 use Rattle.tree_laws.proofs.Root.{whole, labels-whole, split-flat}
-use Rattle.tree_laws.proofs.Border.{Cut, cut-root, cut-inside}
+use Rattle.tree_laws.proofs.Border.{Cut, cut-flat}
 use Rattle.calls.specs.Store.{Store, count, row, width}
 use Rattle.calls.specs.Words.{Says, field}
 use Rattle.calls_laws.proofs.Tests.{Sound, sane, facts-of}
@@ -35,7 +35,7 @@ use Rattle.edit_model.specs.Span.{Split, ancestor-numbers, highest-full}
 use Rattle.edit_model.specs.Insert.{Plan, behind, place-label, numbers-at, plain-plan, root-plan, split-plan, split-at, plan, widths-of, highs-of, plan-of}
 use Rattle.edit_model.proofs.Image.{store-image, proper-image}
 use Rattle.edit_model.proofs.Along.{label-at}
-use Rattle.edit_model.proofs.Numbers.{number-above, numbers-right}
+use Rattle.edit_model.proofs.Numbers.{numbers-whole}
 use Rattle.edit_model.proofs.Splits.{counted, counted-one, counted-span}
 use Rattle.edit_model.proofs.Added.{behind-place}
 
@@ -159,28 +159,15 @@ module _ (ws : List ℕ) (st : Store) (says : Says ws st) where
     size-said = omega (arith, sound-said .as-many)
 
     -- the numbers, and the bound of a height
-    pub number-right : (h : ℕ) → 1 ≤ h → h ≤ st .book .under → entry (numbers-before ws st p) h ≡ number-in (st .book .root) (width st) (st .book .under) h p 0
-    number-right h least most =
-        let k = st .book in
-        let own = rooted k (sane sound-said) in
-        let some : 1 ≤ size (k .root) = omega (arith, own .low (λ e. omega arith), some-power (k .r) (k .under) (sound-said .degrees .r-least)) in
-        numbers-right (sound-said .degrees .s-least) (sound-said .degrees .r-least) (power-widths (k .s) (k .r)) (widths-of ws) (k .root) (k .under) p (own .good) size-said some widths-right low-enough h least most
+    pub number-right : (h : ℕ) → 1 ≤ h → h ≤ height (st .book) → entry (numbers-before ws st p) h ≡ number-in (whole (st .book)) (width st) (height (st .book)) h p 0
+    number-right =
+        numbers-whole (st .book) (power-widths (st .book .s) (st .book .r)) (sane sound-said) (widths-of ws) p size-said (λ h l. widths-right h (omega arith)) low-enough
 
     pub bound-cuts : (x : ℕ) (d : Flat-in st p x) → d .height ≤ st .book .under →
         Cut 0 (entry (numbers-before ws st p) (suc (d .height)) + entry (widths-of ws) (suc (d .height))) (width st (height (st .book))) (d .before ++ (d .old ++ d .beside)) (d .after)
     bound-cuts x d low =
-        let k = st .book in
-        let powers = power-widths (k .s) (k .r) in
-        by-test (eqb (d .height) (k .under))
-        (λ t.
-        let top = eqb-true (d .height) (k .under) t in
-        let none : entry (numbers-before ws st p) (suc (k .under)) ≡ 0 = number-above (widths-of ws) 24 (k .under) (getD (labels-of (width st) k) (p - 1) 0) (suc (k .under)) (omega arith) in
-        let bound : entry (numbers-before ws st p) (suc (d .height)) + entry (widths-of ws) (suc (d .height)) ≡ width st (height k) = rw (top, none, widths-right (height k) (omega arith)) (omega arith) in
-        rw bound (cut-root powers (sane sound-said) size-said d top))
-        (λ t.
-        let below : d .height < k .under = omega (arith, eqb-false (d .height) (k .under) t) in
-        rw (number-right (suc (d .height)) (omega arith) below, widths-right (suc (d .height)) (omega arith))
-        (cut-inside powers (sane sound-said) size-said d below))
+        rw (number-right (suc (d .height)) (omega arith) (omega arith), widths-right (suc (d .height)) (omega arith))
+        (cut-flat (power-widths (st .book .s) (st .book .r)) (sane sound-said) size-said d (omega arith))
 
     module _ (x : ℕ) (d : Flat-in st p x) where
       split-is : split-of p (st .book) ≡ d .height
@@ -264,7 +251,7 @@ module _ (ws : List ℕ) (st : Store) (says : Says ws st) where
             rw (split-height-said, left, numbers-said) (record {
               height-is = refl;
               left-is = refl;
-              number-is = number-right (d .height) (omega arith) at-most ∙ sym (inside .0) ∙ rw e (d .number-is h e);
+              number-is = number-right (d .height) (omega arith) (omega (arith, at-most)) ∙ rw e (d .number-is h e);
               count-is = rw (highs-right (d .height) (omega (arith, at-most)), e, ← piece .limit, old);
               by-is = λ l. rw (widths-right (d .height) (omega (arith, at-most)), e) (sym (piece .shift-is));
               low = cut-low _ _ _ (d .before) (d .old) (d .beside) (d .after) cuts;

@@ -7,17 +7,16 @@ use native.Mathlib.Nat.{mul-le-mul}
 use native.Mathlib.Omega.{arith}
 use borrow.Author.Tests.{eq-eqb, ne-eqb}
 use lib.Dec.{eqb}
-use lib.ListN.{length, getD, take, drop, length-append, length-drop, length-map, List·getD-append}
-use lib.Seq.{drop-cons, drop-append-add, length-take-le, getD-append-add}
+use lib.ListN.{length, getD, take, drop, length-append, length-map}
+use lib.Seq.{drop-cons, drop-append-add}
 use Rattle.store_types.specs.Limits.{no-tag, tag-words, label-limit, most-tags}
 use Rattle.tree.specs.Row.{insert-at}
 use Rattle.tree.specs.Forest.{Forest, leaves, size, labels, leaf-row, spread}
 use Rattle.tree.specs.Book.{Book, height, labels-of, root-full, inserted, split-of, moved}
-use Rattle.tree.specs.Promise.{Widths, Labels-rise}
+use Rattle.tree.specs.Promise.{Widths}
 use Rattle.tree_laws.proofs.Rows.{by-test, length-insert, insert-left, insert-right, getD-before}
 use Rattle.tree_laws.proofs.Insertion.{split-length, rooted, split-of-split, split-of-inside, inserted-under, tags-inserted, size-inserted, sane-inserted, inserted-s, inserted-r}
-use Rattle.tree_laws.proofs.Labels.{length-labels, rising-of, rising-below, width-least, labels-rise, power-widths}
-use Rattle.tree_laws.proofs.Ancestors.{getD-middle}
+use Rattle.tree_laws.proofs.Labels.{length-labels, width-least, power-widths}
 use Rattle.tree_laws.proofs.Flat.{Piece, Flat, split-at-most}
 use Rattle.tree_laws.proofs.Root.{labels-whole, split-flat, labels-put-whole, flat-whole}
 use Rattle.calls.specs.Kind.{kind-word}
@@ -26,16 +25,15 @@ use Rattle.calls.specs.Load.{words-for}
 use Rattle.calls.specs.Words.{words-of, Says}
 use Rattle.calls_laws.proofs.Tests.{Sound, sane}
 use Rattle.calls_laws.proofs.Sections.{distinct-row}
-use Rattle.calls_laws.proofs.Reader.{getD-map}
-use Rattle.walk_model.specs.Levels.{entry}
 use Rattle.edit_model.specs.Image.{Image, image-header, image-words, image-of, with-labels}
 use Rattle.edit_model.specs.Insert.{Plan, Edited, added, applied, widths-of, plan-of, put-words, raised-words}
 use Rattle.edit_model.proofs.Image.{Proper, length-image, proper-image, image-header-word, Alike, same-image, image-is}
-use Rattle.edit_model.proofs.Differ.{differ, differ-append, differ-same, differ-raised}
+use Rattle.edit_model.proofs.Differ.{differ}
 use Rattle.edit_model.proofs.Moves.{moved-and-new}
 use Rattle.edit_model.proofs.Added.{with-tag, one-more, new-tag, distinct-one, apart-one, added-image, proper-with-tag, with-levels, levels-set}
-use Rattle.edit_model.proofs.Applied.{labels-widths, spread-labels, Applies, applied-words, applied-moved}
-use Rattle.edit_model.proofs.Widest.{narrower}
+use Rattle.edit_model.proofs.Applied.{spread-labels}
+use Rattle.edit_model.proofs.Widest.{labels-below}
+use Rattle.edit_model.proofs.Renumbered.{Right, renumbered-words, renumbered-moved}
 use Rattle.edit_model.proofs.Plans.{place-tag, Flat-in, Planned, sound-said, image-said, widths-right, planned}
 
 -- WHAT IS NUMBERED ANEW: its labels are those of complete trees over any row of as many tags; the new tag is among the
@@ -79,26 +77,6 @@ module _ {s r : ℕ} {w : ℕ → ℕ} {f : Forest} {j p x a : ℕ} (d : Flat s 
         inside,
         insert-left (d .offset) (m ∷ []) (d .old) (d .beside ++ d .after) flat-offset,
       )
-
--- the same added to each number, where there are any
-pub raised-same : (a b : ℕ) (xs : List ℕ) → (1 ≤ length xs → a ≡ b) → map (λ l. l + a) xs ≡ map (λ l. l + b) xs
-raised-same a b [] e = refl
-raised-same a b (x ∷ xs) e = rw (e (omega arith))
-
--- labels of which only two parts change, the second all raised
-pub differ-parts : (before old new beside after : List ℕ) (a : ℕ) → length old ≡ length new → 1 ≤ a →
-    differ (before ++ (old ++ (beside ++ after))) (before ++ (new ++ (map (λ l. l + a) beside ++ after))) ≡ differ old new + length beside
-differ-parts before old new beside after a same some =
-    let raised = map (λ l. l + a) beside in
-    omega (
-      arith,
-      differ-append before (old ++ (beside ++ after)) before (new ++ (raised ++ after)) refl,
-      differ-append old (beside ++ after) new (raised ++ after) same,
-      differ-append beside after raised after (sym (length-map beside (λ l. l + a))),
-      differ-same before,
-      differ-same after,
-      differ-raised a beside some,
-    )
 
 -- THE LEVELS of an image, raised where the split is that high
 pub raised-image : (u : Image) (rest : List ℕ) (h a : ℕ) → cond (eqb h (u .levels)) (suc (u .levels)) (u .levels) ≡ a →
@@ -164,72 +142,46 @@ module _ (ws : List ℕ) (st : Store) (says : Says ws st) (p : ℕ) (fits : p �
       (added-image (proper-image own) (own .few) p (omega (arith, own .as-many)) t rest (omega (arith, length-image v))
       ∙ rw (at, drop-append-add (image-words v) rest tag-words))
 
-  -- THE LABELS in parts, before and afterwards
-  labels-then : labels-of (width st) (st .book) ≡ d .before ++ (d .old ++ (d .beside ++ d .after))
-  labels-then = labels-whole (width st) (st .book) ∙ d .was
-
+  -- THE LABELS afterwards, in parts; one more is numbered anew
   labels-now : labels-with p st ≡ d .before ++ (d .new ++ (map (λ l. l + d .shift) (d .beside) ++ d .after))
   labels-now = labels-put-whole p (st .book) in-book (width st) (count st) ∙ d .now
 
-  -- how many: one more is numbered anew
-  many-then : length (d .before) + (length (d .old) + (length (d .beside) + length (d .after))) ≡ count st
-  many-then = omega (arith, simp length-append at (ap length labels-then), length-labels (st .book .root) (width st) (st .book .under) 0, own .as-many)
+  many-now : length (labels-with p st) ≡ suc (count st)
+  many-now = length-labels (book-with p st .root) (width st) (book-with p st .under) 0 ∙ omega (arith, size-inserted p (count st) (st .book) (sane own) in-book, own .as-many)
 
   many-new : length (d .new) ≡ suc (length (d .old))
   many-new =
-      let after = book-with p st in
-      omega (arith, simp (length-append, length-map) at (ap length labels-now), length-labels (after .root) (width st) (after .under) 0, size-inserted p (count st) (st .book) (sane own) in-book, own .as-many, many-then)
+      omega (
+        arith,
+        many-now,
+        simp (length-append, length-map) at (ap length labels-now),
+        simp length-append at (ap length (labels-whole (width st) (st .book) ∙ d .was)),
+        length-labels (st .book .root) (width st) (st .book .under) 0,
+        own .as-many,
+      )
 
   -- all of them are below the number that stands for no tag
   label-below : (i : ℕ) → i < length (labels-with p st) → getD (labels-with p st) i 0 < no-tag
-  unfolding Labels-rise
-  label-below i l =
-      let k = st .book in
-      let after = inserted p (count st) k in
-      let widths : Widths (after .s) (after .r) (width st) = rw (inserted-s p (count st) k, inserted-r p (count st) k) (power-widths (k .s) (k .r)) in
-      let rising = rising-of _ (labels-of (width st) after) (labels-rise (width st) after widths (sane-inserted p (count st) k (sane own) in-book)) in
-      omega (arith, rising-below 0 (width st (height after)) (labels-of (width st) after) rising i l, narrower (k .s) (k .r) (height after) (own .degrees) labels-fit)
+  label-below =
+      labels-below (st .book .s) (st .book .r) (book-with p st) (own .degrees) (sane-inserted p (count st) (st .book) (sane own) in-book)
+      (inserted-s p (count st) (st .book)) (inserted-r p (count st) (st .book)) labels-fit
 
-  many-now : length (labels-with p st) ≡ length (d .before) + (length (d .new) + (length (d .beside) + length (d .after)))
-  many-now = simp (length-append, length-map) at (ap length labels-now)
-
-  new-below : (i : ℕ) → i < length (d .new) → getD (d .new) i 0 < no-tag
-  new-below i l =
-      let at = ap (λ (ls : List ℕ). getD ls (length (d .before) + i) 0) labels-now ∙ getD-middle (d .before) (d .new) _ i _ refl l in
-      rw at at (label-below (length (d .before) + i) (omega (arith, many-now)))
-
-  beside-below : (i : ℕ) → i < length (d .beside) → getD (d .beside) i 0 + d .shift < no-tag
-  beside-below i l =
-      let raised = map (λ l. l + d .shift) (d .beside) in
-      let at = length (d .before) + (length (d .new) + i) in
-      let here : getD (labels-with p st) at 0 ≡ getD (d .beside) i 0 + d .shift =
-      rw (labels-now, getD-append-add (d .before), getD-append-add (d .new))
-      (List·getD-append raised (d .after) 0 i (rw length-map l) ∙ getD-map (λ l. l + d .shift) (d .beside) i 0 0 l) in
-      rw here at (label-below at (omega (arith, many-now)))
-
-  -- THE PLAN APPLIES to the words with the new tag
-  applies : Applies (image-with p t st) (widths-of ws) (st .book .r) (plan-at ws st p)
-      (d .before) old-with-new (d .new) (d .beside) (d .after)
+  -- THE PLAN IS RIGHT on the words with the new tag
+  right : Right (image-with p t st) (widths-of ws) (width st) (st .book .r) (plan-at ws st p) (d .before) old-with-new (d .new) (d .beside) (d .after) (d .shift)
   unfolding with-tag image-of insert-at
-  applies =
-      let one-more : length old-with-new ≡ suc (length (d .old)) = omega (arith, length-insert (d .offset) (no-tag ∷ []) (d .old)) in
-      let tags-more = length-insert p (count st ∷ []) (row st) in
-      let part = take (length old-with-new) (drop (length (d .before)) (insert-at p (count st ∷ []) (row st))) in
-      let part-long : length part ≡ suc (length (d .old)) = length-take-le _ _ (rw length-drop (omega (arith, many-then, own .as-many))) ∙ one-more in
+  right =
+      let longer : length old-with-new ≡ suc (length (d .old)) = omega (arith, length-insert (d .offset) (no-tag ∷ []) (d .old)) in
       record {
         was = rw (labels-whole (width st) (st .book)) (flat-with d no-tag);
         left =
             right-plan .left-is
             ∙ sym (getD-before (suc p) (count st ∷ []) (no-tag ∷ row st) (length (d .before)) no-tag (omega (arith, own .as-many)) (omega (arith, d .place-is)));
-        count = right-plan .count-is ∙ sym one-more;
-        new-is =
-            rw (right-plan .height-is, right-plan .number-is)
-            (labels-widths (spread (d .height) (st .book .r) part) (entry (widths-of ws)) (width st) (d .height) (d .number) (λ h l. widths-right ws st says h (omega (arith, d .most)))
-            ∙ flat-labels d part part-long);
-        as-many = many-new ∙ sym one-more;
-        small = λ i l. omega (arith, new-below i l);
+        count = right-plan .count-is ∙ sym longer;
+        complete = λ zs many. rw (right-plan .height-is, right-plan .number-is) (flat-labels d zs (many ∙ longer));
+        as-many = many-new ∙ sym longer;
+        wide = rw (right-plan .height-is) (λ h l. widths-right ws st says h (omega (arith, d .most)));
+        by-is = right-plan .by-is;
         low = right-plan .low;
-        fit = λ i l. rw (right-plan .by-is (omega arith)) (omega (arith, beside-below i l));
         stop = right-plan .stop;
       }
 
@@ -241,23 +193,25 @@ module _ (ws : List ℕ) (st : Store) (says : Says ws st) (p : ℕ) (fits : p �
   unfolding image-of
   proper-added = proper-with-tag (proper-image own) (own .few) p (omega (arith, own .as-many)) t
 
+  counted-tags : length (image-with p t st .facts) ≡ suc (count st)
+  unfolding with-tag image-of
+  counted-tags = one-more (st .facts) t
+
   -- the words and how many labels are others, with anything behind
   numbered-words : (rest : List ℕ) → applied (image-words (image-with p t st) ++ rest) (widths-of ws) (st .book .r) (suc (count st)) (plan-at ws st p) .words
       ≡ image-words (with-labels (labels-with p st) (image-with p t st)) ++ rest
-  unfolding with-tag image-of
   numbered-words rest =
-      rw (← one-more (st .facts) t, labels-now)
-      (applied-words proper-added few-tags rest (widths-of ws) (st .book .r) (plan-at ws st p)
-      (d .before) old-with-new (d .new) (d .beside) (d .after) applies
-      ∙ rw (raised-same (plan-at ws st p .by) (d .shift) (d .beside) (right-plan .by-is)))
+      rw (← counted-tags)
+      (renumbered-words proper-added few-tags (widths-of ws) (width st) (st .book .r) (plan-at ws st p)
+      (d .before) old-with-new (d .new) (d .beside) (d .after) (d .shift) right (labels-with p st) labels-now label-below rest)
 
   numbered-moved : (rest : List ℕ) → applied (image-words (image-with p t st) ++ rest) (widths-of ws) (st .book .r) (suc (count st)) (plan-at ws st p) .moved
-      ≡ differ old-with-new (d .new) + length (d .beside)
-  unfolding with-tag image-of
+      ≡ differ (image-with p t st .labels) (labels-with p st)
   numbered-moved rest =
-      rw (← one-more (st .facts) t)
-      (applied-moved proper-added few-tags rest (widths-of ws) (st .book .r) (plan-at ws st p)
-      (d .before) old-with-new (d .new) (d .beside) (d .after) applies)
+      rw (← counted-tags)
+      (renumbered-moved proper-added few-tags (widths-of ws) (width st) (st .book .r) (plan-at ws st p)
+      (d .before) old-with-new (d .new) (d .beside) (d .after) (d .shift) right (labels-with p st) labels-now label-below
+      (flat-moves d (own .degrees .s-least) (own .degrees .r-least) (power-widths (st .book .s) (st .book .r))) rest)
 
   -- THE HEIGHT afterwards
   height-after : cond (eqb (plan-at ws st p .height) (height (st .book))) (suc (height (st .book))) (height (st .book)) ≡ height (book-with p st)
@@ -295,7 +249,7 @@ module _ (ws : List ℕ) (st : Store) (says : Says ws st) (p : ℕ) (fits : p �
       (record {
         as-many = proper-added .as-many;
         each = proper-added .each;
-        labelled = omega (arith, many-now, many-new, many-then, length-insert p (count st ∷ []) (row st), own .as-many);
+        labelled = omega (arith, many-now, length-insert p (count st ∷ []) (row st), own .as-many);
       })
 
   raised-said : (rest : List ℕ) →
@@ -316,21 +270,14 @@ module _ (ws : List ℕ) (st : Store) (says : Says ws st) (p : ℕ) (fits : p �
   unfolding differ
   new-differs =
       let ls = labels-with p st in
-      let inside : p < length ls = omega (arith, many-now, many-new, many-then) in
+      let inside : p < length ls = omega (arith, many-now) in
       rw (drop-cons ls p 0 inside, ne-eqb no-tag (getD ls p 0) (λ e. omega (arith, label-below p inside)))
 
-  moved-said : moved (width st) (st .book) (book-with p st) + 1 ≡ differ old-with-new (d .new) + length (d .beside)
-  unfolding image-of insert-at
+  moved-said : moved (width st) (st .book) (book-with p st) + 1 ≡ differ (image-with p t st .labels) (labels-with p st)
+  unfolding with-tag image-of insert-at
   moved-said =
-      let k = st .book in
-      let counted = moved-and-new (width st) k (inserted p (count st) k) p (count st ∷ []) (distinct-row own) (distinct-one (count st))
-      (apart-one (count st) (row st) (new-tag (proper-image own))) in-book (tags-inserted p (count st) k (sane own) in-book) (no-tag ∷ []) refl new-differs in
-      let then : insert-at p (no-tag ∷ []) (labels-of (width st) k) ≡ d .before ++ (old-with-new ++ (d .beside ++ d .after)) =
-      rw (labels-whole (width st) k) (flat-with d no-tag) in
-      counted ∙ rw (then, labels-now)
-      (differ-parts (d .before) old-with-new (d .new) (d .beside) (d .after) (d .shift)
-      (omega (arith, many-new, length-insert (d .offset) (no-tag ∷ []) (d .old)))
-      (flat-moves d (own .degrees .s-least) (own .degrees .r-least) (power-widths (k .s) (k .r))))
+      moved-and-new (width st) (st .book) (book-with p st) p (count st ∷ []) (distinct-row own) (distinct-one (count st))
+      (apart-one (count st) (row st) (new-tag (proper-image own))) in-book (tags-inserted p (count st) (st .book) (sane own) in-book) (no-tag ∷ []) refl new-differs
 
   pub single-moved : put-one ws st p t .moved ≡ moved (width st) (st .book) (book-with p st)
   unfolding put-words

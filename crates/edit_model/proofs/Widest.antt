@@ -6,10 +6,13 @@ use native.Mathlib.Nat.{mul-le-mul}
 use native.Mathlib.Omega.{arith}
 use borrow.Author.Tests.{eqb-true, eqb-false, not-true}
 use lib.Dec.{eqb}
+use lib.ListN.{length, getD}
 use Rattle.store_types.specs.Limits.{no-tag, label-limit}
-use Rattle.tree.specs.Book.{base, power-width}
+use Rattle.tree.specs.Book.{Book, height, labels-of, base, power-width}
+use Rattle.tree.specs.Promise.{Widths, Sane, Labels-rise}
 use Rattle.tree_laws.proofs.Good.{and-left, and-right}
 use Rattle.tree_laws.proofs.Rows.{by-test}
+use Rattle.tree_laws.proofs.Labels.{rising-of, rising-below, labels-rise, power-widths}
 use Rattle.calls_laws.proofs.Tests.{Degrees}
 use Rattle.walk_model.proofs.Shapes.{low-enough}
 
@@ -35,7 +38,7 @@ unfolding below misses
 all-miss = refl
 
 -- so a root that fits is narrower
-pub narrower : (s r h : ℕ) → Degrees s r → power-width s r h ≤ label-limit → power-width s r h ≤ no-tag
+narrower : (s r h : ℕ) → Degrees s r → power-width s r h ≤ label-limit → power-width s r h ≤ no-tag
 unfolding power-width base misses
 narrower s r h d fits =
     let least : 3 ≤ s * r - 1 = omega (arith, mul-le-mul (d .s-least) (d .r-least)) in
@@ -48,3 +51,13 @@ narrower s r h d fits =
   where
     lt-narrow : (n : ℕ) → n ≤ label-limit → (n ≡ label-limit → ⊥) → n ≤ no-tag
     lt-narrow n l other = omega arith
+
+-- and no label of a book whose root fits is the number that stands for no tag
+pub labels-below : (s r : ℕ) (k : Book) → Degrees s r → Sane k → k .s ≡ s → k .r ≡ r → power-width s r (height k) ≤ label-limit →
+    (i : ℕ) → i < length (labels-of (power-width s r) k) → getD (labels-of (power-width s r) k) i 0 < no-tag
+unfolding Labels-rise
+labels-below s r k degrees fine es er fits i l =
+    let w = power-width s r in
+    let widths : Widths (k .s) (k .r) w = rw (es, er) (power-widths s r) in
+    let rising = rising-of _ (labels-of w k) (labels-rise w k widths fine) in
+    omega (arith, rising-below 0 (w (height k)) (labels-of w k) rising i l, narrower s r (height k) degrees fits)

@@ -10,7 +10,8 @@ use lib.Dec.{eqb}
 use lib.ListN.{length, take, drop, length-append}
 use lib.Seq.{take-at, drop-at}
 use Rattle.tree.specs.Forest.{nil, size, labels}
-use Rattle.tree.specs.Book.{Book, height}
+use Rattle.tree.specs.Book.{Book, height, labels-of}
+use Rattle.tree.specs.Reach.{left-in, size-in}
 use Rattle.tree.specs.Promise.{Widths, Sane}
 use Rattle.tree_laws.proofs.Rows.{by-test}
 use Rattle.tree_laws.proofs.Insertion.{rooted, empty-low}
@@ -33,37 +34,54 @@ Cut a c e front back = Rising a c front × Rising c e back
 cut-alike : (a c e : ℕ) (xs ys us vs : List ℕ) → xs ++ ys ≡ us ++ vs → length xs ≡ length us → Cut a c e us vs → Cut a c e xs ys
 cut-alike a c e xs ys us vs q n cut = rw (same-front xs ys us vs q n, same-back xs ys us vs q n) cut
 
-module _ {w : ℕ → ℕ} {p x : ℕ} {k : Book} (widths : Widths (k .s) (k .r) w) (sane : Sane k) (fits : p ≤ size (k .root))
-    (d : Flat (k .s) (k .r) w (whole k) (height k) p x 0) where
-  alike : (c : ℕ) (us vs : List ℕ) → labels (k .root) w (k .under) 0 ≡ us ++ vs → length (d .before) + (length (d .old) + length (d .beside)) ≡ length us →
-      Cut 0 c (w (height k)) us vs → Cut 0 c (w (height k)) (d .before ++ (d .old ++ d .beside)) (d .after)
-  alike c us vs q n =
-      cut-alike 0 c (w (height k)) (d .before ++ (d .old ++ d .beside)) (d .after) us vs
-      (simp append-assoc (sym (d .was) ∙ sym (labels-whole w k) ∙ q)) (simp length-append n)
-
-  -- where the root is the parent, this is the end of all
-  pub cut-root : d .height ≡ k .under → Cut 0 (w (height k)) (w (height k)) (d .before ++ (d .old ++ d .beside)) (d .after)
-  cut-root e =
+-- ANY CUT of a book's labels, by how many stand before it
+module _ {w : ℕ → ℕ} (p : ℕ) {k : Book} (widths : Widths (k .s) (k .r) w) (sane : Sane k) (fits : p ≤ size (k .root))
+    (front back : List ℕ) (all : labels-of w k ≡ front ++ back) where
+  -- where all do, the end of all
+  cut-all : length front ≡ size (k .root) → Cut 0 (w (height k)) (w (height k)) front back
+  cut-all n =
       let own = rooted k sane in
-      let u = at-here (k .root) nil w (height k) (suc (d .height)) p 0 fits (omega arith) in
       let rises = node-rising (sane .s-least) (sane .r-least) widths (k .root) (k .under) 0 (own .good) (own .high) in
-      alike (w (height k)) (labels (k .root) w (k .under) 0) [] (sym (append-nil _))
-      (omega (arith, d .parent (omega arith) .border-is, u .1, u .2, length-labels (k .root) w (k .under) 0))
+      cut-alike 0 (w (height k)) (w (height k)) front back (labels (k .root) w (k .under) 0) [] (sym all ∙ sym (append-nil _)) (n ∙ sym (length-labels (k .root) w (k .under) 0))
       (rw zero-add at rises, le-refl (w (height k)))
 
-  -- where a tree under it is, the end of that tree
-  pub cut-inside : d .height < k .under →
-      Cut 0 (number-in (k .root) w (k .under) (suc (d .height)) p 0 + w (suc (d .height))) (w (height k)) (d .before ++ (d .old ++ d .beside)) (d .after)
-  cut-inside l =
-      let h = d .height in
+  -- where those do that stand left of and under a tree below the root, the end of that tree
+  cut-ancestor : (h : ℕ) → h < k .under → length front ≡ left-in (k .root) (k .under) (suc h) p + size-in (k .root) (k .under) (suc h) p →
+      Cut 0 (number-in (k .root) w (k .under) (suc h) p 0 + w (suc h)) (w (height k)) front back
+  cut-ancestor h l n =
       let own = rooted k sane in
       let some : 1 ≤ size (k .root) = by-test (eqb (size (k .root)) 0) (λ t. absurd (omega (arith, empty-low k sane (eqb-true _ _ t)))) (λ t. let n = eqb-false (size (k .root)) 0 t in omega arith) in
       let c = found (sane .s-least) (sane .r-least) widths (k .root) (k .under) h p 0 (own .good) l fits some in
       let mine = labels (c .under) w h (c .number) in
       let end = c .number + w (suc h) in
-      let u = at-inside (k .root) nil w (height k) (suc h) p 0 fits (omega arith) in
       let rises = rising-append 0 (c .number) end (c .before) mine (c .low) (node-rising (sane .s-least) (sane .r-least) widths (c .under) h (c .number) (c .good) (c .most)) in
       let room = children-fit (sane .s-least) (sane .r-least) widths (k .root) (k .under) (own .good) (own .high) in
-      rw (c .number-is) (alike end (c .before ++ mine) (c .after) (c .whole ∙ sym (append-assoc (c .before) mine (c .after)))
-      (rw length-append (omega (arith, d .parent (omega arith) .border-is, u .1, u .2, c .left-is, c .size-is, length-labels (c .under) w h (c .number))))
+      rw (c .number-is) (cut-alike 0 end (w (height k)) front back (c .before ++ mine) (c .after) (sym all ∙ c .whole ∙ sym (append-assoc (c .before) mine (c .after)))
+      (rw length-append (omega (arith, c .left-is, c .size-is, length-labels (c .under) w h (c .number))))
       (rises, rising-higher end _ (w (height k)) (c .after) (omega arith) (c .high)))
+
+  -- both at once, in the book as a forest of one tree
+  pub cut-whole : (h : ℕ) → h < height k → length front ≡ left-in (whole k) (height k) (suc h) p + size-in (whole k) (height k) (suc h) p →
+      Cut 0 (number-in (whole k) w (height k) (suc h) p 0 + w (suc h)) (w (height k)) front back
+  cut-whole h low n =
+      by-test (eqb h (k .under))
+      (λ t.
+      let top = eqb-true h (k .under) t in
+      let u = at-here (k .root) nil w (height k) (suc h) p 0 fits (ap suc (sym top)) in
+      let bound : number-in (whole k) w (height k) (suc h) p 0 + w (suc h) ≡ w (height k) = rw (u .0, top) (omega arith) in
+      rw bound (cut-all (omega (arith, u .1, u .2))))
+      (λ t.
+      let below : h < k .under = omega (arith, eqb-false h (k .under) t) in
+      let u = at-inside (k .root) nil w (height k) (suc h) p 0 fits (λ e. omega arith) in
+      rw (u .0) (cut-ancestor h below (omega (arith, u .1, u .2))))
+
+module _ {w : ℕ → ℕ} {p x : ℕ} {k : Book} (widths : Widths (k .s) (k .r) w) (sane : Sane k) (fits : p ≤ size (k .root))
+    (d : Flat (k .s) (k .r) w (whole k) (height k) p x 0) where
+  all-parts : labels-of w k ≡ (d .before ++ (d .old ++ d .beside)) ++ d .after
+  all-parts = labels-whole w k ∙ d .was ∙ simp append-assoc
+
+  -- THE BORDER: the end of the parent
+  pub cut-flat : d .height < height k →
+      Cut 0 (number-in (whole k) w (height k) (suc (d .height)) p 0 + w (suc (d .height))) (w (height k)) (d .before ++ (d .old ++ d .beside)) (d .after)
+  cut-flat l =
+      cut-whole p widths sane fits (d .before ++ (d .old ++ d .beside)) (d .after) all-parts (d .height) l (simp length-append (omega (arith, d .parent l .border-is)))

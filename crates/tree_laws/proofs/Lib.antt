@@ -15,3 +15,4 @@ pub mod Falls
 pub mod Reach
 pub mod Second
 pub mod Account
+pub mod Both

@@ -26,15 +26,15 @@ use Rattle.tree_laws.proofs.Reach.{moves-inside, inside-moves, by-label
 
 -- the equations of `split-with` at a node
 module _ (g f : Forest) (r j h p : ℕ) (ns : List ℕ) where
-  with-right : size g < p → split-with (node g f) r j h p ns ≡ node g (split-with f r j h (p - size g) ns)
+  pub with-right : size g < p → split-with (node g f) r j h p ns ≡ node g (split-with f r j h (p - size g) ns)
   unfolding split-with
   with-right l = rw (lt-ltb _ _ l)
 
-  with-here : p ≤ size g → j ≡ h → split-with (node g f) r j h p ns ≡ joined (spread j r (insert-at p ns (leaves g))) f
+  pub with-here : p ≤ size g → j ≡ h → split-with (node g f) r j h p ns ≡ joined (spread j r (insert-at p ns (leaves g))) f
   unfolding split-with
   with-here l e = rw (le-ltb _ _ l, eq-eqb j h e)
 
-  with-inside : p ≤ size g → (j ≡ h → ⊥) → split-with (node g f) r j h p ns ≡ node (split-with g r (pred j) h p ns) f
+  pub with-inside : p ≤ size g → (j ≡ h → ⊥) → split-with (node g f) r j h p ns ≡ node (split-with g r (pred j) h p ns) f
   unfolding split-with
   with-inside l n = rw (le-ltb _ _ l, ne-eqb j h n)
 
@@ -157,7 +157,7 @@ module _ (p x y h : ℕ) (k : Book) (sane : Sane k) (fits : p ≤ size (k .root)
       let lower = split-at-most (m .root) (k .s) (k .r) (k .under) (suc p) good′ in
       rw (inserted-inside (suc p) m y t, split-book-inside (omega arith), second-split (sane .s-least) (sane .r-least) (k .root) (k .under) p x y h good fits at))
 
-  second-book : split-of (suc p) (inserted p x k) ≡ suc h → inserted (suc p) y (inserted p x k) ≡ split-book (suc h) p (x ∷ y ∷ []) k
+  pub second-book : split-of (suc p) (inserted p x k) ≡ suc h → inserted (suc p) y (inserted p x k) ≡ split-book (suc h) p (x ∷ y ∷ []) k
   second-book e =
       by-test (root-full k)
       (λ t. absurd (omega (arith, unsplit-root t)))

@@ -1,0 +1,228 @@
+-- Both tags of an element at once, where the second splits: the words afterwards and how many tags moved. Assumes nothing.
+use mathlib.Core.Path.{_≡_, refl, ap, sym, _∙_}
+use mathlib.Core.Bool.{cond}
+use mathlib.Core.List.{List, [], _∷_, _++_, map}
+use Prim.Native.Nat.{ℕ, suc, _+_, _*_, _-_, _^_, _≤_, _<_}
+use native.Mathlib.Nat.{mul-le-mul}
+use native.Mathlib.Omega.{arith}
+use borrow.Author.Tests.{ne-eqb, lt-ltb}
+use lib.Dec.{eqb}
+use lib.ListN.{length, getD, take, drop, length-append}
+use lib.Seq.{drop-cons, drop-append-add}
+use Rattle.store_types.specs.Limits.{no-tag, tag-words, label-limit, most-tags}
+use Rattle.tree.specs.Row.{insert-at}
+use Rattle.tree.specs.Forest.{leaves, size, labels, spread}
+use Rattle.tree.specs.Book.{Book, height, labels-of, split-of, moved}
+use Rattle.tree.specs.Reach.{split-book}
+use Rattle.tree_laws.proofs.Rows.{by-test, length-insert, insert-left, insert-right}
+use Rattle.tree_laws.proofs.Spread.{leaves-spread, far-from-limit}
+use Rattle.tree_laws.proofs.Labels.{length-labels, width-least, power-widths}
+use Rattle.tree_laws.proofs.Root.{labels-whole}
+use Rattle.tree_laws.proofs.Second.{second-book}
+use Rattle.tree_laws.proofs.Both.{pieces-whole, labels-both}
+use Rattle.calls.specs.Kind.{kind-word}
+use Rattle.calls.specs.Store.{Store, Fact, count, row, width}
+use Rattle.calls.specs.Load.{words-for}
+use Rattle.calls.specs.Words.{words-of, Says}
+use Rattle.calls_laws.proofs.Tests.{Sound, sane}
+use Rattle.calls_laws.proofs.Sections.{distinct-row}
+use Rattle.edit_model.specs.Image.{Image, image-words, image-of, with-labels}
+use Rattle.edit_model.specs.Insert.{Plan, Edited, added, applied, widths-of, plan-of, put-words, raised-words}
+use Rattle.edit_model.proofs.Image.{Proper, length-image, proper-image, image-is}
+use Rattle.edit_model.proofs.Differ.{differ}
+use Rattle.edit_model.proofs.Moves.{moved-and-new}
+use Rattle.edit_model.proofs.Added.{with-tag}
+use Rattle.edit_model.proofs.Applied.{spread-labels}
+use Rattle.edit_model.proofs.Plans.{place-tag, sound-said, image-said, widths-right}
+use Rattle.edit_model.proofs.Single.{raised-image, grown, book-with, plan-at, added-at}
+use Rattle.edit_model.proofs.Renumbered.{Right, renumbered-words, renumbered-moved}
+use Rattle.edit_model.proofs.TwoTags.{with-two, proper-two, count-two, two-labels, two-before, added-two, distinct-two, apart-two, book-with-two, in-book, size-second, second-tags, label-below, not-tag, alike-two}
+use Rattle.edit_model.proofs.PlanTwo.{compared, two-most, two-full, Pieces-in, Planned-split, planned-two}
+
+-- how two tags go in over words at once
+abbrev pub plan-two-at : (ws : List ℕ) → Store → (p : ℕ) → Plan
+plan-two-at ws st p = plan-of ws 2 (place-tag st p)
+
+abbrev pub put-two : (ws : List ℕ) → Store → (p : ℕ) → (t u : Fact) → Edited
+put-two ws st p t u =
+    put-words (added (added-at ws st p t) (suc (count st)) (count st) (u .mate) (u .up) (kind-word (u .kind) (u .marked))) (widths-of ws) (st .book .r) (suc (suc (count st))) 2 (plan-two-at ws st p)
+
+module _ (ws : List ℕ) (st : Store) (says : Says ws st) (p : ℕ) (fits : p ≤ count st) (h : ℕ) (top : plan-two-at ws st p .height ≡ suc h)
+    (lower : plan-at ws st p .height < suc h) (t u : Fact) (few : suc (suc (count st)) ≤ most-tags) (room : words-for (suc (suc (count st))) ≤ length ws)
+    (labels-fit : width st (height (book-with-two p st)) ≤ label-limit) where
+  abbrev k : Book
+  k = st .book
+
+  abbrev both : Image
+  both = with-two p t u (image-of st)
+
+  abbrev q : Plan
+  q = plan-two-at ws st p
+
+  abbrev new-tags : List ℕ
+  new-tags = count st ∷ suc (count st) ∷ []
+
+  own : Sound st
+  own = sound-said ws st says
+
+  inside : p ≤ size (k .root)
+  inside = in-book own p fits
+
+  in-row : p ≤ length (image-of st .tags)
+  unfolding image-of
+  in-row = inside
+
+  few-more : suc (length (image-of st .facts)) ≤ most-tags
+  unfolding image-of
+  few-more = omega arith
+
+  pub second-splits : split-of (suc p) (book-with p st) ≡ suc h
+  second-splits = compared ws st says p fits (count st) ∙ rw (top, lt-ltb (plan-at ws st p .height) (suc h) lower)
+
+  -- THE PIECES
+  d : Pieces-in st p h new-tags
+  d = pieces-whole (width st) p h new-tags k inside (sane own) (two-most ws st says p fits h top) (two-full ws st says p fits h top)
+
+  right-plan : Planned-split st p h new-tags d q
+  right-plan = planned-two ws st says p fits h top new-tags d
+
+  abbrev old : List ℕ
+  old = labels (d .under) (width st) h (d .number)
+
+  abbrev new : List ℕ
+  new = labels (spread (suc h) (k .r) (insert-at (d .offset) new-tags (leaves (d .under)))) (width st) (suc h) (d .number)
+
+  labels-now : labels-of (width st) (book-with-two p st) ≡ d .before ++ (new ++ (map (λ l. l + (k .s - 1) * width st (suc h)) (d .beside) ++ d .after))
+  labels-now = labels-both (width st) p (count st) (suc (count st)) h k (sane own) inside (two-most ws st says p fits h top) second-splits ∙ d .now
+
+  -- how many are numbered anew
+  many-row : length (insert-at (d .offset) new-tags (leaves (d .under))) ≡ k .s * k .r ^ suc h
+  many-row = length-insert (d .offset) new-tags (leaves (d .under)) ∙ omega (arith, d .size-is, two-full ws st says p fits h top)
+
+  many-old : length (insert-at (d .offset) (no-tag ∷ no-tag ∷ []) old) ≡ k .s * k .r ^ suc h
+  many-old =
+      length-insert (d .offset) (no-tag ∷ no-tag ∷ []) old
+      ∙ omega (arith, length-labels (d .under) (width st) h (d .number), d .size-is, two-full ws st says p fits h top)
+
+  many-new : length new ≡ k .s * k .r ^ suc h
+  many-new =
+      let list = insert-at (d .offset) new-tags (leaves (d .under)) in
+      length-labels (spread (suc h) (k .r) list) (width st) (suc h) (d .number)
+      ∙ ap length (leaves-spread (suc h) (k .r) list (own .degrees .r-least) (omega (arith, many-row, far-from-limit (k .s) (k .r) h (own .degrees .s-least) (own .degrees .r-least)))) ∙ many-row
+
+  -- THE LABELS with two put in that no tag has
+  labels-then : insert-at p (no-tag ∷ no-tag ∷ []) (labels-of (width st) k) ≡ d .before ++ (insert-at (d .offset) (no-tag ∷ no-tag ∷ []) old ++ (d .beside ++ d .after))
+  labels-then =
+      let none = no-tag ∷ no-tag ∷ [] in
+      let offset-is : p - length (d .before) ≡ d .offset = omega (arith, d .place-is) in
+      rw (
+        labels-whole (width st) k,
+        d .was,
+        insert-right p none (d .before) (old ++ (d .beside ++ d .after)) (omega (arith, d .place-is)),
+        offset-is,
+        insert-left (d .offset) none old (d .beside ++ d .after) (rw (length-labels (d .under) (width st) h (d .number)) (d .fits)),
+      )
+
+  -- THE PLAN IS RIGHT on the words with both tags
+  right : Right both (widths-of ws) (width st) (k .r) q (d .before) (insert-at (d .offset) (no-tag ∷ no-tag ∷ []) old) new (d .beside) (d .after) ((k .s - 1) * width st (suc h))
+  unfolding image-of
+  right =
+      record {
+        was = two-labels (proper-image own) few-more p in-row t u ∙ labels-then;
+        left = right-plan .left-is ∙ sym (two-before (proper-image own) few-more p in-row t u (length (d .before)) (omega (arith, d .place-is)));
+        count = right-plan .count-is ∙ sym many-old;
+        complete = λ zs many.
+            rw (right-plan .height-is, right-plan .number-is)
+            (spread-labels (width st) (suc h) (k .r) zs (insert-at (d .offset) new-tags (leaves (d .under))) (d .number) (many ∙ many-old ∙ sym many-row));
+        as-many = many-new ∙ sym many-old;
+        wide = rw (right-plan .height-is) (λ i l. widths-right ws st says i (omega (arith, two-most ws st says p fits h top)));
+        by-is = right-plan .by-is;
+        low = right-plan .low;
+        stop = right-plan .stop;
+      }
+
+  proper-both : Proper both
+  proper-both = proper-two (proper-image own) few-more p in-row t u
+
+  count-both : length (both .facts) ≡ suc (suc (count st))
+  unfolding image-of
+  count-both = count-two (proper-image own) few-more p in-row t u
+
+  -- both tags, not numbered yet
+  added-both : added (added-at ws st p t) (suc (count st)) (count st) (u .mate) (u .up) (kind-word (u .kind) (u .marked))
+      ≡ image-words both ++ drop (words-for (suc (suc (count st)))) ws
+  unfolding image-of words-for
+  added-both =
+      let v = image-of st in
+      let rest = image-said ws st says .0 in
+      let is = image-said ws st says .1 in
+      let many = ap length is ∙ length-append (image-words v) rest in
+      let at : words-for (suc (suc (count st))) ≡ length (image-words v) + (tag-words + tag-words) = omega (arith, length-image v) in
+      rw is
+      (added-two (proper-image own) few-more p in-row t u rest (omega (arith, length-image v))
+      ∙ rw (at, drop-append-add (image-words v) rest (tag-words + tag-words)))
+
+  -- THE HEIGHT afterwards
+  height-after : cond (eqb (q .height) (height k)) (suc (height k)) (height k) ≡ height (book-with-two p st)
+  unfolding split-book
+  height-after =
+      rw (top, second-book p (count st) (suc (count st)) h k (sane own) inside second-splits)
+      (by-test (eqb (suc h) (height k)) (λ e. rw e) (λ e. rw e))
+
+  few-both : length (both .facts) ≤ most-tags
+  few-both = omega (arith, count-both)
+
+  -- BOTH TAGS: the words
+  numbered-words : (rest : List ℕ) → applied (image-words both ++ rest) (widths-of ws) (k .r) (suc (suc (count st))) q .words ≡ image-words (with-labels (labels-of (width st) (book-with-two p st)) both) ++ rest
+  numbered-words rest =
+      rw (← count-both)
+      (renumbered-words proper-both few-both (widths-of ws) (width st) (k .r) q (d .before) (insert-at (d .offset) (no-tag ∷ no-tag ∷ []) old) new (d .beside) (d .after) ((k .s - 1) * width st (suc h))
+      right (labels-of (width st) (book-with-two p st)) labels-now (label-below own p fits labels-fit) rest)
+
+  raised-said : (rest : List ℕ) → raised-words (image-words (with-labels (labels-of (width st) (book-with-two p st)) both) ++ rest) (q .height) ≡ words-of (grown (suc p) u (grown p t st)) ++ rest
+  unfolding with-labels with-tag image-of
+  raised-said rest =
+      raised-image (with-labels (labels-of (width st) (book-with-two p st)) both) rest (q .height) _ height-after
+      ∙ ap (λ (us : List ℕ). us ++ rest) (image-is _ (grown (suc p) u (grown p t st)) (alike-two own p fits t u _ refl))
+
+  pub both-words : put-two ws st p t u .words ≡ words-of (grown (suc p) u (grown p t st)) ++ drop (words-for (suc (suc (count st)))) ws
+  unfolding put-words
+  both-words = rw (added-both, numbered-words (drop (words-for (suc (suc (count st)))) ws)) (raised-said (drop (words-for (suc (suc (count st)))) ws))
+
+  -- how many tags moved: the new ones count as moved where they are numbered
+  new-differ : differ (no-tag ∷ no-tag ∷ []) (take 2 (drop p (labels-of (width st) (book-with-two p st)))) ≡ 2
+  unfolding differ
+  new-differ =
+      let ls = labels-of (width st) (book-with-two p st) in
+      let many : length ls ≡ suc (suc (size (k .root))) = length-labels (book-with-two p st .root) (width st) (book-with-two p st .under) 0 ∙ size-second own p fits in
+      let in-labels : suc p < length ls = omega (arith, inside) in
+      let below = label-below own p fits labels-fit in
+      rw (
+        drop-cons ls p 0 (omega arith),
+        drop-cons ls (suc p) 0 in-labels,
+        ne-eqb no-tag (getD ls p 0) (λ e. omega (arith, below p (omega arith))),
+        ne-eqb no-tag (getD ls (suc p) 0) (λ e. omega (arith, below (suc p) in-labels)),
+      )
+
+  moved-said : moved (width st) k (book-with-two p st) + 2 ≡ differ (both .labels) (labels-of (width st) (book-with-two p st))
+  unfolding image-of insert-at
+  moved-said =
+      moved-and-new (width st) k (book-with-two p st) p new-tags (distinct-row own) (distinct-two (count st) (suc (count st)) (λ e. omega arith))
+      (apart-two (count st) (suc (count st)) (row st) (not-tag own p fits (count st) (omega arith)) (not-tag own p fits (suc (count st)) (omega arith)))
+      inside (second-tags own p fits) (no-tag ∷ no-tag ∷ []) refl new-differ
+      ∙ rw (two-labels (proper-image own) few-more p in-row t u)
+
+  shift-least : 1 ≤ (k .s - 1) * width st (suc h)
+  shift-least =
+      omega (arith, mul-le-mul {n₁ = 1} {n₂ = k .s - 1} (omega (arith, own .degrees .s-least)) (width-least (own .degrees .s-least) (own .degrees .r-least) (power-widths (k .s) (k .r)) (suc h)))
+
+  pub both-moved : put-two ws st p t u .moved ≡ moved (width st) k (book-with-two p st)
+  unfolding put-words
+  both-moved =
+      rw (
+        added-both,
+        ← count-both,
+        renumbered-moved proper-both few-both (widths-of ws) (width st) (k .r) q (d .before) (insert-at (d .offset) (no-tag ∷ no-tag ∷ []) old) new (d .beside) (d .after) ((k .s - 1) * width st (suc h))
+            right (labels-of (width st) (book-with-two p st)) labels-now (label-below own p fits labels-fit) shift-least (drop (words-for (length (both .facts))) ws),
+      )
+      (omega (arith, moved-said))

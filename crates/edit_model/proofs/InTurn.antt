@@ -1,0 +1,139 @@
+-- The tags of an element in turn, where the second splits nothing: the words afterwards, and what moved is what the first
+-- has. Assumes nothing.
+use mathlib.Core.Path.{_≡_, refl, ap, sym, _∙_}
+use mathlib.Core.Bool.{Bool, true, false, cond}
+use mathlib.Core.List.{List, _++_}
+use Prim.Native.Nat.{ℕ, suc, _+_, _*_, _-_, _≤_, _<_}
+use native.Mathlib.Nat.{mul-le-mul}
+use native.Mathlib.Omega.{arith}
+use lib.ListN.{length, getD, drop, length-drop}
+use lib.Seq.{drop-drop}
+use Rattle.store_types.specs.Limits.{no-tag, tag-words, label-limit, most-tags}
+use Rattle.tree.specs.Book.{height, tags, labels-of, base, power-width, root-full, inserted, split-of, moved}
+use Rattle.tree.specs.Promise.{Widths, Step, Second-tag}
+use Rattle.tree_laws.proofs.Rows.{fails}
+use Rattle.tree_laws.proofs.Labels.{power-widths}
+use Rattle.tree_laws.proofs.Insertion.{tags-inserted, inserted-s, inserted-r, inserted-under, split-of-split}
+use Rattle.tree_laws.proofs.Second.{second-tag}
+use Rattle.calls.specs.Kind.{kind-word}
+use Rattle.calls.specs.Store.{Store, Fact, count, row, width}
+use Rattle.calls.specs.Load.{words-for}
+use Rattle.calls.specs.Words.{words-of, Says}
+use Rattle.calls_laws.proofs.Tests.{Sound, sane}
+use Rattle.walk_model.specs.Levels.{entry}
+use Rattle.walk_model.proofs.Shapes.{low-enough}
+use Rattle.edit_model.specs.Image.{image-words, image-of, with-labels}
+use Rattle.edit_model.specs.Insert.{added, applied, plain-plan, widths-of}
+use Rattle.edit_model.proofs.Image.{Alike, store-image, image-is}
+use Rattle.edit_model.proofs.Added.{with-tag, one-more, tag-before, getD-one}
+use Rattle.edit_model.proofs.Plans.{sound-said, widths-right}
+use Rattle.edit_model.proofs.Single.{grown, book-with, proper-grown}
+use Rattle.edit_model.proofs.TwoTags.{book-with-two, in-book, sane-first, in-first, label-below, not-tag, not-next}
+use Rattle.edit_model.proofs.NextTag.{next-words}
+
+module _ (ws : List ℕ) (st : Store) (says : Says ws st) (p : ℕ) (fits : p ≤ count st) (none : split-of (suc p) (book-with p st) ≡ 0) where
+  own : Sound st
+  own = sound-said ws st says
+
+  same-width : power-width (book-with p st .s) (book-with p st .r) ≡ width st
+  same-width = rw (inserted-s p (count st) (st .book), inserted-r p (count st) (st .book))
+
+  first-widths : Widths (book-with p st .s) (book-with p st .r) (width st)
+  first-widths = rw (inserted-s p (count st) (st .book), inserted-r p (count st) (st .book)) (power-widths (st .book .s) (st .book .r))
+
+  -- WHAT MOVED
+  pub turn-moved : moved (width st) (st .book) (book-with-two p st) ≡ moved (width st) (st .book) (book-with p st)
+  unfolding Second-tag
+  turn-moved =
+      let first : Step (width st) p (count st) (st .book) =
+      record { widths = power-widths (st .book .s) (st .book .r); sane = sane own; place-fits = in-book own p fits; new = not-tag own p fits (count st) (omega arith) } in
+      let second : Step (width st) (suc p) (suc (count st)) (book-with p st) =
+      record { widths = first-widths; sane = sane-first own p fits; place-fits = in-first own p fits; new = not-next own p fits } in
+      second-tag (width st) p (count st) (suc (count st)) (st .book) first second .2 none
+
+  -- THE HEIGHT stays
+  root-stays : root-full (book-with p st) ≡ false
+  root-stays = fails (root-full (book-with p st)) (λ t. omega (arith, split-of-split (suc p) (book-with p st) t))
+
+  high : (x : ℕ) → height (book-with p st) ≡ height (inserted (suc p) x (book-with p st))
+  high x = ap suc (sym (inserted-under (suc p) x (book-with p st) ∙ rw root-stays))
+
+  not-higher : book-with p st .under ≤ height (st .book)
+  not-higher = rw (inserted-under p (count st) (st .book)) (go (root-full (st .book)))
+    where
+      go : (t : Bool) → cond t (suc (st .book .under)) (st .book .under) ≤ height (st .book)
+      go true = omega arith
+      go false = omega arith
+
+  table-right : (i : ℕ) → i ≤ height (st .book) → entry (widths-of ws) i ≡ power-width (book-with p st .s) (book-with p st .r) i
+  table-right i l = rw same-width (widths-right ws st says i l)
+
+  module _ (t u : Fact) (few : suc (suc (count st)) ≤ most-tags) (room : words-for (suc (suc (count st))) ≤ length ws) (labels-fit : width st (height (book-with p st)) ≤ label-limit) where
+    few-one : suc (count st) ≤ most-tags
+    few-one = omega arith
+
+    room-one : words-for (suc (count st)) ≤ length ws
+    unfolding words-for
+    room-one = omega arith
+
+    low : book-with p st .under ≤ 22
+    unfolding power-width base
+    low =
+        let least : 3 ≤ st .book .s * st .book .r - 1 = omega (arith, mul-le-mul (own .degrees .s-least) (own .degrees .r-least)) in
+        omega (arith, low-enough (st .book .s * st .book .r - 1) (height (book-with p st)) least labels-fit)
+
+    -- the image with the first tag
+    count-first : length (image-of (grown p t st) .facts) ≡ suc (count st)
+    unfolding image-of grown
+    count-first = one-more (st .facts) t
+
+    last-first : tag-before (image-of (grown p t st)) (suc p) ≡ count st
+    unfolding image-of grown
+    last-first = rw (tags-inserted p (count st) (st .book) (sane own) (in-book own p fits)) (getD-one (count st) p (row st) no-tag (in-book own p fits))
+
+    tags-first : image-of (grown p t st) .tags ≡ tags (book-with p st)
+    unfolding image-of grown
+    tags-first = refl
+
+    labels-first : image-of (grown p t st) .labels ≡ labels-of (power-width (book-with p st .s) (book-with p st .r)) (book-with p st)
+    unfolding image-of grown
+    labels-first = refl
+
+    small : (x : ℕ) → x ≡ suc (count st) → (i : ℕ) → i < length (labels-of (power-width (book-with p st .s) (book-with p st .r)) (inserted (suc p) x (book-with p st))) →
+        getD (labels-of (power-width (book-with p st .s) (book-with p st .r)) (inserted (suc p) x (book-with p st))) i 0 < no-tag
+    small x e = rw (e, same-width) (label-below own p fits (rw (← high (suc (count st))) labels-fit))
+
+    -- THE WORDS with the second, over those with the first
+    next-said : (rest : List ℕ) → tag-words ≤ length rest →
+        applied (added (image-words (image-of (grown p t st)) ++ rest) (suc (count st)) (count st) (u .mate) (u .up) (kind-word (u .kind) (u .marked))) (widths-of ws) (book-with p st .r) (suc (suc (count st)))
+        (plain-plan (image-words (image-of (grown p t st)) ++ rest) (widths-of ws) (book-with p st .under) (count st)) .words
+        ≡ image-words (with-labels (labels-of (power-width (book-with p st .s) (book-with p st .r)) (book-with-two p st)) (with-tag (suc p) u (image-of (grown p t st)))) ++ drop tag-words rest
+    next-said rest more =
+        rw (count-first, last-first)
+        at (next-words (book-with p st) (sane-first own p fits) p (in-first own p fits) none low (proper-grown ws st says p fits t few-one room-one labels-fit) (omega (arith, count-first)) tags-first labels-first
+        (widths-of ws) (λ i l. table-right i (omega (arith, not-higher))) (table-right 1 (omega arith)) u rest (small _ count-first) more)
+
+    alike-after : Alike (with-labels (labels-of (power-width (book-with p st .s) (book-with p st .r)) (book-with-two p st)) (with-tag (suc p) u (image-of (grown p t st)))) (image-of (grown (suc p) u (grown p t st)))
+    unfolding with-labels with-tag image-of grown
+    alike-after =
+        let x = suc (count st) in
+        let m = book-with p st in
+        rw (one-more (st .facts) t) (record {
+          s = sym (inserted-s (suc p) x m);
+          r = sym (inserted-r (suc p) x m);
+          levels = high x;
+          number = refl;
+          stamp = refl;
+          tags = sym (tags-inserted (suc p) x m (sane-first own p fits) (in-first own p fits));
+          labels = rw (inserted-s (suc p) x m, inserted-r (suc p) x m);
+          facts = refl;
+        })
+
+    pub turn-words : applied (added (words-of (grown p t st) ++ drop (words-for (suc (count st))) ws) (suc (count st)) (count st) (u .mate) (u .up) (kind-word (u .kind) (u .marked))) (widths-of ws) (book-with p st .r)
+        (suc (suc (count st))) (plain-plan (words-of (grown p t st) ++ drop (words-for (suc (count st))) ws) (widths-of ws) (book-with p st .under) (count st)) .words
+        ≡ words-of (grown (suc p) u (grown p t st)) ++ drop (words-for (suc (suc (count st)))) ws
+    unfolding words-for
+    turn-words =
+        let rest = drop (words-for (suc (count st))) ws in
+        let further : words-for (suc (count st)) + tag-words ≡ words-for (suc (suc (count st))) = omega arith in
+        rw (store-image (grown p t st), next-said rest (rw length-drop (omega arith)), image-is _ (grown (suc p) u (grown p t st)) alike-after, drop-drop tag-words (words-for (suc (count st))) ws, further)

@@ -1,0 +1,101 @@
+-- A renumbering by a plan that is right, on the words of any image: the labels afterwards, and how many are others.
+-- Assumes nothing.
+use mathlib.Core.Path.{_≡_, refl, ap, sym, _∙_}
+use mathlib.Core.List.{List, [], _∷_, _++_, map}
+use Prim.Native.Nat.{ℕ, _+_, _≤_, _<_}
+use native.Mathlib.Omega.{arith}
+use lib.ListN.{length, getD, take, drop, length-append, length-drop, length-map, List·getD-append}
+use lib.Seq.{length-take-le, getD-append-add}
+use Rattle.store_types.specs.Limits.{no-tag, most-tags}
+use Rattle.tree.specs.Forest.{labels, spread}
+use Rattle.tree_laws.proofs.Ancestors.{getD-middle}
+use Rattle.calls_laws.proofs.Reader.{getD-map}
+use Rattle.walk_model.specs.Levels.{entry}
+use Rattle.edit_model.specs.Image.{Image, image-words, with-labels}
+use Rattle.edit_model.specs.Insert.{Plan, applied}
+use Rattle.edit_model.proofs.Image.{Proper}
+use Rattle.edit_model.proofs.Differ.{differ, differ-append, differ-same, differ-raised}
+use Rattle.edit_model.proofs.Added.{tag-before}
+use Rattle.edit_model.proofs.Applied.{labels-widths, Applies, applied-words, applied-moved}
+
+-- the same added to each number, where there are any
+raised-same : (a b : ℕ) (xs : List ℕ) → (1 ≤ length xs → a ≡ b) → map (λ l. l + a) xs ≡ map (λ l. l + b) xs
+raised-same a b [] e = refl
+raised-same a b (x ∷ xs) e = rw (e (omega arith))
+
+-- labels of which only two parts change, the second all raised
+differ-parts : (before old new beside after : List ℕ) (a : ℕ) → length old ≡ length new → 1 ≤ a →
+    differ (before ++ (old ++ (beside ++ after))) (before ++ (new ++ (map (λ l. l + a) beside ++ after))) ≡ differ old new + length beside
+differ-parts before old new beside after a same some =
+    let raised = map (λ l. l + a) beside in
+    omega (
+      arith,
+      differ-append before (old ++ (beside ++ after)) before (new ++ (raised ++ after)) refl,
+      differ-append old (beside ++ after) new (raised ++ after) same,
+      differ-append beside after raised after (sym (length-map beside (λ l. l + a))),
+      differ-same before,
+      differ-same after,
+      differ-raised a beside some,
+    )
+
+-- A PLAN THAT IS RIGHT on an image: its labels in parts, of which the second becomes that of complete trees, the third is
+-- raised by a, and the bound cuts the third from the fourth
+pub record Right (v : Image) (table : List ℕ) (w : ℕ → ℕ) (r : ℕ) (q : Plan) (before old new beside after : List ℕ) (a : ℕ) : Type 0 where
+  pub was : v .labels ≡ before ++ (old ++ (beside ++ after))
+  pub left : q .left ≡ tag-before v (length before)
+  pub count : q .count ≡ length old
+  pub complete : (zs : List ℕ) → length zs ≡ length old → labels (spread (q .height) r zs) w (q .height) (q .number) ≡ new
+  pub as-many : length new ≡ length old
+  pub wide : (h : ℕ) → h ≤ q .height → entry table h ≡ w h
+  pub by-is : 1 ≤ length beside → q .by ≡ a
+  pub low : (i : ℕ) → i < length beside → getD beside i 0 < q .bound
+  pub stop : 1 ≤ length after → q .bound ≤ getD after 0 0
+
+module _ {v : Image} (h : Proper v) (few : length (v .facts) ≤ most-tags) (table : List ℕ) (w : ℕ → ℕ) (r : ℕ) (q : Plan) (before old new beside after : List ℕ) (a : ℕ)
+    (e : Right v table w r q before old new beside after a) (ls : List ℕ) (now : ls ≡ before ++ (new ++ (map (λ l. l + a) beside ++ after)))
+    (small : (i : ℕ) → i < length ls → getD ls i 0 < no-tag) where
+  many-now : length ls ≡ length before + (length new + (length beside + length after))
+  many-now = simp (length-append, length-map) at (ap length now)
+
+  many-then : length before + (length old + (length beside + length after)) ≡ length (v .tags)
+  many-then = omega (arith, simp length-append at (ap length (e .was)), h .labelled)
+
+  new-below : (i : ℕ) → i < length new → getD new i 0 < no-tag
+  new-below i l =
+      let at = ap (λ (xs : List ℕ). getD xs (length before + i) 0) now ∙ getD-middle before new _ i _ refl l in
+      rw at at (small (length before + i) (omega (arith, many-now)))
+
+  beside-below : (i : ℕ) → i < length beside → getD beside i 0 + a < no-tag
+  beside-below i l =
+      let at = length before + (length new + i) in
+      let here : getD ls at 0 ≡ getD beside i 0 + a =
+      rw (now, getD-append-add before, getD-append-add new)
+      (List·getD-append (map (λ l. l + a) beside) after 0 i (rw length-map l) ∙ getD-map (λ l. l + a) beside i 0 0 l) in
+      rw here at (small at (omega (arith, many-now)))
+
+  applies : Applies v table r q before old new beside after
+  applies =
+      let part = take (length old) (drop (length before) (v .tags)) in
+      let part-long : length part ≡ length old = length-take-le _ _ (rw length-drop (omega (arith, many-then))) in
+      record {
+        was = e .was;
+        left = e .left;
+        count = e .count;
+        new-is = labels-widths (spread (q .height) r part) (entry table) w (q .height) (q .number) (e .wide) ∙ e .complete part part-long;
+        as-many = e .as-many;
+        small = λ i l. omega (arith, new-below i l);
+        low = e .low;
+        fit = λ i l. rw (e .by-is (omega arith)) (omega (arith, beside-below i l));
+        stop = e .stop;
+      }
+
+  -- the words with the labels afterwards
+  pub renumbered-words : (rest : List ℕ) → applied (image-words v ++ rest) table r (length (v .facts)) q .words ≡ image-words (with-labels ls v) ++ rest
+  renumbered-words rest =
+      applied-words h few rest table r q before old new beside after applies ∙ rw (raised-same (q .by) a beside (e .by-is), now)
+
+  -- and how many labels are others
+  pub renumbered-moved : 1 ≤ a → (rest : List ℕ) → applied (image-words v ++ rest) table r (length (v .facts)) q .moved ≡ differ (v .labels) ls
+  renumbered-moved some rest =
+      applied-moved h few rest table r q before old new beside after applies
+      ∙ rw (e .was, now) (sym (differ-parts before old new beside after a (sym (e .as-many)) some))
