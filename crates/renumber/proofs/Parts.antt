@@ -1,20 +1,21 @@
 -- Trees over a row numbered part by part: what is left behind each part. Assumes nothing.
 use mathlib.Core.Path.{_≡_, refl, ap, sym, _∙_}
-use mathlib.Core.List.{List, map, map-append, append-nil}
+use mathlib.Core.List.{List, _++_, map, map-append, append-nil}
 use Prim.Native.Nat.{ℕ, zero, suc, pred, _+_, _*_, _-_, _/_, _^_, _≤_, _<_}
 use native.Mathlib.Nat.{suc-mul, one-mul, add-zero}
 use native.Mathlib.Numerals.{sub-one}
 use native.Mathlib.Omega.{arith}
 use lib.ListN.{length, length-map}
 use Rattle.store_types.specs.Limits.{word-limit}
-use Rattle.tree.specs.Forest.{size, labels, spread, parts}
+use Rattle.tree.specs.Forest.{labels, spread, parts}
 use Rattle.tree_laws.proofs.Labels.{length-labels}
 use Rattle.tree_laws.proofs.Spread.{parts-none, parts-one, parts-more, spread-suc, leaves-below, parts-in, some-power, lower-power}
 use Rattle.calls.specs.Words.{follow}
 use Rattle.walk_model.specs.Levels.{entry}
 use Rattle.edit_model.specs.Relabel.{Relabelled, relabel, along, cut}
+use Rattle.edit_model.proofs.Relabels.{relabel-append-words, relabel-append-moved, labels-cut}
 use Rattle.renumber.specs.Needs.{Row-there, Trees-fit, Row-numbered, Part-size, leaves-numbered, trees-numbered}
-use Rattle.renumber.proofs.Rows.{Same-next, follow-same, relabel-keeps-next, length-follow, take-follow, drop-follow, relabel-none, relabel-append, labels-cut, cut-cut, cut-small, follow-add, moved-most, leaf-widths, On-way, on}
+use Rattle.renumber.proofs.Rows.{Same-next, follow-same, relabel-keeps-next, length-follow, take-follow, drop-follow, relabel-none, cut-small, follow-add, moved-most, leaf-widths, On-way, on}
 
 -- so many parts of e tags over what is left of a row, each a tree of height j
 unfoldable pub parts-numbered : (ws widths : List ℕ) → (r j e p a x left : ℕ) → Relabelled
@@ -37,6 +38,16 @@ last-part : (ws w : List ℕ) (r j e a x left : ℕ) → parts-numbered ws w r j
 unfolding parts-numbered trees-numbered labels
 last-part ws w r j e a x left = rw (parts-one, append-nil)
 
+-- one row after another, as one equation
+relabel-joined : (xs ys ls ms ws : List ℕ) → length xs ≡ length ls →
+    relabel (xs ++ ys) (ls ++ ms) ws
+    ≡ record { words = relabel ys ms (relabel xs ls ws .words) .words; moved = relabel xs ls ws .moved + relabel ys ms (relabel xs ls ws .words) .moved }
+relabel-joined xs ys ls ms ws e =
+    made (relabel (xs ++ ys) (ls ++ ms) ws) (relabel-append-words xs ys ls ms ws e) (relabel-append-moved xs ys ls ms ws e)
+  where
+    made : (q : Relabelled) {vs : List ℕ} {m : ℕ} → q .words ≡ vs → q .moved ≡ m → q ≡ record { words = vs; moved = m }
+    made q e f = rw (← e, ← f) refl
+
 -- another part is e tags
 first-part : (ws w : List ℕ) (r j e k a x d : ℕ) → length (labels (spread (pred j) r (follow e ws x)) (entry w) (pred j) a) ≡ e →
     let q = trees-numbered ws w r (pred j) a x e in
@@ -56,9 +67,9 @@ first-part ws w r j e k a x d many =
       drop-follow,
       follow-add e d ws x,
       map-append,
-      relabel-append xs ys ls (map cut (labels g (entry w) j (a + entry w j))) ws as-many,
+      relabel-joined xs ys ls (map cut (labels g (entry w) j (a + entry w j))) ws as-many,
       follow-same d (relabel xs ls ws .words) ws (along e ws x) (relabel-keeps-next xs ls ws),
-      labels-cut g (entry w) j (cut (a + entry w j)) (a + entry w j) (cut-cut (a + entry w j)),
+      labels-cut g (entry w) j (a + entry w j),
     )
 
 -- how far the parts have come: each has its e tags, and none is left over

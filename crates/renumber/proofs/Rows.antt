@@ -1,20 +1,20 @@
--- Labels written along next: the row stays, what is written one part after the other is written at once, and how far a loop
--- that does so has come. Assumes nothing.
+-- Labels written along next: the row stays, and how far a loop that writes them has come. Assumes nothing.
 use mathlib.Core.Path.{_≡_, refl, ap, sym, _∙_}
 use mathlib.Core.Bool.{Bool, true, false, cond}
-use mathlib.Core.List.{List, [], _∷_, _++_, map, map-append}
-use Prim.Native.Nat.{ℕ, zero, suc, pred, _+_, _-_, _≤_, _<_}
-use native.Mathlib.Nat.{zero-add, add-zero, add-assoc, suc-add, mod-mod, mod-lt, mod-add-mod}
+use mathlib.Core.List.{List, [], _∷_, _++_}
+use Prim.Native.Nat.{ℕ, zero, suc, _+_, _-_, _≤_, _<_}
+use native.Mathlib.Nat.{zero-add, add-zero, suc-add, mod-lt}
 use native.Mathlib.Omega.{arith}
 use borrow.Author.Tests.{eq-eqb, ne-eqb}
 use lib.Dec.{eqb}
 use lib.ListN.{length, take, drop, take-append-drop}
 use Rattle.store_types.specs.Limits.{word-limit, tag-words}
-use Rattle.tree.specs.Forest.{Forest, nil, leaf, node, labels, leaf-row}
+use Rattle.tree.specs.Forest.{labels, leaf-row}
 use Rattle.calls.specs.Words.{field, follow}
 use Rattle.words.specs.Fields.{with-field, Room}
 use Rattle.edit_model.specs.Relabel.{Relabelled, relabel, along, cut}
 use Rattle.edit_model.proofs.Fields.{field-other-word, length-with-field}
+use Rattle.edit_model.proofs.Relabels.{labels-cut}
 use Rattle.renumber.specs.Needs.{Records, Row-there, Row-numbered, leaves-numbered}
 
 -- THE RECORDS of n tags have room for each of their words
@@ -71,7 +71,7 @@ unfolding along
 along-add zero d ws x = rw zero-add
 along-add (suc e) d ws x = rw suc-add (along-add e d ws (field ws x 1))
 
--- NEW LABELS for one row and then for another
+-- NEW LABELS: none, and how many may be others
 pub relabel-none : (xs ws : List ℕ) → relabel xs [] ws ≡ record { words = ws; moved = 0 }
 unfolding relabel
 relabel-none [] ws = refl
@@ -87,15 +87,6 @@ moved-most [] ls ws = omega arith
 moved-most (x ∷ xs) [] ws = omega arith
 moved-most (x ∷ xs) (l ∷ ls) ws = omega (arith, moved-one (eqb (field ws x 0) l), moved-most xs ls (with-field ws x 0 l))
 
-pub relabel-append : (xs ys ls ms ws : List ℕ) → length xs ≡ length ls →
-    relabel (xs ++ ys) (ls ++ ms) ws
-    ≡ record { words = relabel ys ms (relabel xs ls ws .words) .words; moved = relabel xs ls ws .moved + relabel ys ms (relabel xs ls ws .words) .moved }
-unfolding relabel
-relabel-append [] ys [] ms ws e = rw zero-add refl
-relabel-append [] ys (l ∷ ls) ms ws e = absurd (omega arith)
-relabel-append (x ∷ xs) ys [] ms ws e = absurd (omega arith)
-relabel-append (x ∷ xs) ys (l ∷ ls) ms ws e = rw (relabel-append xs ys ls ms (with-field ws x 0 l) (omega arith), add-assoc) refl
-
 -- one more has moved where the label that was read, o, is not the new one
 pub same-label : {o f l : ℕ} → o ≡ f → o ≡ l → _≡_ {A = ℕ} 0 (cond (eqb f l) 0 1)
 same-label {o} {f} {l} e same = rw (eq-eqb f l (sym e ∙ same))
@@ -103,25 +94,10 @@ same-label {o} {f} {l} e same = rw (eq-eqb f l (sym e ∙ same))
 pub other-label : {o f l : ℕ} → o ≡ f → (o ≡ l → ⊥) → _≡_ {A = ℕ} 1 (cond (eqb f l) 0 1)
 other-label {o} {f} {l} e other = rw (ne-eqb f l (λ same. other (e ∙ same)))
 
--- NUMBERS AS LABELS: only what is left of 32 bits counts
-pub cut-cut : (a : ℕ) → cut (cut a) ≡ cut a
-unfolding cut
-cut-cut a = mod-mod a word-limit
-
+-- a number as a label fits a word
 pub cut-small : (a : ℕ) → cut a < word-limit
 unfolding cut
 cut-small a = mod-lt a (omega arith)
-
-pub cut-add : (a b d : ℕ) → cut a ≡ cut b → cut (a + d) ≡ cut (b + d)
-unfolding cut
-cut-add a b d e = sym (mod-add-mod a word-limit d) ∙ rw e (mod-add-mod b word-limit d)
-
-pub labels-cut : (f : Forest) (w : ℕ → ℕ) (j a b : ℕ) → cut a ≡ cut b → map cut (labels f w j a) ≡ map cut (labels f w j b)
-unfolding labels
-labels-cut nil w j a b e = refl
-labels-cut (leaf x f) w j a b e = rw (e, labels-cut f w j (a + w j) (b + w j) (cut-add a b (w j) e))
-labels-cut (node g f) w j a b e =
-    simp map-append (rw (labels-cut g w (pred j) a b e, labels-cut f w j (a + w j) (b + w j) (cut-add a b (w j) e)))
 
 -- leaves take the width of height 0
 pub leaf-widths : (xs : List ℕ) (u v : ℕ → ℕ) (a : ℕ) → u 0 ≡ v 0 → labels (leaf-row xs) u 0 a ≡ labels (leaf-row xs) v 0 a
@@ -195,7 +171,7 @@ pub leaves-turn : (ws : List ℕ) (v a x k : ℕ) →
     }
 unfolding leaves-numbered follow leaf-row labels relabel
 leaves-turn ws v a x k =
-    rw (follow-same k (with-field ws x 0 (cut a)) ws (field ws x 1) (label-keeps-next ws x (cut a)), labels-cut (leaf-row (follow k ws (field ws x 1))) (λ i. v) 0 (cut (a + v)) (a + v) (cut-cut (a + v)))
+    rw (follow-same k (with-field ws x 0 (cut a)) ws (field ws x 1) (label-keeps-next ws x (cut a)), labels-cut (leaf-row (follow k ws (field ws x 1))) (λ i. v) 0 (a + v))
     refl
 
 pub leaf-on : {whole : Relabelled} {before ws : List ℕ} {n first count tag left at done : ℕ} (v : ℕ) →

@@ -124,7 +124,6 @@ widen-most n ws low high v =
 
 -- the choice between two nodes, in the mirror's terms
 pub chosen : (full : Bool) (q here lower : code-split.Split) → q ≡ cond full here lower → split-record q ≡ cond full (split-record here) (split-record lower)
-unfolding split-record
 chosen true q here lower e = ap split-record e
 chosen false q here lower e = ap split-record e
 

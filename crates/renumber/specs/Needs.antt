@@ -41,7 +41,7 @@ pub record Part-size (parts each left size : ℕ) : Type 0 where
   pub last : parts ≡ 1 → size ≡ left
   pub other : (parts ≡ 1 → ⊥) → size ≡ each
 
--- labels for so many tags along next from x on
+-- labels for so many tags along next from x on, by numbers from a on: of leaves a width apart, and of trees of height j
 unfoldable pub leaves-numbered : (ws : List ℕ) → (width a x count : ℕ) → Relabelled
 leaves-numbered ws v a x count = let xs = follow count ws x in relabel xs (map cut (labels (leaf-row xs) (λ k. v) 0 a)) ws
 
@@ -64,15 +64,16 @@ split-at h v = record { height = h; span = v }
 unfoldable pub split-record : Split → span.Split
 split-record q = split-at (q .height) (span-record (q .span))
 
--- a span's count stays far below 32 bits
+-- widened from at most this, a span's count stays far below 32 bits
 abbrev pub count-limit : ℕ
 count-limit = 1000000000
 
--- heights below the root: every node of them has a width
+-- the ancestors below the root: each has a width
 pub record Ancestors-fit (under : ℕ) (w : List ℕ) : Type 0 where
   pub height : under ≤ 22
   pub widths : (k : ℕ) → 1 ≤ k → k ≤ under → 1 ≤ entry w k
 
+-- a climb from height to height with so much counted before it, in search of a node that is full with k leaves more
 pub record Heights-fit (under k size : ℕ) (w ns : List ℕ) : Type 0 where
   pub height : under ≤ 22
   pub counted : size ≤ most-tags
