@@ -11,14 +11,20 @@ use lib.ListN.{length}
 use Rattle.store_types.specs.Limits.{no-tag}
 use Rattle.tree.specs.Row.{member}
 use Rattle.tree_laws.proofs.Good.{and-both}
-use Rattle.tree_laws.proofs.Rows.{member-append}
+use Rattle.tree_laws.proofs.Rows.{by-test, member-append}
 use Rattle.calls.specs.Kind.{end, is-end}
 use Rattle.calls.specs.Store.{Store, Fact, fact-in, fact, count, row, place-of, marked-count}
 use Rattle.calls.specs.Mark.{within, mark-facts, mark-store, new-marks, section-refusal}
 use Rattle.calls.specs.Promise.{Mark-sound}
 use Rattle.calls_laws.proofs.Tests.{passes, Sound, facts-of, sound-of}
 use Rattle.calls_laws.proofs.Nesting.{Pass, pass-around, nested-of, Alike, Same, no-tag-same, Marked}
-use Rattle.calls_laws.proofs.Sections.{place-first-part, place-middle-part, place-last-part, distinct-row, row-below, is-tag, Section, section}
+use Rattle.calls_laws.proofs.Sections.{place-first-part, place-middle-part, place-last-part, distinct-row, row-below, in-row, is-tag, Section, section}
+
+-- marked tags are tags
+pub marked-few : (ts : List Fact) → marked-count ts ≤ length ts
+unfolding marked-count
+marked-few [] = omega arith
+marked-few (t ∷ ts) = by-test (t .marked) (λ e. rw e (omega (arith, marked-few ts))) (λ e. rw e (omega (arith, marked-few ts)))
 
 -- THE FACTS AFTER THE MARK of section x: of the tags d, d + 1, ..
 module _ (st : Store) (x : ℕ) where
@@ -27,13 +33,13 @@ module _ (st : Store) (x : ℕ) where
   length-marked d [] = refl
   length-marked d (t ∷ ts) = ap suc (length-marked (suc d) ts)
 
-  alike-marked : (d : ℕ) (ts : List Fact) (i : ℕ) → Alike ts (mark-facts st x d ts) i
+  pub alike-marked : (d : ℕ) (ts : List Fact) (i : ℕ) → Alike ts (mark-facts st x d ts) i
   unfolding mark-facts
   alike-marked d [] i = record { kind = refl; mate = refl; up = refl }
   alike-marked d (t ∷ ts) zero = record { kind = refl; mate = refl; up = refl }
   alike-marked d (t ∷ ts) (suc i) = let r = alike-marked (suc d) ts i in record { kind = r .kind; mate = r .mate; up = r .up }
 
-  mark-of : (d : ℕ) (ts : List Fact) (i : ℕ) → i < length ts → fact-in (mark-facts st x d ts) i .marked ≡ (fact-in ts i .marked || within st x (d + i))
+  pub mark-of : (d : ℕ) (ts : List Fact) (i : ℕ) → i < length ts → fact-in (mark-facts st x d ts) i .marked ≡ (fact-in ts i .marked || within st x (d + i))
   unfolding mark-facts
   mark-of d [] i l = absurd (not-suc-le-zero l)
   mark-of d (t ∷ ts) zero l = rw add-zero
@@ -59,19 +65,19 @@ module _ (st : Store) (x : ℕ) where
 
 module _ {st : Store} (h : Sound st) (x : ℕ) (c : Section st x) where
   -- which tags the section holds
-  outside-before : (d : ℕ) → member d (c .before) ≡ true → within st x d ≡ false
+  pub outside-before : (d : ℕ) → member d (c .before) ≡ true → within st x d ≡ false
   unfolding within
   outside-before d m =
       let p = place-first-part (row st) (c .before) (c .own) (c .behind) (c .whole) (distinct-row h) d m in
       rw (lt-leb (place-of st x) (place-of st d) (omega (arith, c .starts)))
 
-  inside-own : (d : ℕ) → member d (c .own) ≡ true → within st x d ≡ true
+  pub inside-own : (d : ℕ) → member d (c .own) ≡ true → within st x d ≡ true
   unfolding within
   inside-own d m =
       let p = place-middle-part (row st) (c .before) (c .own) (c .behind) (c .whole) (distinct-row h) d m in
       and-both (le-leb (place-of st x) (place-of st d) (omega (arith, c .starts))) (le-leb (place-of st d) (place-of st (fact st x .mate)) (omega (arith, c .stops)))
 
-  outside-behind : (d : ℕ) → member d (c .behind) ≡ true → within st x d ≡ false
+  pub outside-behind : (d : ℕ) → member d (c .behind) ≡ true → within st x d ≡ false
   unfolding within
   outside-behind d m =
       let p = place-last-part (row st) (c .before) (c .own) (c .behind) (c .whole) (distinct-row h) d m in
@@ -79,6 +85,17 @@ module _ {st : Store} (h : Sound st) (x : ℕ) (c : Section st x) where
 
   in-parts : (d : ℕ) → (member d (c .before) || (member d (c .own) || member d (c .behind))) ≡ true → d < count st
   in-parts d m = row-below h d (rw (c .whole, member-append d (c .before) (c .own ++ c .behind), member-append d (c .own) (c .behind)) m)
+
+  -- its own tags are tags, and these it holds
+  pub own-below : (d : ℕ) → member d (c .own) ≡ true → d < count st
+  own-below d m = in-parts d (rw m (or-true (member d (c .before))))
+
+  pub within-own : (d : ℕ) → d < count st → within st x d ≡ member d (c .own)
+  within-own d l =
+      let here = rw (c .whole, member-append d (c .before) (c .own ++ c .behind), member-append d (c .own) (c .behind)) at (in-row h d l) in
+      by-test (member d (c .own)) (λ e. inside-own d e ∙ sym e)
+      (λ e. by-test (member d (c .before)) (λ f. outside-before d f ∙ sym e)
+      (λ f. outside-behind d (rw (e, f) at here) ∙ sym e))
 
   -- so other tags keep their facts, and its own are marked
   outside-same : (d : ℕ) → d < count st → within st x d ≡ false → Same (st .facts) (mark-facts st x 0 (st .facts)) d
@@ -104,7 +121,7 @@ module _ {st : Store} (h : Sound st) (x : ℕ) (c : Section st x) where
       (λ d m. outside-same d (in-parts d (rw m)) (outside-before d m))
       (λ d m. outside-same d (in-parts d (rw (m, or-true (member d (c .own))) (or-true (member d (c .before))))) (outside-behind d m))
       (c .front) (c .back)
-      (λ same. c .inside gs (alike-marked st x 0 fs) (λ d m. own-marked d (in-parts d (rw m (or-true (member d (c .before))))) (inside-own d m)))
+      (λ same. c .inside gs (alike-marked st x 0 fs) (λ d m. own-marked d (own-below d m) (inside-own d m)))
       )
 
 -- what an accepted mark or hold is asked of: an unmarked begin or text

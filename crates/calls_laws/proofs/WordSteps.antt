@@ -3,11 +3,11 @@
 use mathlib.Core.Path.{_≡_, refl, ap, _∙_}
 use mathlib.Core.List.{List, map}
 use mathlib.Core.Bool.{true, cond}
-use mathlib.Core.Option.{some}
+use mathlib.Core.Option.{Option, none, some}
 use Prim.Native.Nat.{ℕ, zero, suc, _≤_}
 use native.Mathlib.Omega.{arith}
 use borrow.Author.Tests.{le-ltb}
-use lib.Dec.{eqb, eqb·suc-zero}
+use lib.Dec.{ltb, eqb, eqb·suc-zero}
 use lib.ListN.{length, drop, length-append, length-drop}
 use Rattle.store_types.specs.Limits.{header-words}
 use Rattle.tree.specs.Book.{labels-of}
@@ -17,7 +17,7 @@ use Rattle.calls.specs.Load.{words-for}
 use Rattle.calls.specs.Words.{words-of, Says, word-at, follow, label-field, read, in-front}
 use Rattle.calls.specs.Replies.{on-store, refusal-over, store-or, said, written}
 use Rattle.calls.specs.Promise.{Reader-right}
-use Rattle.calls_laws.proofs.Tests.{facts-of}
+use Rattle.calls_laws.proofs.Tests.{passes, facts-of}
 use Rattle.calls_laws.proofs.Fields.{length-words, Header-says, header-says}
 use Rattle.calls_laws.proofs.Reader.{reader-right, row-read, labels-read}
 
@@ -54,6 +54,15 @@ module _ (ws : List ℕ) (st : Store) (h : Says ws st) where
   pub labels-said : map (label-field ws) (row st) ≡ labels-of (width st) (st .book)
   unfolding Says
   labels-said = rw (h .1 .1) (labels-read st (h .1 .0) (facts-of st (h .0)))
+
+-- A CALL THAT IS NOT REFUSED is on words that say a store, of which its own tests pass
+pub refusal-passed : (ws : List ℕ) (f : Store → ℕ) → refusal-over ws f ≡ 0 → Says ws (said ws) × (f (said ws) ≡ 0)
+unfolding refusal-over on-store said store-or Reader-right
+refusal-passed ws f r = go (read ws) refl (passes (ltb (length ws) header-words) 0 _ r .1)
+  where
+    go : (o : Option Store) → read ws ≡ o → on-store o f ≡ 0 → Says ws (store-or o) × (f (store-or o) ≡ 0)
+    go none q e = absurd (omega arith)
+    go (some st) q e = (reader-right ws st .0 q, e)
 
 -- NEW WORDS in front say their store, and where they fit there are as many words as before
 pub says-in-front : (ws : List ℕ) (su : Store) → sound su ≡ true → Says (in-front (words-of su) ws) su

@@ -1,0 +1,61 @@
+// Mark: a begin or text and all inside (document 01, "Calls and their replies").
+ghost use mathlib.Core.Path.{_≡_};
+ghost use Prim.Native.Nat.{_<_, _≤_};
+ghost use lib.ListN.{length};
+ghost use Rattle.calls.specs.Load.{words-for};
+ghost use Rattle.calls.specs.Replies.{mark-reply, mark-words};
+ghost use Rattle.calls.specs.Words.{field};
+ghost use Rattle.store_mark.specs.Run.{new-mark, mark-one, mark-each, count-new, tags-of};
+ghost use Rattle.words.specs.Fields.{Room};
+use store_types::MarkReply;
+use store_types::TagId;
+
+// One tag is marked: 1 where it was not.
+fn mark_tag(words: &mut [u32], x: TagId) -> u32
+    requires { ⌜ Room (length (now words)) (x .0) 5 ⌝ }
+    ensures new { λ k. ⌜ k ≡ new-mark (field (now (words .entry)) (x .0) 5) ⌝ }
+    ensures words { λ _. ⌜ now (words .exit) ≡ mark-one (now (words .entry)) (x .0) ⌝ }
+{
+    let kind = words::kind_of(words, x);
+    if 16 <= kind {
+        return 0;
+    }
+    words::set_kind(words, x, kind + 16);
+    1
+}
+
+// From x along next to its mate.
+fn mark_section(words: &mut [u32], n: u32, x: TagId) -> u32
+    requires tag { ⌜ x .0 < n ⌝ }
+    requires records { ⌜ words-for n ≤ length (now words) ⌝ }
+    ensures new { λ k. ⌜ k ≡ count-new (now (words .entry)) (tags-of n (now (words .entry)) (x .0)) ⌝ }
+    ensures words { λ _. ⌜ now (words .exit) ≡ mark-each (now (words .entry)) (tags-of n (now (words .entry)) (x .0)) ⌝ }
+{
+    let last = words::mate_of(words, x);
+    let mut tag = x;
+    let mut marked: u32 = 0;
+    let mut steps: u32 = 0;
+    while steps < n && tag.0 < n {
+        marked += mark_tag(words, tag);
+        if tag.0 == last.0 {
+            return marked;
+        }
+        tag = words::next_of(words, tag);
+        steps += 1;
+    }
+    marked
+}
+
+pub fn mark(tag: TagId, words: &mut [u32]) -> MarkReply
+    ensures reply { λ q. ⌜ q ≡ mark-reply (tag .0) (now (words .entry)) ⌝ }
+    ensures words { λ _. ⌜ now (words .exit) ≡ mark-words (tag .0) (now (words .entry)) ⌝ }
+{
+    let refusal = store_read::section_refused(tag, words);
+    if refusal != 0 {
+        return MarkReply::Refused(refusal);
+    }
+    let n = words[4];
+    let marked = mark_section(words, n, tag);
+    words[7] = words[7] + 1;
+    MarkReply::Marked(marked)
+}

@@ -1,0 +1,43 @@
+// The calls that write no word of the store: hold and the held-pair question (held), list (listing); and the refusals
+// that every call but load begins with (document 01, "Calls and their replies").
+pub mod held;
+pub mod listing;
+
+ghost use mathlib.Core.Path.{_≡_};
+ghost use Rattle.calls.specs.Mark.{section-refusal};
+ghost use Rattle.calls.specs.Replies.{refusal-over};
+use store_types::TagId;
+
+// 1 and 2, which come first on every call but load; 0 where the words say a store.
+pub fn words_refused(words: &[u32]) -> u32
+    ensures { λ k. ⌜ k ≡ refusal-over (now (words .entry)) (λ st. 0) ⌝ }
+{
+    if words.len() < 8 {
+        return 1;
+    }
+    if !walk::sound(words) {
+        return 2;
+    }
+    0
+}
+
+// The refusals of mark and hold.
+pub fn section_refused(tag: TagId, words: &[u32]) -> u32
+    ensures { λ k. ⌜ k ≡ refusal-over (now (words .entry)) (section-refusal (tag .0)) ⌝ }
+{
+    let first = words_refused(words);
+    if first != 0 {
+        return first;
+    }
+    if words[4] <= tag.0 {
+        return 8;
+    }
+    let kind = words::kind_of(words, tag);
+    if 16 <= kind {
+        return 9;
+    }
+    if kind == 2 {
+        return 10;
+    }
+    0
+}
