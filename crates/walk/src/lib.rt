@@ -26,7 +26,7 @@ pub fn power_fits(b: u64, h: u32) -> bool
 }
 
 // Whether a degree, s or r, is in its range.
-fn degree_fits(d: u32) -> bool
+pub fn degree_fits(d: u32) -> bool
     ensures { λ t. ⌜ t ≡ degree-fits d ⌝ }
 {
     2 <= d && d <= 16

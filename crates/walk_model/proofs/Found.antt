@@ -44,7 +44,7 @@ distinct-rising g (x ∷ xs) a b h = (
 )
 
 -- A KIND'S WORD back from the kind and mark that are read in it
-code-back : (c : ℕ) → 1 ≤ c → c ≤ 3 → code (kind-of c) ≡ c
+pub code-back : (c : ℕ) → 1 ≤ c → c ≤ 3 → code (kind-of c) ≡ c
 unfolding code kind-of
 code-back zero l m = absurd (omega arith)
 code-back (suc zero) l m = refl

@@ -1,0 +1,118 @@
+-- The words of new tags with no labels yet are an image (crate edit_model): header, records, and what stood behind them.
+-- Assumes nothing.
+use mathlib.Core.Path.{_≡_, refl, sym, _∙_}
+use mathlib.Core.List.{List, [], _∷_, _++_, append-nil}
+use Prim.Native.Nat.{ℕ, zero, suc, _+_, _*_, _≤_, _<_}
+use native.Mathlib.Nat.{zero-add}
+use native.Mathlib.Numerals.{add-one, sub-one}
+use native.Mathlib.Omega.{arith}
+use borrow.Author.Tests.{lt-ltb, ltb-true, ltb-false}
+use lib.Dec.{ltb, eqb·suc-zero}
+use lib.ListN.{length, getD, take, drop, replicate, length-replicate, getD-replicate, take-append-drop, List·getD-append, List·getD-eq-default}
+use lib.Seq.{length-take-le, getD-take, drop-append-add, drop-drop}
+use Rattle.store_types.specs.Limits.{no-tag, header-words, tag-words}
+use Rattle.tree.specs.Row.{numbers, place}
+use Rattle.tree_laws.proofs.Rows.{by-test, length-numbers, getD-numbers, distinct-numbers, place-getD, all-below-numbers}
+use Rattle.calls.specs.Store.{next-in, prior-in}
+use Rattle.calls.specs.Load.{words-for}
+use Rattle.calls.specs.Words.{word-at, field, in-front}
+use Rattle.calls_laws.proofs.WordSteps.{length-in-front}
+use Rattle.edit_model.specs.Image.{Image, image-header, image-record, image-words}
+use Rattle.edit_model.proofs.Fields.{fields-tell}
+use Rattle.edit_model.proofs.Image.{Proper, length-image, image-field, image-header-word}
+use Rattle.store_load.specs.Tags.{next-number, prior-number, facts-new, Tags-written}
+use Rattle.store_load.specs.Labels.{first-number, header-new}
+use Rattle.store_load.proofs.Row.{count-new}
+
+abbrev pub blank : (s r h number : ℕ) → (kinds : List ℕ) → Image
+blank s r h b cs =
+    record {
+      s = s;
+      r = r;
+      levels = h;
+      number = b;
+      stamp = 0;
+      tags = numbers 0 (length cs);
+      labels = replicate (length cs) 0;
+      facts = facts-new cs;
+    }
+
+-- TAGS IN THE ORDER OF THEIR NUMBERS: the first, the place of each, and what stands behind and before it
+first-is : (n : ℕ) → getD (numbers 0 n) 0 no-tag ≡ first-number n
+unfolding numbers first-number
+first-is zero = refl
+first-is (suc n) = rw (eqb·suc-zero n)
+
+place-is : (n x : ℕ) → x < n → place x (numbers 0 n) ≡ x
+place-is n x l =
+    rw (getD-numbers 0 n x 0 l, zero-add) at (place-getD (numbers 0 n) x 0 (distinct-numbers 0 n) (rw length-numbers l))
+
+next-is : (n x : ℕ) → x < n → next-in (numbers 0 n) x ≡ next-number x n
+unfolding next-in next-number
+next-is n x l =
+    rw (place-is n x l, add-one x)
+    (by-test (ltb (suc x) n)
+    (λ e. rw e (getD-numbers 0 n (suc x) no-tag (ltb-true (suc x) n e) ∙ zero-add (suc x)))
+    (λ e. rw e (List·getD-eq-default (numbers 0 n) no-tag (rw length-numbers (ltb-false (suc x) n e)))))
+
+prior-is : (n x : ℕ) → x < n → prior-in (numbers 0 n) x ≡ prior-number x
+unfolding prior-in prior-number
+prior-is n x l = rw (place-is n x l) (go x l)
+  where
+    go : (x : ℕ) → x < n → getD (no-tag ∷ numbers 0 n) x no-tag ≡ prior-number x
+    go zero l = refl
+    go (suc x) l = rw (lt-ltb 0 (suc x) (omega arith), sub-one) (getD-numbers 0 n x no-tag (omega arith) ∙ zero-add x)
+
+module _ (s r h b : ℕ) (cs : List ℕ) where
+  pub proper-blank : Proper (blank s r h b cs)
+  proper-blank =
+      let n = length cs in
+      record {
+        as-many = length-numbers 0 n ∙ sym (count-new cs);
+        each = rw (count-new cs) (all-below-numbers n);
+        labelled = length-replicate n 0 ∙ sym (length-numbers 0 n);
+      }
+
+  header-is : image-header (blank s r h b cs) ≡ header-new s r h (length cs) b
+  unfolding image-header header-new
+  header-is = rw (count-new cs, first-is (length cs))
+
+  -- what the header and the tags leave over words ws
+  module _ (ws vs : List ℕ) (room : words-for (length cs) ≤ length ws) (t : Tags-written (in-front (header-new s r h (length cs) b) ws) vs cs) where
+    header-word : (i : ℕ) → i < header-words → word-at vs i ≡ word-at (image-header (blank s r h b cs)) i
+    unfolding in-front header-new
+    header-word i l = t .around .header i l ∙ List·getD-append (header-new s r h (length cs) b) (drop header-words ws) 0 i l ∙ rw header-is
+
+    record-word : (x k : ℕ) → x < length cs → k < tag-words → field vs x k ≡ getD (image-record (blank s r h b cs) x) k 0
+    unfolding image-record
+    record-word x zero l f = t .places x l .label-word ∙ sym (getD-replicate (length cs) _ 0 0 (rw (place-is (length cs) x l) l))
+    record-word x (suc zero) l f = t .places x l .next-word ∙ sym (next-is (length cs) x l)
+    record-word x (suc (suc zero)) l f = t .places x l .prior-word ∙ sym (prior-is (length cs) x l)
+    record-word x (suc (suc (suc zero))) l f = t .mates x l
+    record-word x (suc (suc (suc (suc zero)))) l f = t .places x l .up-word
+    record-word x (suc (suc (suc (suc (suc zero))))) l f = t .places x l .kind-is
+    record-word x (suc (suc (suc (suc (suc (suc k)))))) l f = absurd (omega arith)
+
+    front : take (words-for (length cs)) vs ≡ image-words (blank s r h b cs)
+    unfolding words-for field header-new
+    front =
+        let n = length cs in
+        let v = blank s r h b cs in
+        let own = append-nil (image-words v) in
+        let size : length vs ≡ length ws = t .around .size ∙ length-in-front (header-new s r h n b) ws (omega arith) in
+        fields-tell n (take (words-for n) vs) (image-words v) (length-take-le (words-for n) vs (omega arith)) (length-image v ∙ rw (count-new cs))
+        (λ i l. getD-take (words-for n) vs i 0 (omega arith) ∙ header-word i l ∙ sym (rw own at (image-header-word v [] i l)))
+        (λ x k l f.
+        getD-take (words-for n) vs (header-words + tag-words * x + k) 0 (omega arith)
+        ∙ record-word x k l f
+        ∙ sym (rw own at (image-field v [] x k (rw (count-new cs) l) f)))
+
+    behind : drop (words-for (length cs)) vs ≡ drop (words-for (length cs)) ws
+    unfolding words-for in-front header-new
+    behind =
+        t .around .rest
+        ∙ drop-append-add (header-new s r h (length cs) b) (drop header-words ws) (tag-words * length cs)
+        ∙ drop-drop (tag-words * length cs) header-words ws
+
+    pub blank-words : vs ≡ image-words (blank s r h b cs) ++ drop (words-for (length cs)) ws
+    blank-words = sym (take-append-drop (words-for (length cs)) vs) ∙ rw (front, behind)

@@ -1,0 +1,151 @@
+-- What load replies and leaves: where a test refuses, and where none does. Assumes nothing.
+use mathlib.Core.Path.{_≡_, refl, ap, sym, _∙_}
+use mathlib.Core.Bool.{Bool, true, false, not, cond}
+use mathlib.Core.List.{List, map, _++_}
+use Prim.Native.Nat.{ℕ, zero, suc, _+_, _*_, _-_, _^_, _≤_}
+use native.Mathlib.Numerals.{add-one}
+use native.Mathlib.Omega.{arith}
+use borrow.Author.Tests.{ltb-false, not-false, lt-ltb, le-ltb, leb-true, leb-false}
+use lib.Dec.{ltb}
+use lib.ListN.{length, drop, length-append}
+use Rattle.store_types.specs.Limits.{header-words, most-tags, label-limit}
+use Rattle.store_types.specs.declared.LoadReply.the-variants as load
+use Rattle.tree.specs.Book.{base, power-width, load-under, loaded}
+use Rattle.tree_laws.proofs.Load.{load-least}
+use Rattle.calls.specs.Kind.{kind-of}
+use Rattle.calls.specs.Nesting.{nests}
+use Rattle.calls.specs.Sound.{degrees-fit}
+use Rattle.calls.specs.Load.{words-for, all-kinds, load-refusal, load-store}
+use Rattle.calls.specs.Words.{words-of, in-front}
+use Rattle.calls.specs.Replies.{written, load-outcome, load-reply, load-words}
+use Rattle.calls_laws.proofs.Tests.{passes, Degrees, degrees-of}
+use Rattle.calls_laws.proofs.Fields.{length-words}
+use Rattle.calls_laws.proofs.Steps.{Load-accepted, accepted-load}
+use Rattle.calls_laws.proofs.WordSteps.{length-in-front}
+use Rattle.walk.specs.Needs.{power-fits}
+use Rattle.edit_model.specs.Image.{image-words}
+use Rattle.edit_model.proofs.Image.{length-image}
+use Rattle.store_load.specs.Refusals.{kinds-refusal, refusal-before}
+use Rattle.store_load.specs.Tags.{Tags-fit, Tags-written}
+use Rattle.store_load.specs.Labels.{header-new, Labels-fit, labels-written}
+use Rattle.store_load.proofs.Height.{leaves-enough}
+use Rattle.store_load.proofs.Row.{count-new}
+use Rattle.store_load.proofs.Blank.{blank, blank-words}
+use Rattle.store_load.proofs.Loaded.{row-there, loaded-words}
+
+-- THE TESTS BEFORE THE LAST, passed; the last one is then the refusal
+pub record Passed (w s r : ℕ) (cs : List ℕ) : Type 0 where
+  pub degrees : Degrees s r
+  pub few : length cs ≤ most-tags
+  pub room : words-for (length cs) ≤ w
+  pub kinds : all-kinds cs ≡ true
+  pub nesting : nests 0 (map kind-of cs) ≡ true
+  pub last : load-refusal w s r cs ≡ cond (ltb label-limit (power-width s r (suc (load-under r (length cs))))) 7 0
+
+module _ (w s r : ℕ) (cs : List ℕ) where
+  pub passed : refusal-before w s r cs ≡ 0 → Passed w s r cs
+  unfolding refusal-before kinds-refusal load-refusal
+  passed e =
+      let n = length cs in
+      let a = passes (not (degrees-fit s r)) 2 _ e in
+      let b = passes (ltb most-tags n) 5 _ (a .1) in
+      let c = passes (ltb w (words-for n)) 0 _ (b .1) in
+      let d = passes (not (all-kinds cs)) 3 _ (c .1) in
+      let f = passes (not (nests 0 (map kind-of cs))) 4 0 (d .1) in
+      record {
+        degrees = degrees-of s r (not-false _ (a .0));
+        few = ltb-false _ _ (b .0);
+        room = ltb-false _ _ (c .0);
+        kinds = not-false _ (d .0);
+        nesting = not-false _ (f .0);
+        last = rw (a .0, b .0, c .0, d .0, f .0);
+      }
+
+  -- one of them, failed, is the refusal
+  pub early : (q : ℕ) → refusal-before w s r cs ≡ q → (q ≡ 0 → ⊥) → load-refusal w s r cs ≡ q
+  unfolding refusal-before kinds-refusal load-refusal
+  early q e some =
+      go (not (degrees-fit s r)) (ltb most-tags (length cs)) (ltb w (words-for (length cs))) (not (all-kinds cs)) (not (nests 0 (map kind-of cs))) _ e
+    where
+      go : (a b c d f : Bool) (last : ℕ) → cond a 3 (cond b 6 (cond c 1 (cond d 4 (cond f 5 0)))) ≡ q →
+          cond a 3 (cond b 6 (cond c 1 (cond d 4 (cond f 5 last)))) ≡ q
+      go true b c d f last e = e
+      go false true c d f last e = e
+      go false false true d f last e = e
+      go false false false true f last e = e
+      go false false false false true last e = e
+      go false false false false false last e = absurd (some (sym e))
+
+  -- the last test, as the code makes it
+  module _ (h : Passed w s r cs) (u : ℕ) (height : u ≡ load-under r (length cs)) where
+    code-power : (s * r - 1) ^ (u + 1) ≡ power-width s r (suc (load-under r (length cs)))
+    unfolding power-width base
+    code-power = rw (height, add-one)
+
+    pub too-wide : power-fits (s * r - 1) (u + 1) ≡ false → load-refusal w s r cs ≡ 7
+    unfolding power-fits
+    too-wide e = h .last ∙ rw (lt-ltb label-limit _ (rw code-power at (leb-false ((s * r - 1) ^ (u + 1)) label-limit e)))
+
+    pub none-refused : power-fits (s * r - 1) (u + 1) ≡ true → load-refusal w s r cs ≡ 0
+    unfolding power-fits
+    none-refused e = h .last ∙ rw (le-ltb label-limit _ (rw code-power at (leb-true ((s * r - 1) ^ (u + 1)) label-limit e)))
+
+-- REFUSED: the reply is the refusal, and the words are as they were
+pub refused-with : (s r b : ℕ) (cs ws : List ℕ) (q : ℕ) → load-refusal (length ws) s r cs ≡ q → (q ≡ 0 → ⊥) →
+    (load.Refused q ≡ load-reply s r b cs ws) × (ws ≡ load-words s r b cs ws)
+unfolding load-reply load-words load-outcome written
+refused-with s r b cs ws zero e some = absurd (some refl)
+refused-with s r b cs ws (suc k) e some = (rw e, rw e)
+
+-- the header has room, and behind it the tags
+pub header-room : {w s r : ℕ} {cs : List ℕ} → Passed w s r cs → header-words ≤ w
+unfolding words-for
+header-room h = omega (arith, h .room)
+
+pub tags-fit : (s r u b : ℕ) (cs ws hs : List ℕ) → Passed (length ws) s r cs → hs ≡ in-front (header-new s r u (length cs) b) ws → Tags-fit hs cs
+unfolding header-new
+tags-fit s r u b cs ws hs h e =
+    record {
+      few = h .few;
+      long = rw (e, length-in-front (header-new s r u (length cs) b) ws (header-room h)) (h .room);
+      kinds = h .kinds;
+      nesting = h .nesting;
+    }
+
+-- ACCEPTED, where u is the height of the root's children
+module _ (s r b : ℕ) (cs ws : List ℕ) (u : ℕ) (height : u ≡ load-under r (length cs)) (none : load-refusal (length ws) s r cs ≡ 0) where
+  pub replied : load.Loaded (length cs) (u + 1) ≡ load-reply s r b cs ws
+  unfolding load-reply load-outcome loaded
+  replied = rw (none, height, add-one)
+
+  new-words : words-of (load-store s r b cs) ++ drop (words-for (length cs)) ws ≡ load-words s r b cs ws
+  unfolding load-words written in-front load-store
+  new-words = rw none (ap (λ (k : ℕ). words-of (load-store s r b cs) ++ drop k ws) (sym (length-words (load-store s r b cs) ∙ ap words-for (count-new cs))))
+
+  accepted : Load-accepted (length ws) s r cs
+  accepted = accepted-load (length ws) s r cs none
+
+  -- behind the header and the tags the labels may be written, and then all is
+  module _ (hs vs : List ℕ) (head : hs ≡ in-front (header-new s r (u + 1) (length cs) b) ws) (t : Tags-written hs vs cs) where
+    is-blank : vs ≡ image-words (blank s r (suc (load-under r (length cs))) b cs) ++ drop (words-for (length cs)) ws
+    is-blank = blank-words s r (suc (load-under r (length cs))) b cs ws vs (accepted .room) (rw (head, height, add-one) at t)
+
+    pub labels-fit : Labels-fit vs s r (length cs) u
+    labels-fit =
+        let a = accepted in
+        let n = length cs in
+        let v = blank s r (suc (load-under r n)) b cs in
+        let rest = drop (words-for n) ws in
+        let size : length (image-words v) ≡ words-for n = length-image v ∙ ap words-for (count-new cs) in
+        rw height (record {
+          row = rw is-blank (row-there s r (suc (load-under r n)) b cs rest (a .few) (omega (arith, length-append (image-words v) rest)));
+          s-least = a .degrees .s-least;
+          s-most = a .degrees .s-most;
+          r-least = a .degrees .r-least;
+          r-most = a .degrees .r-most;
+          powers = a .labels;
+          least = leaves-enough r n (load-under r n) (load-least r n (a .degrees .r-least));
+        })
+
+    pub all-written : labels-written vs s r (length cs) u ≡ load-words s r b cs ws
+    all-written = rw (height, is-blank) (loaded-words ws s r b cs (drop (words-for (length cs)) ws) accepted ∙ new-words)

@@ -1,0 +1,77 @@
+-- The records of new tags before they have labels. Follows the code of src/tags.rt. Assumes nothing: these are definitions.
+use mathlib.Core.Path.{_≡_}
+use mathlib.Core.Bool.{true, cond}
+use mathlib.Core.List.{List, [], map}
+use Prim.Native.Nat.{ℕ, _+_, _-_, _≤_, _<_}
+use lib.Dec.{ltb, eqb}
+use lib.ListN.{length, drop}
+use Rattle.store_types.specs.Limits.{no-tag, header-words, most-tags}
+use Rattle.calls.specs.Kind.{kind-of, kind-word}
+use Rattle.calls.specs.Store.{Fact, fact-in}
+use Rattle.calls.specs.Nesting.{nests, new-facts}
+use Rattle.calls.specs.Load.{words-for, all-kinds}
+use Rattle.calls.specs.Words.{word-at, field}
+use Rattle.words.specs.Fields.{with-field}
+
+-- the tags before and behind tag x of n in order, or no tag
+unfoldable pub next-number : (x n : ℕ) → ℕ
+next-number x n = cond (ltb (x + 1) n) (x + 1) no-tag
+
+unfoldable pub prior-number : (x : ℕ) → ℕ
+prior-number x = cond (ltb 0 x) (x - 1) no-tag
+
+-- label 0, kind, next and prior of tag x
+unfoldable pub place-written : (x n kind : ℕ) → List ℕ → List ℕ
+place-written x n c ws =
+    with-field (with-field (with-field (with-field ws x 0 0) x 5 c) x 1 (next-number x n)) x 2 (prior-number x)
+
+-- mate and up of a begin or text, where o is the innermost open begin
+unfoldable pub inner-written : (x o : ℕ) → List ℕ → List ℕ
+inner-written x o ws = with-field (with-field ws x 3 x) x 4 o
+
+-- mate and up of an end, and its begin's mate
+unfoldable pub end-written : (x o : ℕ) → List ℕ → List ℕ
+end-written x o ws = with-field (with-field (with-field ws x 3 o) o 3 x) x 4 (field ws o 4)
+
+unfoldable pub tag-written : (x n kind o : ℕ) → List ℕ → List ℕ
+tag-written x n c o ws = let placed = place-written x n c ws in cond (eqb c 2) (end-written x o placed) (inner-written x o placed)
+
+-- the innermost open begin behind tag x
+unfoldable pub open-behind : (x n kind o : ℕ) → List ℕ → ℕ
+open-behind x n c o ws = cond (eqb c 2) (field (place-written x n c ws) o 4) (cond (eqb c 1) x o)
+
+-- what a tag is asked of: the records of n tags are there, x is one of them, and an end has a begin
+pub record Tag-fits (length n x kind o : ℕ) : Type 0 where
+  pub few : n ≤ most-tags
+  pub long : words-for n ≤ length
+  pub below : x < n
+  pub begun : kind ≡ 2 → o < n
+
+-- THE ROW: what all tags are asked of, and what they are then
+pub record Tags-fit (ws cs : List ℕ) : Type 0 where
+  pub few : length cs ≤ most-tags
+  pub long : words-for (length cs) ≤ length ws
+  pub kinds : all-kinds cs ≡ true
+  pub nesting : nests 0 (map kind-of cs) ≡ true
+
+-- of tag x of n, with this fact: all but the mate
+pub record Placed (ws : List ℕ) (n x : ℕ) (t : Fact) : Type 0 where
+  pub label-word : field ws x 0 ≡ 0
+  pub next-word : field ws x 1 ≡ next-number x n
+  pub prior-word : field ws x 2 ≡ prior-number x
+  pub up-word : field ws x 4 ≡ t .up
+  pub kind-is : field ws x 5 ≡ kind-word (t .kind) (t .marked)
+
+-- words outside the records of n tags are as before
+pub record Around (before after : List ℕ) (n : ℕ) : Type 0 where
+  pub size : length after ≡ length before
+  pub header : (i : ℕ) → i < header-words → word-at after i ≡ word-at before i
+  pub rest : drop (words-for n) after ≡ drop (words-for n) before
+
+abbrev pub facts-new : (kinds : List ℕ) → List Fact
+facts-new cs = new-facts no-tag [] 0 (map kind-of cs)
+
+pub record Tags-written (before after cs : List ℕ) : Type 0 where
+  pub around : Around before after (length cs)
+  pub places : (x : ℕ) → x < length cs → Placed after (length cs) x (fact-in (facts-new cs) x)
+  pub mates : (x : ℕ) → x < length cs → field after x 3 ≡ fact-in (facts-new cs) x .mate

@@ -1,0 +1,77 @@
+// Load: validates first, then writes (document 01, "Calls and their replies"). Any old content is accepted.
+mod refusals;
+mod tags;
+
+ghost use mathlib.Core.Path.{_≡_};
+ghost use Prim.Native.Nat.{_≤_};
+ghost use lib.ListN.{length};
+ghost use Rattle.store_types.specs.Limits.{header-words};
+ghost use Rattle.calls.specs.Words.{in-front};
+ghost use Rattle.calls.specs.Replies.{load-reply, load-words};
+ghost use Rattle.store_load.specs.Labels.{first-number, header-new, Labels-fit, labels-written};
+use store_types::LoadReply;
+use store_types::TagId;
+
+fn first_tag(n: u32) -> TagId
+    ensures { λ t. ⌜ t .0 ≡ first-number n ⌝ }
+{
+    if n == 0 {
+        return TagId::NONE;
+    }
+    TagId(0)
+}
+
+fn write_header(words: &mut [u32], s: u32, r: u32, h: u32, n: u32, book: u32)
+    requires { ⌜ header-words ≤ length (now words) ⌝ }
+    ensures { λ _. ⌜ now (words .exit) ≡ in-front (header-new s r h n book) (now (words .entry)) ⌝ }
+{
+    let first = first_tag(n);
+    words[0] = 1;
+    words[1] = s;
+    words[2] = r;
+    words[3] = h;
+    words[4] = n;
+    words[5] = first.0;
+    words[6] = book;
+    words[7] = 0;
+}
+
+// The labels of n tags along next from tag 0 on, where the root's children have height `under`.
+fn write_labels(words: &mut [u32], s: u32, r: u32, n: u32, under: usize)
+    requires { ⌜ Labels-fit (now words) s r n under ⌝ }
+    ensures { λ _. ⌜ now (words .exit) ≡ labels-written (now (words .entry)) s r n under ⌝ }
+{
+    let widths = walk::levels::table(1, (s as u64) * (r as u64) - 1, under);
+    let lows = walk::levels::table(1, r as u64, under);
+    renumber::number(
+        words,
+        n,
+        r as u64,
+        under,
+        0,
+        TagId(0),
+        n as u64,
+        &widths,
+        &lows,
+    );
+}
+
+pub fn load(s: u32, r: u32, book: u32, kinds: &[u8], words: &mut [u32]) -> LoadReply
+    ensures reply { λ q. ⌜ q ≡ load-reply s r book (now (kinds .entry)) (now (words .entry)) ⌝ }
+    ensures words { λ _. ⌜ now (words .exit) ≡ load-words s r book (now (kinds .entry)) (now (words .entry)) ⌝ }
+{
+    let refused = refusals::refused(words.len(), s, r, kinds);
+    if refused != 0 {
+        return LoadReply::Refused(refused);
+    }
+    let n = kinds.len() as u32;
+    let under = refusals::load_under(n as u64, r as u64);
+    let h = under + 1;
+    if !walk::power_fits((s as u64) * (r as u64) - 1, h) {
+        return LoadReply::Refused(7);
+    }
+    write_header(words, s, r, h, n, book);
+    tags::write_tags(words, kinds);
+    write_labels(words, s, r, n, under as usize);
+    LoadReply::Loaded { tags: n, height: h }
+}
