@@ -26,5 +26,6 @@ pub record Labels-fit (ws : List ℕ) (s r n u : ℕ) : Type 0 where
   pub powers : power-width s r (suc u) ≤ label-limit
   pub least : 1 ≤ u → r ^ u ≤ n
 
+-- the labels of complete trees over the row, numbered from 0
 unfoldable pub labels-written : List ℕ → (s r n u : ℕ) → List ℕ
 labels-written ws s r n u = trees-numbered ws (table 1 (base s r) u) r u 0 0 n .words

@@ -13,7 +13,7 @@ use Rattle.calls.specs.Load.{words-for, all-kinds}
 use Rattle.calls.specs.Words.{word-at, field}
 use Rattle.words.specs.Fields.{with-field}
 
--- the tags before and behind tag x of n in order, or no tag
+-- the tag behind and the tag before tag x of n, numbered in book order, or no tag
 unfoldable pub next-number : (x n : ℕ) → ℕ
 next-number x n = cond (ltb (x + 1) n) (x + 1) no-tag
 
@@ -33,6 +33,7 @@ inner-written x o ws = with-field (with-field ws x 3 x) x 4 o
 unfoldable pub end-written : (x o : ℕ) → List ℕ → List ℕ
 end-written x o ws = with-field (with-field (with-field ws x 3 o) o 3 x) x 4 (field ws o 4)
 
+-- the whole record, but for its label
 unfoldable pub tag-written : (x n kind o : ℕ) → List ℕ → List ℕ
 tag-written x n c o ws = let placed = place-written x n c ws in cond (eqb c 2) (end-written x o placed) (inner-written x o placed)
 
@@ -47,7 +48,7 @@ pub record Tag-fits (length n x kind o : ℕ) : Type 0 where
   pub below : x < n
   pub begun : kind ≡ 2 → o < n
 
--- THE ROW: what all tags are asked of, and what they are then
+-- THE ROW: what all tags are asked of
 pub record Tags-fit (ws cs : List ℕ) : Type 0 where
   pub few : length cs ≤ most-tags
   pub long : words-for (length cs) ≤ length ws
@@ -68,9 +69,11 @@ pub record Around (before after : List ℕ) (n : ℕ) : Type 0 where
   pub header : (i : ℕ) → i < header-words → word-at after i ≡ word-at before i
   pub rest : drop (words-for n) after ≡ drop (words-for n) before
 
+-- the facts of tags of these kinds
 abbrev pub facts-new : (kinds : List ℕ) → List Fact
 facts-new cs = new-facts no-tag [] 0 (map kind-of cs)
 
+-- their records, all but the labels
 pub record Tags-written (before after cs : List ℕ) : Type 0 where
   pub around : Around before after (length cs)
   pub places : (x : ℕ) → x < length cs → Placed after (length cs) x (fact-in (facts-new cs) x)

@@ -12,6 +12,7 @@ ghost use Rattle.store_load.specs.Labels.{first-number, header-new, Labe
 use store_types::LoadReply;
 use store_types::TagId;
 
+// The first of n tags.
 fn first_tag(n: u32) -> TagId
     ensures { λ t. ⌜ t .0 ≡ first-number n ⌝ }
 {
@@ -67,6 +68,7 @@ pub fn load(s: u32, r: u32, book: u32, kinds: &[u8], words: &mut [u32]) -> LoadR
     let n = kinds.len() as u32;
     let under = refusals::load_under(n as u64, r as u64);
     let h = under + 1;
+    // The last refusal goes by the height; nothing has been written yet.
     if !walk::power_fits((s as u64) * (r as u64) - 1, h) {
         return LoadReply::Refused(7);
     }
