@@ -1,0 +1,212 @@
+//! Random histories: a load and a walk of calls by a pattern, refused calls among them.
+
+use crate::call::Call;
+use crate::kinds::{self, BEGIN, END, TEXT};
+use crate::rng::Rng;
+use crate::session::{Failure, Session};
+use reference::{Fault, Kind, Tag, HEADER, NO_TAG, RECORD};
+
+/// Where the insertions of a walk go.
+#[derive(Clone, Copy, Debug)]
+enum Pattern {
+    OnePlace(u32),
+    Front,
+    /// After the last tag of the book.
+    End,
+    BothEnds,
+    Alternating(u32, u32),
+    /// After the tag inserted last.
+    Onward,
+    /// Somewhere inside one element.
+    Section(u32),
+    /// After one tag, marking each new one: full nodes of marked tags.
+    MarkEach(u32),
+    Anywhere,
+}
+
+/// What a walk knows of the store, read afresh from the words before each call.
+struct View {
+    order: Vec<usize>,
+    tags: Vec<Tag>,
+    book: u32,
+}
+
+impl View {
+    fn of(words: &[u32]) -> Option<View> {
+        let book = reference::read(words, Fault::None)?;
+        Some(View { order: book.order(), tags: book.tags, book: book.number })
+    }
+
+    fn any(&self, rng: &mut Rng) -> u32 {
+        rng.below(self.tags.len()) as u32
+    }
+
+    fn last(&self) -> u32 {
+        self.order.last().map_or(NO_TAG, |&tag| tag as u32)
+    }
+
+    /// An unmarked tag of the kind, if a few draws find one.
+    fn unmarked(&self, rng: &mut Rng, kind: Option<Kind>) -> Option<u32> {
+        (0..8).map(|_| self.any(rng)).find(|&tag| {
+            self.tags.get(tag as usize).is_some_and(|it| !it.marked && kind.is_none_or(|kind| it.kind == kind))
+        })
+    }
+
+    /// A tag of the element but its end: mostly one inside, where there is one.
+    fn inside(&self, rng: &mut Rng, begin: u32) -> u32 {
+        let Some(tag) = self.tags.get(begin as usize) else { return NO_TAG };
+        let at = |x: usize| self.order.iter().position(|&it| it == x).unwrap_or(0);
+        let (from, to) = (at(begin as usize), at(tag.mate));
+        self.order[from + rng.below(to.saturating_sub(from).max(1))] as u32
+    }
+}
+
+fn pattern(rng: &mut Rng, view: &View) -> Pattern {
+    let one = view.unmarked(rng, None).unwrap_or(NO_TAG);
+    match rng.below(9) {
+        0 => Pattern::OnePlace(one),
+        1 => Pattern::Front,
+        2 => Pattern::End,
+        3 => Pattern::BothEnds,
+        4 => Pattern::Alternating(one, view.any(rng)),
+        5 => Pattern::Onward,
+        6 => Pattern::Section(view.unmarked(rng, Some(Kind::Begin)).unwrap_or(one)),
+        7 => Pattern::MarkEach(one),
+        _ => Pattern::Anywhere,
+    }
+}
+
+fn place(rng: &mut Rng, pattern: Pattern, view: &View, step: usize) -> u32 {
+    let even = step & 1 == 0;
+    match pattern {
+        Pattern::OnePlace(tag) | Pattern::MarkEach(tag) => tag,
+        Pattern::Front => NO_TAG,
+        Pattern::End => view.last(),
+        Pattern::BothEnds => if even { NO_TAG } else { view.last() },
+        Pattern::Alternating(one, other) => if even { one } else { other },
+        Pattern::Onward => (view.tags.len() as u32).wrapping_sub(1),
+        Pattern::Section(begin) => view.inside(rng, begin),
+        Pattern::Anywhere => view.any(rng),
+    }
+}
+
+/// A tag that is often there, sometimes just past the last, sometimes far out.
+fn odd_tag(rng: &mut Rng, view: &View) -> u32 {
+    let n = view.tags.len() as u32;
+    let (any, far) = (view.any(rng), rng.word());
+    rng.pick(&[any, any, n, n.wrapping_sub(1), n + 1, 1 << 31, NO_TAG, NO_TAG - 1, far])
+}
+
+/// A call that is not the pattern's insertion.
+fn other(rng: &mut Rng, view: &View, held: &[[u32; 4]]) -> Call {
+    let n = view.tags.len();
+    match rng.below(6) {
+        0 => Call::Insert { kind: rng.pick(&[0, END, 4, 17, 19, 255, BEGIN, TEXT]), place: odd_tag(rng, view) },
+        1 => Call::Mark { tag: odd_tag(rng, view) },
+        2 => Call::Hold { tag: odd_tag(rng, view) },
+        3 | 4 if !held.is_empty() => {
+            let [mut book, mut tag, mut start, mut end] = held[rng.below(held.len())];
+            // Mostly the pair as held; sometimes one word of it is another.
+            match rng.below(12) {
+                0 => book = book.wrapping_add(1),
+                1 => tag = odd_tag(rng, view),
+                2 => start = start.wrapping_add(1),
+                3 => end = end.wrapping_sub(1),
+                _ => {}
+            }
+            let d = match rng.below(5) {
+                0 => odd_tag(rng, view),
+                1 => view.any(rng),
+                _ => view.inside(rng, tag),
+            };
+            Call::Question { book, tag, start, end, d }
+        }
+        3 => Call::Question { book: view.book, tag: view.any(rng), start: 0, end: 0, d: view.any(rng) },
+        _ => {
+            let begin = if rng.percent(40) { NO_TAG } else { odd_tag(rng, view) };
+            let short = rng.below(n + 1);
+            let lens = [n, n, n + 2, short];
+            Call::List { begin, tags: rng.pick(&lens), labels: rng.pick(&lens) }
+        }
+    }
+}
+
+/// So many calls on a sound store.
+pub fn walk(session: &mut Session, rng: &mut Rng, steps: usize) -> Result<(), Failure> {
+    let Some(view) = View::of(&session.words) else { return Ok(()) };
+    let mut pattern_now = pattern(rng, &view);
+    let elements = rng.pick(&[0, 10, 50, 100]);
+    let mut held: Vec<[u32; 4]> = Vec::new();
+    let mut full = 0;
+    for step in 0..steps {
+        let Some(view) = View::of(&session.words) else { return Ok(()) };
+        if rng.percent(15) {
+            let call = other(rng, &view, &held);
+            session.step(call)?;
+        }
+        if rng.percent(8) {
+            let tag = view.unmarked(rng, Some(Kind::Begin)).unwrap_or(0);
+            let reply = session.step(Call::Hold { tag })?;
+            if reply[0] == 0 {
+                let [_, book, tag, start, end] = reply;
+                held.push([book, tag, start, end]);
+                // Just held, the pair is good; later it may be stale.
+                session.step(Call::Question { book, tag, start, end, d: view.inside(rng, tag) })?;
+            }
+        }
+        if rng.percent(2) {
+            let kind = rng.pick(&[Some(Kind::Text), Some(Kind::Begin)]);
+            if let Some(tag) = view.unmarked(rng, kind) {
+                session.step(Call::Mark { tag })?;
+            }
+        }
+        let kind = if rng.percent(elements) { BEGIN } else { TEXT };
+        let reply = session.step(Call::Insert { kind, place: place(rng, pattern_now, &view, step) })?;
+        if reply[0] == 0 && matches!(pattern_now, Pattern::MarkEach(_)) {
+            session.step(Call::Mark { tag: reply[1] })?;
+        }
+        // A full store refuses the same way again and again.
+        full = if reply[0] == 6 || reply[0] == 7 { full + 1 } else { 0 };
+        if full == 10 {
+            return Ok(());
+        }
+        // A place that has become marked gives 9 from then on, and once in a while another pattern is due anyway.
+        if reply[0] == 9 || rng.percent(1) {
+            pattern_now = pattern(rng, &view);
+        }
+    }
+    Ok(())
+}
+
+/// Words for a start: enough for so many tags and a few more, with any old content.
+pub fn ground(rng: &mut Rng, tags: usize) -> Vec<u32> {
+    let len = HEADER + RECORD * tags + rng.below(8);
+    match rng.below(3) {
+        0 => vec![0; len],
+        1 => (0..len).map(|_| rng.word()).collect(),
+        _ => (0..len).map(|_| rng.below(4) as u32).collect(),
+    }
+}
+
+/// Loads, accepted and refused, each accepted one with a walk.
+pub fn history(session: &mut Session, rng: &mut Rng, s: u32, r: u32, steps: usize, most: usize) -> Result<(), Failure> {
+    session.step(Call::Insert { kind: TEXT, place: NO_TAG })?;
+    for part in 0..2 {
+        let n = kinds::size(rng, s, r, most);
+        if rng.percent(30) {
+            let kinds = kinds::spoiled(rng, n);
+            session.step(Call::Load { s, r, book: rng.word(), kinds })?;
+        }
+        if rng.percent(10) {
+            let (s, r) = rng.pick(&[(1, r), (17, r), (s, 1), (s, 17), (0, 0), (u32::MAX, r), (s, u32::MAX)]);
+            session.step(Call::Load { s, r, book: 0, kinds: kinds::nested(rng, n) })?;
+        }
+        session.step(Call::Load { s, r, book: rng.word(), kinds: kinds::nested(rng, n) })?;
+        walk(session, rng, if part == 0 { steps } else { steps / 8 })?;
+        // A second load over the first book, mostly left out.
+        if rng.percent(80) {
+            break;
+        }
+    }
+    Ok(())
+}

@@ -1,0 +1,118 @@
+//! Calls beside the limits: what a load may be given, and refusals 6 and 7.
+
+use crate::call::Call;
+use crate::kinds::{BEGIN, END, TEXT};
+use crate::rng::Rng;
+use crate::session::{Failure, Session, Tally};
+use crate::shape;
+use crate::subject::Subject;
+use reference::{HEADER, NO_TAG, RECORD};
+
+/// Tries a text and an element here and there, from the same words each time, then as many texts as go in.
+fn tries(subject: &dyn Subject, tally: &mut Tally, rng: &mut Rng, start: &[u32], texts: usize) -> Result<(), Failure> {
+    let n = start[4] as usize;
+    for kind in [BEGIN, TEXT] {
+        for place in [NO_TAG, rng.below(n) as u32, n as u32] {
+            Session::new(subject, tally, start.to_vec()).step(Call::Insert { kind, place })?;
+        }
+    }
+    let mut session = Session::new(subject, tally, start.to_vec());
+    for _ in 0..texts {
+        let place = rng.below(n) as u32;
+        session.step(Call::Insert { kind: TEXT, place })?;
+        session.step(Call::Insert { kind: BEGIN, place })?;
+    }
+    Ok(())
+}
+
+/// Sound stores with one to three tags less than a full root, at the greatest height and one below it; and loads at
+/// and beside the size that needs one height too many. Only books of at most so many tags.
+pub fn labels(subject: &dyn Subject, tally: &mut Tally, rng: &mut Rng, most: usize) -> Result<(), Failure> {
+    for s in 2..=16 {
+        for r in 2..=16 {
+            let top = shape::top(s, r);
+            for height in [top, top.saturating_sub(1).max(1)] {
+                let full = shape::leaves(s, r, height).1;
+                for n in (full.saturating_sub(2)..=full).filter(|_| full <= most) {
+                    let labels = shape::labels(rng, s, r, height, n);
+                    let mut start = shape::store(rng, s, r, height, &labels);
+                    start.resize(HEADER + RECORD * (n + 3), 5);
+                    tries(subject, tally, rng, &start, 2)?;
+                }
+            }
+            let least_over = 2 * (r as usize).pow(top);
+            for n in (least_over - 1..=least_over + 1).filter(|_| least_over < most) {
+                let mut session = Session::new(subject, tally, vec![3; HEADER + RECORD * (n + 2)]);
+                session.step(Call::Load { s, r, book: 4, kinds: vec![TEXT; n] })?;
+                session.step(Call::Insert { kind: TEXT, place: 0 })?;
+            }
+        }
+    }
+    Ok(())
+}
+
+/// Document 01's run from specimen K: with s = 16 and r = 2 texts go in one by one until 1,023 tags stand.
+pub fn run_from_k(subject: &dyn Subject, tally: &mut Tally, rng: &mut Rng) -> Result<(), Failure> {
+    let mut session = Session::new(subject, tally, vec![0; HEADER + RECORD * 1030]);
+    session.step(Call::Load { s: 16, r: 2, book: 7, kinds: vec![TEXT; 128] })?;
+    session.step(Call::Load { s: 16, r: 2, book: 7, kinds: vec![TEXT; 127] })?;
+    for n in 127..1030 {
+        if n >= 1022 {
+            session.step(Call::Insert { kind: BEGIN, place: 0 })?;
+        }
+        session.step(Call::Insert { kind: TEXT, place: rng.below(127) as u32 })?;
+    }
+    Ok(())
+}
+
+/// Loads with s, r and kinds at and beside what is allowed.
+pub fn loads(subject: &dyn Subject, tally: &mut Tally) -> Result<(), Failure> {
+    let sides = [0, 1, 2, 16, 17, 18, 256, u32::MAX];
+    for s in sides {
+        for r in sides {
+            Session::new(subject, tally, vec![0; HEADER]).step(Call::Load { s, r, book: 1, kinds: vec![] })?;
+        }
+    }
+    for kind in 0..=u8::MAX {
+        for kinds in [vec![kind], vec![BEGIN, kind], vec![END, kind], vec![BEGIN, kind, END]] {
+            let mut session = Session::new(subject, tally, vec![6; HEADER + RECORD * 5]);
+            session.step(Call::Load { s: 2, r: 2, book: 1, kinds })?;
+            session.step(Call::Load { s: 2, r: 2, book: 1, kinds: vec![BEGIN, END] })?;
+            session.step(Call::Insert { kind, place: 0 })?;
+        }
+    }
+    Ok(())
+}
+
+/// Words for one tag or two too few.
+pub fn words(subject: &dyn Subject, tally: &mut Tally, rng: &mut Rng) -> Result<(), Failure> {
+    for n in 0..6 {
+        for more in 0..=2 * RECORD + 1 {
+            let mut session = Session::new(subject, tally, vec![9; HEADER + RECORD * n + more]);
+            session.step(Call::Load { s: 2, r: 2, book: 4, kinds: vec![TEXT; n + 2] })?;
+            session.step(Call::Load { s: 2, r: 2, book: 4, kinds: vec![TEXT; n] })?;
+            session.step(Call::Insert { kind: BEGIN, place: NO_TAG })?;
+            session.step(Call::Insert { kind: TEXT, place: rng.below(n) as u32 })?;
+            session.step(Call::Insert { kind: TEXT, place: NO_TAG })?;
+        }
+    }
+    Ok(())
+}
+
+/// 200,000 tags and beside.
+pub fn tags(subject: &dyn Subject, tally: &mut Tally, rng: &mut Rng) -> Result<(), Failure> {
+    let most = 200_000;
+    let (s, r) = rng.pick(&[(2, 2), (2, 16), (4, 5), (3, 3)]);
+    let mut session = Session::new(subject, tally, vec![0; HEADER + RECORD * (most + 2)]);
+    for n in [most + 1, most, most - 2] {
+        session.step(Call::Load { s, r, book: 1, kinds: vec![TEXT; n] })?;
+        session.step(Call::Insert { kind: TEXT, place: 0 })?;
+    }
+    session.step(Call::Insert { kind: BEGIN, place: 9 })?;
+    session.step(Call::Insert { kind: TEXT, place: rng.below(most - 1) as u32 })?;
+    session.step(Call::Insert { kind: TEXT, place: NO_TAG })?;
+    session.step(Call::Mark { tag: 77 })?;
+    session.step(Call::List { begin: NO_TAG, tags: most - 2, labels: most })?;
+    session.step(Call::List { begin: NO_TAG, tags: most, labels: most - 1 })?;
+    Ok(())
+}

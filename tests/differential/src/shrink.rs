@@ -1,0 +1,220 @@
+//! Makes a failing case short: plain words to start from, small s and r, fewer calls, fewer kinds.
+
+use crate::call::{Call, Case};
+use crate::kinds::{BEGIN, TEXT};
+use crate::session::replay;
+use crate::subject::{Reference, Subject};
+use reference::{HEADER, NO_TAG, RECORD};
+
+/// Replays of one shrinking, so that a long case cannot take for ever.
+const PATIENCE: usize = 2_000;
+
+/// Renames tags up to the next load, as if `many` tags from `first` on had never been: the tags after them have lower
+/// numbers, and what stood at one of them now stands at the place.
+fn forget(calls: &mut [Call], first: u32, many: u32, place: u32) {
+    let lower = |tag: &mut u32| match *tag {
+        NO_TAG => {}
+        it if it >= first + many => *tag = it - many,
+        it if it >= first => *tag = place,
+        _ => {}
+    };
+    for call in calls.iter_mut().take_while(|call| !matches!(call, Call::Load { .. })) {
+        match call {
+            Call::Insert { place, .. } => lower(place),
+            Call::Mark { tag } | Call::Hold { tag } => lower(tag),
+            Call::List { begin, .. } => lower(begin),
+            Call::Question { tag, d, .. } => {
+                lower(tag);
+                lower(d);
+            }
+            Call::Load { .. } => {}
+        }
+    }
+}
+
+/// The kinds of the call, if it is a load.
+fn kinds_of(case: &Case, index: usize) -> &[u8] {
+    match case.calls.get(index) {
+        Some(Call::Load { kinds, .. }) => kinds,
+        _ => &[],
+    }
+}
+
+/// The smallest trees first.
+const SMALL: [(u32, u32); 5] = [(2, 2), (3, 2), (2, 3), (4, 2), (3, 3)];
+
+struct Shrinker<'a> {
+    subject: &'a dyn Subject,
+    best: Case,
+    what: String,
+    replays: usize,
+}
+
+impl Shrinker<'_> {
+    /// Takes the case over if it still fails, and cuts off what comes after the failure.
+    fn try_case(&mut self, mut case: Case) -> bool {
+        if self.replays >= PATIENCE {
+            return false;
+        }
+        self.replays += 1;
+        match replay(self.subject, &case) {
+            Some((index, what)) => {
+                case.calls.truncate(index + 1);
+                self.best = case;
+                self.what = what;
+                true
+            }
+            None => false,
+        }
+    }
+
+    /// Loads with the smallest s and r that still fail. Tag numbers do not depend on s and r, so the calls after the
+    /// load still say the same, and small trees split soon: most faults then show after a few calls.
+    fn smaller_trees(&mut self) {
+        for (small_s, small_r) in SMALL {
+            let mut case = self.best.clone();
+            for call in &mut case.calls {
+                if let Call::Load { s, r, .. } = call {
+                    (*s, *r) = (small_s, small_r);
+                }
+            }
+            if self.try_case(case) {
+                break;
+            }
+        }
+    }
+
+    /// Leaves out one call. Where it was an accepted insertion, the calls after it are told so.
+    fn without(&self, index: usize) -> Case {
+        let mut case = self.best.clone();
+        let mut words = case.start.clone();
+        let mut reply = [2; 5];
+        for call in &case.calls[..=index] {
+            let (tags, labels) = call.lists();
+            reply = Reference::right().call(call, &mut words, &mut vec![0; tags], &mut vec![0; labels]);
+        }
+        if let (Call::Insert { kind, place }, 0) = (case.calls.remove(index), reply[0]) {
+            forget(&mut case.calls[index..], reply[1], if kind == BEGIN { 2 } else { 1 }, place);
+        }
+        case
+    }
+
+    /// Leaves out single calls as long as that helps.
+    fn single_calls(&mut self) {
+        let mut index = 0;
+        while index < self.best.calls.len() {
+            let case = self.without(index);
+            if !self.try_case(case) {
+                index += 1;
+            }
+        }
+    }
+
+    /// Texts instead of elements, and the first tag or the front instead of other places.
+    fn plainer_insertions(&mut self) {
+        for index in 0..self.best.calls.len() {
+            for (plain, plain_place) in [(TEXT, None), (TEXT, Some(0)), (TEXT, Some(NO_TAG))] {
+                let mut case = self.best.clone();
+                if let Some(Call::Insert { kind, place }) = case.calls.get_mut(index) {
+                    let new_place = plain_place.unwrap_or(*place);
+                    if (*kind, *place) != (plain, new_place) {
+                        (*kind, *place) = (plain, new_place);
+                        self.try_case(case);
+                    }
+                }
+            }
+        }
+    }
+
+    /// Leaves out calls, in runs that get shorter.
+    fn fewer_calls(&mut self) {
+        let mut run = self.best.calls.len().div_ceil(2);
+        while run > 0 {
+            let mut from = 0;
+            while from < self.best.calls.len() {
+                let mut case = self.best.clone();
+                case.calls.drain(from..(from + run).min(case.calls.len()));
+                if !self.try_case(case) {
+                    from += run;
+                }
+            }
+            run /= 2;
+        }
+    }
+
+    /// Leaves out kinds of the loads, in runs that get shorter. Long runs matter: a tree of r^j leaves often fails
+    /// where one of a few leaves less does not. A run that breaks the nesting fails to load, and so is not taken.
+    fn fewer_kinds(&mut self) {
+        for index in 0..self.best.calls.len() {
+            let mut run = kinds_of(&self.best, index).len().div_ceil(2);
+            while run > 0 {
+                let mut end = kinds_of(&self.best, index).len();
+                while end >= run && run <= kinds_of(&self.best, index).len() {
+                    let case = self.without_kinds(index, end - run, run);
+                    self.try_case(case);
+                    // Runs of two may be an element anywhere, so they are tried at every place.
+                    end -= if run == 2 { 1 } else { run };
+                }
+                run /= 2;
+            }
+        }
+    }
+
+    fn without_kinds(&self, index: usize, at: usize, many: usize) -> Case {
+        let mut case = self.best.clone();
+        if let Some(Call::Load { kinds, .. }) = case.calls.get_mut(index) {
+            let len = kinds.len();
+            kinds.drain(at.min(len)..(at + many).min(len));
+        }
+        let place = at.checked_sub(1).map_or(NO_TAG, |before| before as u32);
+        forget(&mut case.calls[index + 1..], at as u32, many as u32, place);
+        case
+    }
+
+    /// Texts for all kinds, and the book number of the papers, where the failure does not need the others.
+    fn plainer_loads(&mut self) {
+        let mut case = self.best.clone();
+        for call in &mut case.calls {
+            if let Call::Load { book, .. } = call {
+                *book = 7;
+            }
+        }
+        self.try_case(case.clone());
+        for call in &mut case.calls {
+            if let Call::Load { kinds, .. } = call {
+                kinds.fill(TEXT);
+            }
+        }
+        self.try_case(case);
+    }
+
+    /// Starts from the words of the book program where the failure allows it.
+    fn plainer_start(&mut self) {
+        let program = vec![0; HEADER + RECORD * 2_000];
+        if !self.try_case(Case { start: program, ..self.best.clone() }) {
+            let zeros = vec![0; self.best.start.len()];
+            self.try_case(Case { start: zeros, ..self.best.clone() });
+        }
+    }
+}
+
+/// A short case that fails too, and what is wrong there.
+pub fn shrink(subject: &dyn Subject, case: Case, what: String) -> (Case, String) {
+    let mut it = Shrinker { subject, best: case.clone(), what, replays: 0 };
+    it.try_case(case);
+    it.plainer_start();
+    loop {
+        let before = it.best.clone();
+        it.smaller_trees();
+        it.plainer_loads();
+        it.fewer_calls();
+        it.single_calls();
+        it.fewer_kinds();
+        it.plainer_insertions();
+        // What one pass made plainer, another may now make shorter.
+        if it.best == before || it.replays >= PATIENCE {
+            break;
+        }
+    }
+    (it.best, it.what)
+}

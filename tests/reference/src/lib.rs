@@ -1,0 +1,26 @@
+//! A second implementation of the label store, written from document 01 and document 003 alone.
+//!
+//! It keeps an explicit tree of nodes with children, where the verified store keeps words only. The two share no code
+//! and no idea of how to do it, so that agreeing word for word means something. Speed is no aim: every call of
+//! [`Store`] reads the whole store out of its words and writes it back.
+
+mod book;
+mod fault;
+mod load;
+mod params;
+mod reply;
+mod sound;
+mod store;
+mod tag;
+mod tree;
+mod words;
+
+pub use book::Book;
+pub use fault::Fault;
+pub use params::{Params, LABELS, MAX_TAGS};
+pub use reply::{Answer, Held, Inserted, Loaded, Refusal};
+pub use sound::read;
+pub use store::Store;
+pub use tag::{Kind, Tag};
+pub use tree::{Inner, Node, Tree};
+pub use words::{to_words, words_for, HEADER, NO_TAG, RECORD};

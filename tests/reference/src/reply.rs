@@ -1,0 +1,45 @@
+//! What the calls reply.
+
+/// The refusals by their numbers in document 01.
+#[derive(Clone, Copy, PartialEq, Eq, Debug)]
+pub enum Refusal {
+    FewWords = 1,
+    NotSound = 2,
+    Parameters = 3,
+    Kind = 4,
+    Nesting = 5,
+    TooMany = 6,
+    Labels = 7,
+    NoSuchTag = 8,
+    Marked = 9,
+    WrongTag = 10,
+    ShortList = 11,
+}
+
+#[derive(Clone, Copy, PartialEq, Eq, Debug)]
+pub struct Loaded {
+    pub tags: u32,
+    pub height: u32,
+}
+
+#[derive(Clone, Copy, PartialEq, Eq, Debug)]
+pub struct Inserted {
+    pub first: u32,
+    pub moved: u32,
+    pub split: u32,
+}
+
+#[derive(Clone, Copy, PartialEq, Eq, Debug)]
+pub struct Held {
+    pub book: u32,
+    pub tag: u32,
+    pub start: u32,
+    pub end: u32,
+}
+
+#[derive(Clone, Copy, PartialEq, Eq, Debug)]
+pub enum Answer {
+    No,
+    Yes,
+    Stale,
+}

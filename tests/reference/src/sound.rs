@@ -1,0 +1,145 @@
+//! From arbitrary words to a book, where they say a sound store.
+
+use crate::book::Book;
+use crate::fault::Fault;
+use crate::params::{Params, MAX_TAGS};
+use crate::tag::{Kind, Tag};
+use crate::tree::{Inner, Node, Tree};
+use crate::words::{words_for, HEADER, NO_TAG, RECORD};
+
+/// The book that the words say, or None where they are not sound. The words may have any length and content.
+pub fn read(words: &[u32], fault: Fault) -> Option<Book> {
+    if words.len() < HEADER || words[0] != 1 {
+        return None;
+    }
+    let params = Params::new(words[1], words[2], fault)?;
+    let height = words[3];
+    if height < 1 || !params.labels_fit(height) {
+        return None;
+    }
+    if u64::from(words[4]) > MAX_TAGS || words.len() < words_for(words[4] as usize) {
+        return None;
+    }
+    let n = words[4] as usize;
+    let records: Vec<&[u32]> = words[HEADER..words_for(n)].chunks(RECORD).collect();
+
+    let order = chain(words[5], &records)?;
+    let tags: Vec<Tag> = records.iter().map(|record| tag(record)).collect::<Option<_>>()?;
+    let root = spell(&order, &tags, &params, height)?;
+    if !root_in_limits(&root, &params, height) || !nested(&order, &tags) || !marks_closed(&tags) {
+        return None;
+    }
+    let marked = tags.iter().filter(|tag| tag.marked).count();
+    let stamp = u64::from(words[7]);
+    if stamp > (n + marked) as u64 {
+        return None;
+    }
+    Some(Book { tree: Tree { params, height, root }, tags, number: words[6], stamp, fault })
+}
+
+/// The tag of a record. Mate and up may still point anywhere; `nested` compares them with the nesting.
+fn tag(record: &[u32]) -> Option<Tag> {
+    let (kind, marked) = Tag::of_kind_word(record[5])?;
+    let up = if record[4] == NO_TAG { None } else { Some(record[4] as usize) };
+    Some(Tag { kind, marked, mate: record[3] as usize, up, label: u64::from(record[0]) })
+}
+
+/// The numbers along next, where that meets each of them once, ends in no tag, and prior is its reverse.
+fn chain(first: u32, records: &[&[u32]]) -> Option<Vec<usize>> {
+    let mut order = Vec::with_capacity(records.len());
+    let mut seen = vec![false; records.len()];
+    let (mut prior, mut here) = (NO_TAG, first);
+    while here != NO_TAG {
+        let x = here as usize;
+        if x >= records.len() || seen[x] || records[x][2] != prior {
+            return None;
+        }
+        seen[x] = true;
+        order.push(x);
+        (prior, here) = (here, records[x][1]);
+    }
+    (order.len() == records.len()).then_some(order)
+}
+
+/// The tree that the digits of the labels spell.
+fn spell(order: &[usize], tags: &[Tag], params: &Params, height: u32) -> Option<Inner> {
+    let rises = order.windows(2).all(|two| tags[two[0]].label < tags[two[1]].label);
+    let below = order.iter().all(|&x| tags[x].label < params.step(height));
+    if !rises || !below {
+        return None;
+    }
+    let leaves: Vec<(usize, u64)> = order.iter().map(|&x| (x, tags[x].label)).collect();
+    children(&leaves, params, height)
+}
+
+/// The node of this height over leaves with their numbers relative to the node's own. Children must stand at 0, 1, 2
+/// without gaps. Since the labels rise, the leaves of one child stand together, and a child of height 0 is one leaf.
+fn children(leaves: &[(usize, u64)], params: &Params, height: u32) -> Option<Inner> {
+    let step = params.step(height - 1);
+    let mut nodes = Vec::new();
+    let mut rest = leaves;
+    while let Some((tag, number)) = rest.first() {
+        let digit = number / step;
+        if digit != nodes.len() as u64 {
+            return None;
+        }
+        let many = rest.iter().take_while(|(_, number)| number / step == digit).count();
+        let (mine, others) = rest.split_at(many);
+        nodes.push(if height == 1 {
+            Node::Leaf(*tag)
+        } else {
+            let inner: Vec<(usize, u64)> = mine.iter().map(|(tag, number)| (*tag, number % step)).collect();
+            Node::Inner(children(&inner, params, height - 1)?)
+        });
+        rest = others;
+    }
+    Some(Inner::over(nodes))
+}
+
+fn root_in_limits(root: &Inner, params: &Params, height: u32) -> bool {
+    let enough = height < 2 || root.l >= 2 * params.least(height - 1);
+    enough && root.l < params.limit(height) && below_in_limits(root, params, height)
+}
+
+/// Whether r^j ≤ l < s·r^j for every node below this one.
+fn below_in_limits(node: &Inner, params: &Params, height: u32) -> bool {
+    let j = height - 1;
+    node.children.iter().all(|child| match child {
+        Node::Leaf(_) => true,
+        Node::Inner(inner) => {
+            params.least(j) <= inner.l && inner.l < params.limit(j) && below_in_limits(inner, params, j)
+        }
+    })
+}
+
+/// Whether kinds, mates and ups spell proper nesting along the book.
+fn nested(order: &[usize], tags: &[Tag]) -> bool {
+    let mut open: Vec<usize> = Vec::new();
+    for &x in order {
+        let tag = &tags[x];
+        match tag.kind {
+            Kind::Text if tag.mate != x => return false,
+            Kind::End => match open.pop() {
+                Some(begin) if tag.mate == begin && tags[begin].mate == x => {}
+                _ => return false,
+            },
+            _ => {}
+        }
+        // An end has the up of its begin, which is what is open once the begin is closed.
+        if tag.up != open.last().copied() {
+            return false;
+        }
+        if tag.kind == Kind::Begin {
+            open.push(x);
+        }
+    }
+    open.is_empty()
+}
+
+/// Whether what stands under a marked begin is marked, and mates are marked together. Only asked of nested tags.
+fn marks_closed(tags: &[Tag]) -> bool {
+    tags.iter().all(|tag| {
+        let under_marked = tag.up.is_some_and(|up| tags[up].marked);
+        (!under_marked || tag.marked) && tag.marked == tags[tag.mate].marked
+    })
+}
