@@ -1,0 +1,9 @@
+pub mod Specimens
+pub mod Scans
+pub mod Splits
+pub mod LetterKinds
+pub mod Words
+pub mod Loads
+pub mod Parses
+pub mod Digits
+pub mod Writes

@@ -1,0 +1,126 @@
+-- One turn of each loop over a line: what is left to find from a place on equals the whole. Assumes nothing.
+use mathlib.Core.Path.{_≡_, refl, ap, sym, _∙_}
+use mathlib.Core.Bool.{Bool, true, false, _&&_, cond, and-false}
+use mathlib.Core.List.{List, [], _∷_}
+use mathlib.Core.Option.{Option, none, some}
+use Prim.Native.Nat.{ℕ, zero, suc, _+_, _*_, _-_, _≤_, _<_}
+use native.Mathlib.Nat.{add-zero}
+use native.Mathlib.Numerals.{add-one}
+use native.Mathlib.Omega.{arith}
+use borrow.Author.Tests.{eq-eqb, ne-eqb, lt-ltb, le-ltb, le-leb, lt-leb, ltb-true, ltb-false}
+use lib.Dec.{ltb, leb, eqb}
+use lib.ListN.{length, getD, drop, drop-of-length-le}
+use lib.Seq.{drop-cons}
+use Rattle.store_types.specs.Limits.{word-limit}
+use Rattle.tree.specs.Specimens.{same}
+use Rattle.console.specs.Line.{is-digit, all-digits, value-from, well-begun, number-of}
+use Rattle.console.specs.Scan.{first-space, scanned}
+
+-- SPACES
+pub space-here : (cs : List ℕ) (i : ℕ) → i < length cs → getD cs i 0 ≡ 32 → first-space (drop i cs) ≡ 0
+unfolding first-space
+space-here cs i l e = rw (drop-cons cs i 0 l, eq-eqb (getD cs i 0) 32 e)
+
+pub space-later : (cs : List ℕ) (i : ℕ) → i < length cs → (getD cs i 0 ≡ 32 → ⊥) → first-space (drop i cs) ≡ suc (first-space (drop (i + 1) cs))
+unfolding first-space
+space-later cs i l n = rw (add-one i, drop-cons cs i 0 l, ne-eqb (getD cs i 0) 32 n)
+
+pub space-none : (cs : List ℕ) (i : ℕ) → length cs ≤ i → first-space (drop i cs) ≡ 0
+unfolding first-space
+space-none cs i l = rw (drop-of-length-le cs l)
+
+-- EQUAL BYTES
+pub same-turn : (xs ys : List ℕ) (i : ℕ) → i < length xs → i < length ys → getD xs i 0 ≡ getD ys i 0 → same (drop i xs) (drop i ys) ≡ same (drop (i + 1) xs) (drop (i + 1) ys)
+unfolding same
+same-turn xs ys i l m e = rw (add-one i, drop-cons xs i 0 l, drop-cons ys i 0 m, eq-eqb _ _ e)
+
+pub same-not : (xs ys : List ℕ) (i : ℕ) → i < length xs → i < length ys → (getD xs i 0 ≡ getD ys i 0 → ⊥) → same (drop i xs) (drop i ys) ≡ false
+unfolding same
+same-not xs ys i l m n = rw (drop-cons xs i 0 l, drop-cons ys i 0 m, ne-eqb _ _ n)
+
+pub same-end : (xs ys : List ℕ) (i : ℕ) → length xs ≤ i → length ys ≤ i → same (drop i xs) (drop i ys) ≡ true
+unfolding same
+same-end xs ys i l m = rw (drop-of-length-le xs l, drop-of-length-le ys m)
+
+pub same-length : (xs ys : List ℕ) → (length xs ≡ length ys → ⊥) → same xs ys ≡ false
+unfolding same
+same-length [] [] n = absurd (n refl)
+same-length [] (y ∷ ys) n = refl
+same-length (x ∷ xs) [] n = refl
+same-length (x ∷ xs) (y ∷ ys) n = rw (same-length xs ys (λ e. n (ap suc e))) (and-false (eqb x y))
+
+-- DIGITS
+pub scan-turn : (v : ℕ) (cs : List ℕ) (i : ℕ) → i < length cs → 48 ≤ getD cs i 0 → getD cs i 0 ≤ 57 → v * 10 + (getD cs i 0 - 48) < word-limit →
+    scanned v (drop i cs) ≡ scanned (v * 10 + (getD cs i 0 - 48)) (drop (i + 1) cs)
+unfolding scanned is-digit
+scan-turn v cs i l low high fits = rw (add-one i, drop-cons cs i 0 l, le-leb 48 _ low, le-leb _ 57 high, lt-ltb _ _ fits)
+
+pub scan-low : (v : ℕ) (cs : List ℕ) (i : ℕ) → i < length cs → getD cs i 0 < 48 → scanned v (drop i cs) ≡ none
+unfolding scanned is-digit
+scan-low v cs i l low = rw (drop-cons cs i 0 l, lt-leb 48 _ low)
+
+pub scan-high : (v : ℕ) (cs : List ℕ) (i : ℕ) → i < length cs → 48 ≤ getD cs i 0 → 57 < getD cs i 0 → scanned v (drop i cs) ≡ none
+unfolding scanned is-digit
+scan-high v cs i l low high = rw (drop-cons cs i 0 l, le-leb 48 _ low, lt-leb _ 57 high)
+
+pub scan-over : (v : ℕ) (cs : List ℕ) (i : ℕ) → i < length cs → 48 ≤ getD cs i 0 → getD cs i 0 ≤ 57 → word-limit ≤ v * 10 + (getD cs i 0 - 48) → scanned v (drop i cs) ≡ none
+unfolding scanned is-digit
+scan-over v cs i l low high over = rw (drop-cons cs i 0 l, le-leb 48 _ low, le-leb _ 57 high, le-ltb _ _ over)
+
+pub scan-end : (v : ℕ) (cs : List ℕ) (i : ℕ) → length cs ≤ i → scanned v (drop i cs) ≡ some v
+unfolding scanned
+scan-end v cs i l = rw (drop-of-length-le cs l)
+
+-- a value never falls with more digits
+value-grows : (v : ℕ) (cs : List ℕ) → v ≤ value-from v cs
+unfolding value-from
+value-grows v [] = omega arith
+value-grows v (c ∷ cs) = omega (arith, value-grows (v * 10 + (c - 48)) cs)
+
+-- what is scanned is the value of digits that fits a word
+pub scan-value : (v : ℕ) (cs : List ℕ) → v < word-limit → scanned v cs ≡ cond (all-digits cs && ltb (value-from v cs) word-limit) (some (value-from v cs)) none
+unfolding scanned all-digits value-from
+scan-value v [] fits = rw (lt-ltb v word-limit fits)
+scan-value v (c ∷ cs) fits = go (is-digit c) refl (ltb (v * 10 + (c - 48)) word-limit) refl (λ l. scan-value (v * 10 + (c - 48)) cs l)
+  where
+    next : ℕ
+    next = v * 10 + (c - 48)
+
+    go : (t : Bool) → is-digit c ≡ t → (u : Bool) → ltb next word-limit ≡ u →
+        (next < word-limit → scanned next cs ≡ cond (all-digits cs && ltb (value-from next cs) word-limit) (some (value-from next cs)) none) →
+        cond (is-digit c) (cond (ltb next word-limit) (scanned next cs) none) none ≡ cond ((is-digit c && all-digits cs) && ltb (value-from next cs) word-limit) (some (value-from next cs)) none
+    go false e u q rest = rw e
+    go true e true q rest = rw (e, q) (rest (ltb-true next word-limit q))
+    go true e false q rest = rw (e, q, le-ltb (value-from next cs) word-limit (omega (arith, value-grows next cs, ltb-false next word-limit q)), and-false (all-digits cs))
+
+-- NUMBERS by how they begin
+begun : (cs : List ℕ) → well-begun cs ≡ true → number-of cs ≡ scanned 0 cs
+unfolding number-of
+begun cs e = rw e (sym (scan-value 0 cs (omega arith)))
+
+not-begun : (cs : List ℕ) → well-begun cs ≡ false → number-of cs ≡ none
+unfolding number-of
+not-begun cs e = rw e
+
+pub number-empty : (cs : List ℕ) → length cs ≡ 0 → number-of cs ≡ none
+unfolding well-begun
+number-empty [] e = not-begun [] refl
+number-empty (c ∷ cs) e = absurd (omega arith)
+
+pub number-single : (cs : List ℕ) → length cs ≡ 1 → number-of cs ≡ scanned 0 cs
+unfolding well-begun
+number-single [] e = absurd (omega arith)
+number-single (c ∷ []) e = begun (c ∷ []) refl
+number-single (c ∷ d ∷ cs) e = absurd (omega arith)
+
+pub number-led : (cs : List ℕ) → 2 ≤ length cs → getD cs 0 0 ≡ 48 → number-of cs ≡ none
+unfolding well-begun
+number-led [] l e = absurd (omega arith)
+number-led (c ∷ []) l e = absurd (omega arith)
+number-led (c ∷ d ∷ cs) l e = not-begun (c ∷ d ∷ cs) (rw (eq-eqb c 48 e))
+
+pub number-long : (cs : List ℕ) → 2 ≤ length cs → (getD cs 0 0 ≡ 48 → ⊥) → number-of cs ≡ scanned 0 cs
+unfolding well-begun
+number-long [] l n = absurd (omega arith)
+number-long (c ∷ []) l n = absurd (omega arith)
+number-long (c ∷ d ∷ cs) l n = begun (c ∷ d ∷ cs) (rw (ne-eqb c 48 n))

@@ -1,0 +1,37 @@
+// Fields of a line: where one ends, and whether it is a given word.
+ghost use mathlib.Core.Path.{_≡_};
+ghost use Prim.Native.Nat.{_+_, _≤_};
+ghost use lib.ListN.{length, drop};
+ghost use Rattle.tree.specs.Specimens.{same};
+ghost use Rattle.console.specs.Scan.{first-space};
+
+// The end of the field that begins at `from`: the next space, or the line's end.
+pub fn field_end(line: &[u8], from: usize) -> usize
+    requires { ⌜ from ≤ length (now line) ⌝ }
+    ensures { λ e. ⌜ e ≡ from + first-space (drop from (now (line .entry))) ⌝ }
+{
+    let mut i = from;
+    while i < line.len() {
+        if line[i] == 32 {
+            return i;
+        }
+        i += 1;
+    }
+    i
+}
+
+pub fn same_bytes(a: &[u8], b: &[u8]) -> bool
+    ensures { λ t. ⌜ t ≡ same (now (a .entry)) (now (b .entry)) ⌝ }
+{
+    if a.len() != b.len() {
+        return false;
+    }
+    let mut i: usize = 0;
+    while i < a.len() {
+        if a[i] != b[i] {
+            return false;
+        }
+        i += 1;
+    }
+    true
+}
