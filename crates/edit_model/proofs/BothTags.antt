@@ -35,7 +35,7 @@ use Rattle.edit_model.proofs.Added.{with-tag}
 use Rattle.edit_model.proofs.Applied.{spread-labels}
 use Rattle.edit_model.proofs.Plans.{place-tag, sound-said, image-said, widths-right}
 use Rattle.edit_model.proofs.Single.{raised-image, grown, book-with, plan-at, added-at}
-use Rattle.edit_model.proofs.Renumbered.{Right, renumbered-words, renumbered-moved}
+use Rattle.edit_model.proofs.Renumbered.{Right, Row-in, row-in, renumbered-words, renumbered-moved}
 use Rattle.edit_model.proofs.TwoTags.{with-two, proper-two, count-two, two-labels, two-before, added-two, distinct-two, apart-two, book-with-two, in-book, size-second, second-tags, label-below, not-tag, alike-two}
 use Rattle.edit_model.proofs.PlanTwo.{compared, two-most, two-full, Pieces-in, Planned-split, planned-two}
 
@@ -171,6 +171,12 @@ module _ (ws : List ℕ) (st : Store) (says : Says ws st) (p : ℕ) (fits : p �
 
   few-both : length (both .facts) ≤ most-tags
   few-both = omega (arith, count-both)
+
+  -- the row that is numbered
+  pub both-row : Row-in (added (added-at ws st p t) (suc (count st)) (count st) (u .mate) (u .up) (kind-word (u .kind) (u .marked))) (suc (suc (count st))) q
+  both-row =
+      row-in q (record { image = both; rest = drop (words-for (suc (suc (count st)))) ws; words-are = added-both; proper = proper-both; counted = count-both })
+      (widths-of ws) (width st) (k .r) (d .before) (insert-at (d .offset) (no-tag ∷ no-tag ∷ []) old) new (d .beside) (d .after) ((k .s - 1) * width st (suc h)) right
 
   -- BOTH TAGS: the words
   numbered-words : (rest : List ℕ) → applied (image-words both ++ rest) (widths-of ws) (k .r) (suc (suc (count st))) q .words ≡ image-words (with-labels (labels-of (width st) (book-with-two p st)) both) ++ rest

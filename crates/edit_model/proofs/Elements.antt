@@ -16,19 +16,20 @@ use Rattle.calls.specs.Store.{Store, Fact, count, width}
 use Rattle.calls.specs.Nesting.{closing, new-facts}
 use Rattle.calls.specs.Load.{words-for}
 use Rattle.calls.specs.Insert.{insert-kinds, position, up-at, book-after, insert-store, insert-moved, insert-split, insert-refusal}
-use Rattle.calls.specs.Words.{words-of, Says, in-front}
+use Rattle.calls.specs.Words.{words-of, Says, word-at, in-front}
 use Rattle.calls_laws.proofs.Tests.{Sound, sane}
 use Rattle.calls_laws.proofs.Fields.{length-words, header-says}
 use Rattle.calls_laws.proofs.Inserts.{labels-kept, Row-accepted}
 use Rattle.calls_laws.proofs.WordSteps.{header-said}
-use Rattle.edit_model.specs.Insert.{plan-of, put-words, both-edit, end-edit, in-turn-edit, element-edit, stamped}
+use Rattle.edit_model.specs.Insert.{up-word, added, plan-of, put-words, both-edit, end-edit, in-turn-edit, element-edit, stamped}
 use Rattle.edit_model.proofs.Added.{one-more}
 use Rattle.edit_model.proofs.Plans.{place-tag, sound-said}
 use Rattle.edit_model.proofs.Single.{grown, book-with}
 use Rattle.edit_model.proofs.Inserted.{stamped-store, stamped-words, place-said, up-said, position-said, labels-said, Edit-right, begin-fact, element-accepted, begin-words, begin-moved, begin-split}
+use Rattle.edit_model.proofs.Renumbered.{Row-in}
 use Rattle.edit_model.proofs.PlanTwo.{one-height, compared}
 use Rattle.edit_model.proofs.TwoTags.{book-with-two, in-book}
-use Rattle.edit_model.proofs.BothTags.{put-two, second-splits, both-words, both-moved}
+use Rattle.edit_model.proofs.BothTags.{put-two, second-splits, both-row, both-words, both-moved}
 use Rattle.edit_model.proofs.InTurn.{turn-moved, turn-words}
 
 -- THE END OF AN ELEMENT
@@ -117,6 +118,17 @@ module _ (ws : List ℕ) (st : Store) (says : Says ws st) (y : ℕ) (accepted : 
         moved-is = moved-right _ (both-moved ws st says p fits h top-said lower-said t u few room labels-fit-both);
         split-is = split-right _ (omega (arith, top-said, splits-first, second-splits ws st says p fits h top-said lower-said t u few room labels-fit-both));
       })
+
+  -- the row that is numbered then
+  pub element-row : (h : ℕ) → plan-of ws 2 y .height ≡ suc h → plan-of ws 1 y .height < suc h →
+      Row-in (added (added ws (word-at ws 4) y (suc (word-at ws 4)) (up-word ws y) 1) (suc (word-at ws 4)) (word-at ws 4) (word-at ws 4) (up-word ws y) 2) (suc (suc (word-at ws 4))) (plan-of ws 2 y)
+  unfolding kind-word code
+  element-row h top lower =
+      let head = header-said ws st says in
+      let top-said : plan-of ws 2 (place-tag st p) .height ≡ suc h = rw place-is top in
+      let lower-said : plan-of ws 1 (place-tag st p) .height < suc h = rw place-is lower in
+      rw (head .issued, up-said ws st says begin (end ∷ []) y a)
+      (rw place-is at (both-row ws st says p fits h top-said lower-said (begin-fact st y) (end-fact st y) few room labels-fit-both))
 
   -- IN TURN
   turn-said : split-of (suc p) (book-with p st) ≡ 0 → in-turn-edit y ws .words ≡ words-of after ++ drop (words-for (suc (suc (count st)))) ws

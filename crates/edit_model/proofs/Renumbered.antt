@@ -51,6 +51,30 @@ pub record Right (v : Image) (table : List ℕ) (w : ℕ → ℕ) (r : ℕ) (q :
   pub low : (i : ℕ) → i < length beside → getD beside i 0 < q .bound
   pub stop : 1 ≤ length after → q .bound ≤ getD after 0 0
 
+-- WORDS OF n TAGS that stand in a row, and in it those that a plan numbers
+pub record Words-in (us : List ℕ) (n : ℕ) : Type 0 where
+  pub image : Image
+  pub rest : List ℕ
+  pub words-are : us ≡ image-words image ++ rest
+  pub proper : Proper image
+  pub counted : length (image .facts) ≡ n
+
+pub record Row-in (us : List ℕ) (n : ℕ) (q : Plan) : Type 0 where
+  pub words-in : Words-in us n
+  pub from : ℕ
+  pub left-is : q .left ≡ tag-before (words-in .image) from
+  pub fits : from + q .count ≤ length (words-in .image .tags)
+
+pub row-in : {us : List ℕ} {n : ℕ} (q : Plan) (g : Words-in us n) (table : List ℕ) (w : ℕ → ℕ) (r : ℕ) (before old new beside after : List ℕ) (a : ℕ) →
+    Right (g .image) table w r q before old new beside after a → Row-in us n q
+row-in q g table w r before old new beside after a e =
+    record {
+      words-in = g;
+      from = length before;
+      left-is = e .left;
+      fits = omega (arith, e .count, simp length-append at (ap length (e .was)), g .proper .labelled);
+    }
+
 module _ {v : Image} (h : Proper v) (few : length (v .facts) ≤ most-tags) (table : List ℕ) (w : ℕ → ℕ) (r : ℕ) (q : Plan) (before old new beside after : List ℕ) (a : ℕ)
     (e : Right v table w r q before old new beside after a) (ls : List ℕ) (now : ls ≡ before ++ (new ++ (map (λ l. l + a) beside ++ after)))
     (small : (i : ℕ) → i < length ls → getD ls i 0 < no-tag) where

@@ -33,7 +33,7 @@ use Rattle.edit_model.proofs.Moves.{moved-and-new}
 use Rattle.edit_model.proofs.Added.{with-tag, one-more, new-tag, distinct-one, apart-one, added-image, proper-with-tag, with-levels, levels-set}
 use Rattle.edit_model.proofs.Applied.{spread-labels}
 use Rattle.edit_model.proofs.Widest.{labels-below}
-use Rattle.edit_model.proofs.Renumbered.{Right, renumbered-words, renumbered-moved}
+use Rattle.edit_model.proofs.Renumbered.{Right, Words-in, Row-in, row-in, renumbered-words, renumbered-moved}
 use Rattle.edit_model.proofs.Plans.{place-tag, Flat-in, Planned, sound-said, image-said, widths-right, planned}
 
 -- WHAT IS NUMBERED ANEW: its labels are those of complete trees over any row of as many tags; the new tag is among the
@@ -196,6 +196,12 @@ module _ (ws : List ℕ) (st : Store) (says : Says ws st) (p : ℕ) (fits : p �
   counted-tags : length (image-with p t st .facts) ≡ suc (count st)
   unfolding with-tag image-of
   counted-tags = one-more (st .facts) t
+
+  -- the row that is numbered
+  pub single-row : Row-in (added-at ws st p t) (suc (count st)) (plan-at ws st p)
+  single-row =
+      let g : Words-in (added-at ws st p t) (suc (count st)) = record { image = image-with p t st; rest = drop (words-for (suc (count st))) ws; words-are = added-said; proper = proper-added; counted = counted-tags } in
+      row-in (plan-at ws st p) g (widths-of ws) (width st) (st .book .r) (d .before) old-with-new (d .new) (d .beside) (d .after) (d .shift) right
 
   -- the words and how many labels are others, with anything behind
   numbered-words : (rest : List ℕ) → applied (image-words (image-with p t st) ++ rest) (widths-of ws) (st .book .r) (suc (count st)) (plan-at ws st p) .words

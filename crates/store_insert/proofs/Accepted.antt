@@ -1,0 +1,190 @@
+-- An accepted insertion: its place, the tables and its plans are as the code asks, and so are the words with the new tags.
+-- Assumes nothing.
+use mathlib.Core.Path.{_≡_, sym, _∙_}
+use mathlib.Core.Bool.{false}
+use mathlib.Core.List.{List, _∷_}
+use mathlib.Core.Logic.{_⊎_, inl, inr}
+use Prim.Native.Nat.{ℕ, suc, pred, _*_, _-_, _^_, _≤_, _<_}
+use native.Mathlib.Nat.{one-mul, one-le-pow}
+use native.Mathlib.Omega.{arith}
+use borrow.Author.Tests.{ne-eqb, eqb-true}
+use lib.Dec.{eqb}
+use lib.ListN.{length, getD}
+use Rattle.store_types.specs.Limits.{no-tag, label-limit, most-tags}
+use Rattle.tree.specs.Book.{height}
+use Rattle.tree_laws.proofs.Rows.{by-test}
+use Rattle.calls.specs.Kind.{Kind, kind-word}
+use Rattle.calls.specs.Store.{Fact, fact, count, row}
+use Rattle.calls.specs.Load.{words-for}
+use Rattle.calls.specs.Insert.{insert-kinds, position, insert-refusal}
+use Rattle.calls.specs.Words.{Says, word-at}
+use Rattle.calls.specs.Replies.{said, insert-refused}
+use Rattle.calls_laws.proofs.Inserts.{Row-accepted, accepted-row}
+use Rattle.calls_laws.proofs.Steps.{insert-passed}
+use Rattle.calls_laws.proofs.WordSteps.{header-said}
+use Rattle.walk_model.specs.Levels.{entry}
+use Rattle.walk_model.specs.Walk.{table}
+use Rattle.walk.proofs.TableLaws.{table-at, table-bound}
+use Rattle.edit_model.specs.Image.{image-of}
+use Rattle.edit_model.specs.Insert.{behind, added, widths-of, highs-of, plan-of}
+use Rattle.edit_model.proofs.Image.{proper-image}
+use Rattle.edit_model.proofs.Plans.{sound-said, image-said, behind-said}
+use Rattle.edit_model.proofs.Single.{single-row}
+use Rattle.edit_model.proofs.Renumbered.{Words-in, Row-in}
+use Rattle.edit_model.proofs.Inserted.{place-said, position-said, few-said, room-said, labels-said}
+use Rattle.renumber.proofs.Rows.{cut-small}
+use Rattle.store_read.proofs.Laws.{accepted-says, accepted-store}
+use Rattle.store_insert.specs.Parts.{lows-of}
+use Rattle.store_insert.specs.Needs.{Tag-or-none, Place-there, Tag-fits, Plan-reads, Applicable}
+use Rattle.store_insert.proofs.Headers.{Ranges, ranges}
+use Rattle.store_insert.proofs.Plans.{Plan-fits, plan-fits}
+use Rattle.store_insert.proofs.Rows.{records-in, place-or-none, behind-or-none, left-or-none, row-there}
+
+-- WORDS THAT SAY A STORE: the place is one of its tags or the front
+module _ (ws : List ℕ) (says : Says ws (said ws)) where
+  here : Ranges (word-at ws 1) (word-at ws 2) (word-at ws 3) (word-at ws 4)
+  here = ranges ws says
+
+  -- THE TABLES
+  pub widths-at : (h : ℕ) → h ≤ word-at ws 3 → entry (widths-of ws) h ≡ (word-at ws 1 * word-at ws 2 - 1) ^ h
+  unfolding widths-of
+  widths-at h l = table-at 1 _ (word-at ws 3) h l ∙ one-mul ((word-at ws 1 * word-at ws 2 - 1) ^ h)
+
+  pub widths-most : (h : ℕ) → entry (widths-of ws) h ≤ label-limit
+  unfolding widths-of
+  widths-most h =
+      omega (arith, table-bound 1 (word-at ws 1 * word-at ws 2 - 1) (word-at ws 3) (omega (arith, here .product)) h, one-mul ((word-at ws 1 * word-at ws 2 - 1) ^ word-at ws 3), here .power)
+
+  pub widths-least : (h : ℕ) → h ≤ word-at ws 3 → 1 ≤ entry (widths-of ws) h
+  widths-least h l = rw (widths-at h l) (one-le-pow h _ (omega (arith, here .product)))
+
+  pub highs-at : (h : ℕ) → h ≤ word-at ws 3 → entry (highs-of ws) h ≡ word-at ws 1 * word-at ws 2 ^ h
+  unfolding highs-of
+  highs-at h l = table-at _ _ (word-at ws 3) h l
+
+  pub lows-at : (h : ℕ) → h ≤ word-at ws 3 → entry (lows-of ws) h ≡ word-at ws 2 ^ h
+  unfolding lows-of
+  lows-at h l = table-at 1 _ (word-at ws 3) h l ∙ one-mul (word-at ws 2 ^ h)
+
+  -- THE PLAN of k tags
+  pub plan-said : (k y : ℕ) → Plan-fits (word-at ws 2) (word-at ws 3) (plan-of ws k y)
+  unfolding plan-of
+  plan-said k y =
+      let levels : suc (pred (word-at ws 3)) ≡ word-at ws 3 = omega (arith, here .low) in
+      rw levels at (plan-fits ws (word-at ws 1) (word-at ws 2) (widths-of ws) (highs-of ws) (word-at ws 4) k (pred (word-at ws 3)) y
+      (omega (arith, here .degrees .s-least)) (here .degrees .s-most) (λ h l. highs-at h (omega arith)) widths-most)
+
+  -- it can be done on words where its row is
+  pub applicable : (k y m : ℕ) (us : List ℕ) → m ≤ most-tags → Row-in us m (plan-of ws k y) → Applicable us m (word-at ws 2) (plan-of ws k y) (widths-of ws) (lows-of ws)
+  applicable k y m us few e =
+      let p = plan-said k y in
+      record {
+        left = left-or-none e few;
+        row = row-there e few;
+        trees = record {
+          degree = here .degrees .r-least;
+          height = omega (arith, p .height, here .high);
+          least = λ l. p .least;
+          number = cut-small _;
+          widths = λ h. omega (arith, widths-most h);
+          lows = λ h l. lows-at h (omega (arith, p .height));
+        };
+        by = p .by;
+      }
+
+-- AN ACCEPTED ROW of new tags
+module _ (ws : List ℕ) (says : Says ws (said ws)) (ks : List Kind) (y : ℕ) (a : Row-accepted (length ws) ks y (said ws)) where
+  issued : word-at ws 4 ≡ count (said ws)
+  issued = header-said ws (said ws) says .issued
+
+  words-said : Words-in ws (word-at ws 4)
+  unfolding image-of
+  words-said =
+      let g = image-said ws (said ws) says in
+      record { image = image-of (said ws); rest = g .0; words-are = g .1; proper = proper-image (sound-said ws (said ws) says); counted = sym issued }
+
+  few-there : word-at ws 4 ≤ most-tags
+  few-there = ranges ws says .few
+
+  pub place-there : Place-there ws (word-at ws 4) y
+  place-there = record { records = records-in words-said few-there; place = go (a .place) }
+    where
+      go : (y ≡ no-tag) ⊎ ((y < count (said ws)) × (fact (said ws) y .marked ≡ false)) → Tag-or-none (word-at ws 4) y
+      go (inl e) other = absurd (other e)
+      go (inr l) other = rw issued (l .0)
+
+  pub plan-reads : Plan-reads ws (word-at ws 4) (word-at ws 1) (word-at ws 3 - 1) y (widths-of ws)
+  plan-reads =
+      let f = ranges ws says in
+      record {
+        plain = record {
+          place = place-there;
+          ancestors = record { height = omega (arith, f .high); widths = λ h l m. widths-least ws says h (omega arith) };
+          widths = λ h. omega (arith, widths-most ws says h);
+        };
+        least = omega (arith, f .degrees .s-least);
+        most = f .degrees .s-most;
+      }
+
+-- of which the first goes in
+module _ (ws : List ℕ) (says : Says ws (said ws)) (c : Kind) (ks : List Kind) (y : ℕ) (a : Row-accepted (length ws) (c ∷ ks) y (said ws)) where
+  count-is : word-at ws 4 ≡ count (said ws)
+  count-is = issued ws says (c ∷ ks) y a
+
+  pub tag-fits : Tag-fits ws (word-at ws 4) y
+  unfolding image-of words-for words-said
+  tag-fits =
+      let p = position y (said ws) in
+      let next : behind ws y ≡ getD (row (said ws)) p no-tag =
+      rw (place-said ws (said ws) says c ks y a) at (behind-said ws (said ws) says p (position-said ws (said ws) says c ks y a)) in
+      record {
+        records = record { few = rw count-is (few-said ws (said ws) says c ks y a); long = rw count-is (room-said ws (said ws) says c ks y a) };
+        place = place-there ws says (c ∷ ks) y a .place;
+        next = rw next (place-or-none (words-said ws says (c ∷ ks) y a) (few-there ws says (c ∷ ks) y a) p);
+      }
+
+  -- with it in, its plan can be done
+  module _ (t : Fact) where
+    row-one : Row-in (added ws (word-at ws 4) y (t .mate) (t .up) (kind-word (t .kind) (t .marked))) (suc (word-at ws 4)) (plan-of ws 1 y)
+    row-one =
+        rw count-is
+        (rw (place-said ws (said ws) says c ks y a) at
+        (single-row ws (said ws) says (position y (said ws)) (position-said ws (said ws) says c ks y a) t (few-said ws (said ws) says c ks y a) (room-said ws (said ws) says c ks y a) (labels-said ws (said ws) says c ks y a)))
+
+    few-more : suc (word-at ws 4) ≤ most-tags
+    few-more = rw count-is (few-said ws (said ws) says c ks y a)
+
+    pub one-applicable : Applicable (added ws (word-at ws 4) y (t .mate) (t .up) (kind-word (t .kind) (t .marked))) (suc (word-at ws 4)) (word-at ws 2) (plan-of ws 1 y) (widths-of ws) (lows-of ws)
+    one-applicable = applicable ws says 1 y (suc (word-at ws 4)) _ few-more row-one
+
+    -- a tag right behind it has none or a tag behind it
+    pub next-or-none : Tag-or-none (suc (word-at ws 4)) (behind (added ws (word-at ws 4) y (t .mate) (t .up) (kind-word (t .kind) (t .marked))) (word-at ws 4))
+    next-or-none = behind-or-none (row-one .words-in) few-more (word-at ws 4) (omega arith)
+
+-- AN ACCEPTED CALL of kind c
+module _ (ws : List ℕ) (c y : ℕ) (z : insert-refused c y ws ≡ 0) where
+  pub says-accepted : Says ws (said ws)
+  unfolding insert-refused
+  says-accepted = accepted-says ws (insert-refusal (length ws) c y) z
+
+  pub store-accepted : insert-refusal (length ws) c y (said ws) ≡ 0
+  unfolding insert-refused
+  store-accepted = accepted-store ws (insert-refusal (length ws) c y) z
+
+  pub row-accepted : Row-accepted (length ws) (insert-kinds c) y (said ws)
+  row-accepted = accepted-row (length ws) (insert-kinds c) y (said ws) (insert-passed (length ws) c y (said ws) store-accepted)
+
+  -- its kind is 1 or 3
+  pub kind-accepted : (c ≡ 1 → ⊥) → c ≡ 3
+  unfolding insert-refusal
+  kind-accepted other =
+      by-test (eqb c 3) (eqb-true c 3)
+      (λ t. let refused : _≡_ {A = ℕ} 4 0 = rw (ne-eqb c 1 other, t) at store-accepted in absurd (omega arith))
+
+  -- its place, and what its plans read
+  pub place-accepted : Place-there ws (word-at ws 4) y
+  place-accepted = place-there ws says-accepted (insert-kinds c) y row-accepted
+
+  pub plan-accepted : {w : List ℕ} → w ≡ table 1 (word-at ws 1 * word-at ws 2 - 1) (word-at ws 3) → Plan-reads ws (word-at ws 4) (word-at ws 1) (word-at ws 3 - 1) y w
+  unfolding widths-of
+  plan-accepted e = rw e (plan-reads ws says-accepted (insert-kinds c) y row-accepted)

@@ -1,0 +1,58 @@
+-- An accepted call as the code has read it is ready to go in, and its edit is that of its kind. Assumes nothing.
+use mathlib.Core.Path.{_≡_, refl, ap, _∙_}
+use mathlib.Core.List.{List}
+use Prim.Native.Nat.{ℕ, _*_, _-_, _≤_, _<_}
+use native.Mathlib.Numerals.{sub-one}
+use native.Mathlib.Omega.{arith}
+use borrow.Author.Tests.{eq-eqb, ne-eqb, lt-ltb, le-ltb}
+use Rattle.tree.specs.Book.{height}
+use Rattle.calls.specs.Words.{word-at}
+use Rattle.calls.specs.Replies.{insert-refused}
+use Rattle.walk_model.specs.Walk.{table}
+use Rattle.edit_model.specs.Insert.{Plan, up-word, widths-of, highs-of, plan, plan-of, text-edit, both-edit, in-turn-edit, element-edit}
+use Rattle.store_insert.specs.Parts.{lows-of, call-edit}
+use Rattle.store_insert.specs.Needs.{Ready, Edits}
+use Rattle.store_insert.proofs.Accepted.{kind-accepted}
+
+-- THE CALL, as the code reads it: the tables, the up of new tags and the plans
+module _ (ws : List ℕ) (c y : ℕ) (z : insert-refused c y ws ≡ 0) {u : ℕ} {w l hi : List ℕ} (up : u ≡ up-word ws y)
+    (widths : w ≡ table 1 (word-at ws 1 * word-at ws 2 - 1) (word-at ws 3)) (lows : l ≡ table 1 (word-at ws 2) (word-at ws 3))
+    (highs : hi ≡ table (word-at ws 1) (word-at ws 2) (word-at ws 3)) where
+  planned : (k : ℕ) {p : Plan} → p ≡ plan ws (word-at ws 1) w hi (word-at ws 4) k (word-at ws 3 - 1) y → p ≡ plan-of ws k y
+  unfolding plan-of widths-of highs-of
+  planned k e = e ∙ rw (widths, highs, sub-one (word-at ws 3))
+
+  pub text-ready : (c ≡ 1 → ⊥) → {p : Plan} → p ≡ plan ws (word-at ws 1) w hi (word-at ws 4) 1 (word-at ws 3 - 1) y → Ready 3 1 ws (word-at ws 4) y u (word-at ws 2) p w l
+  unfolding widths-of lows-of
+  text-ready other e =
+      record { accepted = rw (kind-accepted ws c y z other) at z; tags = refl; up-is = up; degree = refl; plan = planned 1 e; widths = widths; lows = lows }
+
+  pub element-ready : c ≡ 1 → (k : ℕ) {p : Plan} → p ≡ plan ws (word-at ws 1) w hi (word-at ws 4) k (word-at ws 3 - 1) y → Ready 1 k ws (word-at ws 4) y u (word-at ws 2) p w l
+  unfolding widths-of lows-of
+  element-ready element k e = record { accepted = rw element at z; tags = refl; up-is = up; degree = refl; plan = planned k e; widths = widths; lows = lows }
+
+-- AN ELEMENT by two plans
+module _ {ws w l : List ℕ} {n y u r : ℕ} {p q : Plan} (one : Ready 1 1 ws n y u r p w l) (two : Ready 1 2 ws n y u r q w l) where
+  heights : (p .height ≡ plan-of ws 1 y .height) × (q .height ≡ plan-of ws 2 y .height)
+  heights = (ap (λ (t : Plan). t .height) (one .plan), ap (λ (t : Plan). t .height) (two .plan))
+
+  pub second-higher : p .height < q .height → plan-of ws 1 y .height < plan-of ws 2 y .height
+  second-higher lower = omega (arith, heights)
+
+  pub both-is : {xs : List ℕ} {m s : ℕ} → p .height < q .height → Edits xs m s (both-edit y ws) → Edits xs m s (element-edit y ws)
+  unfolding element-edit
+  both-is lower e = rw (lt-ltb (plan-of ws 1 y .height) (plan-of ws 2 y .height) (second-higher lower)) e
+
+  pub turn-is : {xs : List ℕ} {m s : ℕ} → q .height ≤ p .height → Edits xs m s (in-turn-edit y ws) → Edits xs m s (element-edit y ws)
+  unfolding element-edit
+  turn-is higher e = rw (le-ltb (plan-of ws 1 y .height) (plan-of ws 2 y .height) (omega (arith, heights))) e
+
+-- by the kind
+module _ (ws : List ℕ) (c y : ℕ) {xs : List ℕ} {m s : ℕ} where
+  pub text-changes : (c ≡ 1 → ⊥) → Edits xs m s (text-edit y ws) → Edits xs m s (call-edit c y ws)
+  unfolding call-edit
+  text-changes other e = rw (ne-eqb c 1 other) e
+
+  pub element-changes : c ≡ 1 → Edits xs m s (element-edit y ws) → Edits xs m s (call-edit c y ws)
+  unfolding call-edit
+  element-changes element e = rw (eq-eqb c 1 element) e

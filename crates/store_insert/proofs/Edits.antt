@@ -1,0 +1,44 @@
+-- The edits that the code makes step by step are those of edit_model's Insert. Assumes nothing.
+use mathlib.Core.Path.{_≡_, refl, _∙_}
+use mathlib.Core.List.{List}
+use Prim.Native.Nat.{ℕ, suc, _+_, _-_}
+use native.Mathlib.Numerals.{add-one, sub-one}
+use native.Mathlib.Omega.{arith}
+use Rattle.calls.specs.Words.{word-at}
+use Rattle.edit_model.specs.Insert.{Plan, added, raised-words, applied, put-words, plain-plan, end-edit}
+use Rattle.store_insert.specs.Needs.{Tag-fits, Plain-reads, Applicable, Edits, End-fits}
+use Rattle.store_insert.proofs.Keeps.{plain-applicable}
+
+-- A PLAN DONE, and H raised
+pub put-edits : (ws w : List ℕ) (r n c : ℕ) (p : Plan) {vs us : List ℕ} {m d : ℕ} → vs ≡ applied ws w r n p .words → m ≡ applied ws w r n p .moved →
+    us ≡ raised-words vs (p .height) → d ≡ m - c → Edits us d (p .height) (put-words ws w r n c p)
+unfolding put-words
+put-edits ws w r n c p words moved raised less = record { words-are = raised ∙ rw words; moved-is = less ∙ rw moved; split-is = refl }
+
+pub more-by-two : (n : ℕ) → n + 2 ≡ suc (suc n)
+more-by-two n = omega arith
+
+-- THE END of an element
+module _ {ws w l : List ℕ} {n r : ℕ} (h : End-fits ws n r w l) where
+  pub end-reads : Plain-reads ws (n + 1) (word-at ws 3 - 1) n w
+  end-reads =
+      rw (add-one n, sub-one (word-at ws 3)) (record {
+        place = record {
+          records = record { few = omega (arith, h .tag .records); long = omega (arith, h .tag .records) };
+          place = λ e. omega arith;
+        };
+        ancestors = h .ancestors;
+        widths = h .widths;
+      })
+
+  pub end-tag : Tag-fits ws (n + 1) n
+  end-tag = rw (add-one n) (h .tag)
+
+  module _ (u : ℕ) {p : Plan} {vs : List ℕ} (plan : p ≡ plain-plan ws w (word-at ws 3 - 1) n) (put : vs ≡ added ws (n + 1) n n u 2) where
+    pub end-applicable : Applicable vs (n + 2) r p w l
+    end-applicable =
+        rw (plan, put, add-one n, more-by-two n) (plain-applicable ws (suc n) n n u 2 (h .tag) w l r (word-at ws 3 - 1) (h .degree-least) (h .widths) (h .low))
+
+    pub end-edits : {us : List ℕ} → us ≡ applied vs w r (n + 2) p .words → us ≡ end-edit w n u ws
+    unfolding end-edit
+    end-edits e = e ∙ rw (plan, put, add-one n, more-by-two n, sub-one (word-at ws 3), h .degree)

@@ -1,0 +1,201 @@
+-- An accepted element as the code has read it: what each step asks where both tags go in at once and where they go in in
+-- turn, and that the steps come to its edit. Assumes nothing.
+use mathlib.Core.Path.{_≡_, refl, ap, sym, _∙_}
+use mathlib.Core.Bool.{Bool, true, false, cond}
+use mathlib.Core.List.{List, [], _∷_, _++_}
+use Prim.Native.Nat.{ℕ, zero, suc, _+_, _*_, _-_, _≤_, _<_}
+use native.Mathlib.Nat.{pow-zero}
+use native.Mathlib.Numerals.{add-one}
+use native.Mathlib.Omega.{arith}
+use lib.ListN.{length, drop}
+use Rattle.store_types.specs.Limits.{label-limit, most-tags}
+use Rattle.tree.specs.Book.{height, base, power-width, root-full}
+use Rattle.tree_laws.proofs.Insertion.{inserted-r, inserted-under}
+use Rattle.calls.specs.Kind.{begin, end, code, kind-word}
+use Rattle.calls.specs.Store.{Store, Fact, count, width}
+use Rattle.calls.specs.Load.{words-for}
+use Rattle.calls.specs.Insert.{insert-kinds, position}
+use Rattle.calls.specs.Words.{words-of, Says, word-at}
+use Rattle.calls.specs.Replies.{said}
+use Rattle.calls_laws.proofs.Inserts.{Row-accepted}
+use Rattle.calls_laws.proofs.Fields.{header-says}
+use Rattle.calls_laws.proofs.WordSteps.{header-said}
+use Rattle.edit_model.specs.Image.{image-of}
+use Rattle.edit_model.specs.Insert.{Plan, added, up-word, plan, plan-of, put-words, both-edit, begin-edit, end-edit, in-turn-edit}
+use Rattle.edit_model.proofs.Image.{store-image}
+use Rattle.edit_model.proofs.Added.{one-more}
+use Rattle.edit_model.proofs.Single.{grown, book-with, proper-grown}
+use Rattle.edit_model.proofs.Renumbered.{Words-in, Row-in}
+use Rattle.edit_model.proofs.Inserted.{position-said, few-said, room-said, labels-said, begin-fact, begin-words}
+use Rattle.edit_model.proofs.Elements.{element-row}
+use Rattle.renumber.specs.Needs.{Records}
+use Rattle.store_insert.specs.Needs.{Tag-fits, Put-fits, End-fits, Ready, Edits}
+use Rattle.store_insert.proofs.Headers.{ranges, height-range}
+use Rattle.store_insert.proofs.Keeps.{length-added, added-header}
+use Rattle.store_insert.proofs.Rows.{behind-or-none}
+use Rattle.store_insert.proofs.Accepted.{widths-most, widths-least, lows-at, applicable, tag-fits, one-applicable, next-or-none, says-accepted, store-accepted, row-accepted}
+use Rattle.store_insert.proofs.Edits.{more-by-two}
+
+-- AN ELEMENT. Its begin goes in first, with or without the end
+module _ {k : ℕ} {ws w l : List ℕ} {n y u r : ℕ} {p : Plan} (h : Ready 1 k ws n y u r p w l) where
+  said-now : Says ws (said ws)
+  said-now = says-accepted ws 1 y (h .accepted)
+
+  both-row : Row-accepted (length ws) (begin ∷ end ∷ []) y (said ws)
+  unfolding insert-kinds
+  both-row = row-accepted ws 1 y (h .accepted)
+
+  issued : n ≡ count (said ws)
+  issued = h .tags ∙ header-said ws (said ws) said-now .issued
+
+  -- the begin, its mate one further
+  abbrev first : Fact
+  first = record { kind = begin; marked = false; mate = suc (word-at ws 4); up = u }
+
+  pub begin-tag : Tag-fits ws n y
+  begin-tag = rw (h .tags) (tag-fits ws said-now begin (end ∷ []) y both-row)
+
+  pub room-for-two : Records ws (suc (suc n))
+  unfolding words-for
+  room-for-two = record { few = omega (arith, issued, both-row .few); long = omega (arith, issued, both-row .room) }
+
+  low-there : word-at ws 3 ≤ 22
+  low-there = omega (arith, ranges ws said-now .high)
+
+  -- the words with the begin
+  module _ {vs : List ℕ} (put : vs ≡ added ws n y (n + 1) u 1) where
+    with-begin : vs ≡ added ws (word-at ws 4) y (suc (word-at ws 4)) u 1
+    with-begin = put ∙ rw (add-one, h .tags)
+
+    levels-kept : word-at vs 3 ≤ 22
+    levels-kept =
+        rw (with-begin, added-header 3 (omega arith) ws (word-at ws 4) y (suc (word-at ws 4)) u 1 (λ e. omega arith) (λ e. omega arith)) low-there
+
+    -- its end can go in behind it
+    pub end-next : Tag-fits vs (n + 1) n
+    unfolding kind-word code
+    end-next =
+        let room = room-for-two in
+        rw add-one (record {
+          records = record { few = room .few; long = rw (with-begin, length-added ws (word-at ws 4) y (suc (word-at ws 4)) u 1) (room .long) };
+          place = λ e. omega arith;
+          next = rw (with-begin, h .tags) (next-or-none ws said-now begin (end ∷ []) y both-row first);
+        })
+
+-- BOTH AT ONCE
+module _ {ws w l : List ℕ} {n y u r : ℕ} {p : Plan} (h : Ready 1 2 ws n y u r p w l) (lower : plan-of ws 1 y .height < plan-of ws 2 y .height)
+    {vs us : List ℕ} (put : vs ≡ added ws n y (n + 1) u 1) (end-put : us ≡ added vs (n + 1) n n u 2) where
+  abbrev with-both : List ℕ
+  with-both = added (added ws (word-at ws 4) y (suc (word-at ws 4)) (up-word ws y) 1) (suc (word-at ws 4)) (word-at ws 4) (word-at ws 4) (up-word ws y) 2
+
+  both-are : us ≡ with-both
+  both-are = end-put ∙ rw (put, add-one, h .tags, h .up-is)
+
+  row-both : (m : ℕ) → plan-of ws 2 y .height ≡ m → plan-of ws 1 y .height < m → Row-in with-both (suc (suc (word-at ws 4))) (plan-of ws 2 y)
+  row-both zero top l = absurd (omega arith)
+  row-both (suc g) top l = element-row ws (said ws) (said-now h) y (store-accepted ws 1 y (h .accepted)) g top l
+
+  pub both-put : Put-fits us (n + 2) r p w l
+  both-put =
+      let few : suc (suc (word-at ws 4)) ≤ most-tags = rw (h .tags) at (room-for-two h .few) in
+      let levels : word-at us 3 ≤ 22 = rw (end-put, added-header 3 (omega arith) vs (n + 1) n n u 2 (λ e. omega arith) (λ e. omega arith)) (levels-kept h put) in
+      rw (more-by-two n) (record {
+        plan = rw (both-are, h .tags, h .degree, h .plan, h .widths, h .lows) (applicable ws (said-now h) 2 y (suc (suc (word-at ws 4))) with-both few (row-both (plan-of ws 2 y .height) refl lower));
+        levels = levels;
+      })
+
+  pub both-edits : {xs : List ℕ} {m s : ℕ} → Edits xs m s (put-words us w r (n + 2) 2 p) → Edits xs m s (both-edit y ws)
+  unfolding both-edit
+  both-edits e = rw (both-are, more-by-two, h .tags, h .degree, h .plan, h .widths) at e
+
+-- IN TURN
+module _ {ws w l : List ℕ} {n y u r : ℕ} {p : Plan} (h : Ready 1 1 ws n y u r p w l) {vs : List ℕ} (put : vs ≡ added ws n y (n + 1) u 1) where
+  pub turn-put : Put-fits vs (n + 1) r p w l
+  unfolding kind-word code
+  turn-put =
+      rw add-one (record {
+        plan = rw (with-begin h put, h .tags, h .degree, h .plan, h .widths, h .lows) (one-applicable ws (said-now h) begin (end ∷ []) y (both-row h) (first h));
+        levels = levels-kept h put;
+      })
+
+  -- the words with the begin, numbered
+  module _ {us : List ℕ} {m s : ℕ} (e : Edits us m s (put-words vs w r (n + 1) 1 p)) where
+    begin-edits : Edits us m s (begin-edit y ws)
+    unfolding begin-edit
+    begin-edits = rw (with-begin h put, add-one, h .tags, h .degree, h .plan, h .widths, h .up-is) at e
+
+    -- say a store, but for the stamp
+    abbrev at : ℕ
+    at = position y (said ws)
+
+    abbrev begun : Store
+    begun = grown at (begin-fact (said ws) y) (said ws)
+
+    abbrev rest : List ℕ
+    rest = drop (words-for (suc (count (said ws)))) ws
+
+    words-begun : us ≡ words-of begun ++ rest
+    words-begun = begin-edits .words-are ∙ begin-words ws (said ws) (said-now h) y (store-accepted ws 1 y (h .accepted))
+
+    labels-begun : width (said ws) (height (book-with at (said ws))) ≤ label-limit
+    labels-begun = labels-said ws (said ws) (said-now h) begin (end ∷ []) y (both-row h)
+
+    words-in-begun : Words-in us (suc n)
+    unfolding image-of grown
+    words-in-begun =
+        let a = both-row h in
+        let fits = position-said ws (said ws) (said-now h) begin (end ∷ []) y a in
+        record {
+          image = image-of begun;
+          rest = rest;
+          words-are = words-begun ∙ rw store-image;
+          proper =
+              proper-grown ws (said ws) (said-now h) at fits (begin-fact (said ws) y) (few-said ws (said ws) (said-now h) begin (end ∷ []) y a) (room-said ws (said ws) (said-now h) begin (end ∷ []) y a) labels-begun;
+          counted = one-more (said ws .facts) (begin-fact (said ws) y) ∙ ap suc (sym (issued h));
+        }
+
+    -- H at most one higher
+    under-begun : book-with at (said ws) .under ≤ word-at ws 3
+    under-begun =
+        rw (inserted-under at (count (said ws)) (said ws .book), header-said ws (said ws) (said-now h) .levels) (go (root-full (said ws .book)))
+      where
+        go : (t : Bool) → cond t (suc (said ws .book .under)) (said ws .book .under) ≤ height (said ws .book)
+        go true = omega arith
+        go false = omega arith
+
+    low-begun : height (book-with at (said ws)) ≤ 20
+    unfolding power-width base
+    low-begun =
+        let head = header-said ws (said ws) (said-now h) in
+        let product = ranges ws (said-now h) .product in
+        height-range (said ws .book .s * said ws .book .r - 1) (height (book-with at (said ws))) (rw (← head .degree-s, ← head .degree-r) (omega (arith, product))) labels-begun
+
+    pub end-ready : length us ≡ length ws → End-fits us n r w l
+    unfolding grown
+    end-ready long =
+        let f = ranges ws (said-now h) in
+        let two = room-for-two h in
+        let head = header-says begun rest in
+        let levels : word-at us 3 ≡ height (book-with at (said ws)) = rw words-begun (head .levels) in
+        let degree : word-at us 2 ≡ word-at ws 2 =
+        rw words-begun (head .degree-r) ∙ inserted-r at (count (said ws)) (said ws .book) ∙ sym (header-said ws (said ws) (said-now h) .degree-r) in
+        let one-fewer : suc n ≤ most-tags = omega (arith, two .few) in
+        record {
+          tag = record {
+            records = record { few = two .few; long = rw long (two .long) };
+            place = λ e. omega arith;
+            next = behind-or-none words-in-begun one-fewer n (omega arith);
+          };
+          levels = rw levels (omega arith);
+          ancestors = rw levels (record { height = omega (arith, low-begun); widths = λ i low high. rw (h .widths) (widths-least ws (said-now h) i (omega (arith, under-begun))) });
+          widths = λ i. rw (h .widths) (omega (arith, widths-most ws (said-now h) i));
+          degree = h .degree ∙ sym degree;
+          degree-least = rw (h .degree) (f .degrees .r-least);
+          low = rw (h .lows) (lows-at ws (said-now h) 0 (omega arith) ∙ pow-zero (word-at ws 2));
+        }
+
+    pub turn-edits : {xs : List ℕ} → xs ≡ end-edit w n u us → Edits xs m s (in-turn-edit y ws)
+    unfolding in-turn-edit
+    turn-edits end-put =
+        let b = begin-edits in
+        record { words-are = end-put ∙ rw (h .widths, h .tags, h .up-is, b .words-are); moved-is = b .moved-is; split-is = b .split-is }

@@ -1,0 +1,12 @@
+pub mod Links
+pub mod Headers
+pub mod Refusals
+pub mod Plans
+pub mod Keeps
+pub mod Edits
+pub mod Rows
+pub mod Accepted
+pub mod Texts
+pub mod Elements
+pub mod Changes
+pub mod Replies

@@ -1,0 +1,72 @@
+-- The reply and the words of an insertion, refused and accepted, from its refusal and its edit. Assumes nothing.
+use mathlib.Core.Path.{_≡_, refl, ap, _∙_}
+use mathlib.Core.List.{List}
+use Prim.Native.Nat.{ℕ, zero, suc, _+_, _≤_}
+use native.Mathlib.Numerals.{add-one}
+use native.Mathlib.Omega.{arith}
+use borrow.Author.Tests.{eqb-true, eqb-false}
+use lib.Dec.{eqb}
+use lib.ListN.{length, set, drop}
+use lib.Seq.{getD-set-same}
+use Rattle.store_types.specs.Limits.{header-words}
+use Rattle.store_types.specs.declared.InsertReply.the-variants.{Inserted, Refused}
+use Rattle.tree_laws.proofs.Rows.{by-test}
+use Rattle.calls.specs.Insert.{insert-kinds, insert-store}
+use Rattle.calls.specs.Words.{words-of, Says, word-at, in-front}
+use Rattle.calls.specs.Replies.{said, written, insert-outcome, insert-refused, insert-reply, insert-words}
+use Rattle.calls_laws.proofs.Fields.{header-says}
+use Rattle.calls_laws.proofs.Marks.{marked-few}
+use Rattle.calls_laws.proofs.WordSteps.{header-said}
+use Rattle.edit_model.specs.Insert.{stamped}
+use Rattle.edit_model.proofs.Inserted.{Edit-right, text-right}
+use Rattle.edit_model.proofs.Elements.{element-right}
+use Rattle.store_read.proofs.Laws.{sound-said}
+use Rattle.store_insert.specs.Parts.{call-edit}
+use Rattle.store_insert.specs.Needs.{Edits}
+use Rattle.store_insert.proofs.Accepted.{says-accepted, store-accepted, kind-accepted}
+
+-- REFUSED: k is the refusal
+refused-outcome : (k x m s : ℕ) → (k ≡ 0 → ⊥) → Refused k ≡ insert-outcome k x m s
+unfolding insert-outcome
+refused-outcome zero x m s n = absurd (n refl)
+refused-outcome (suc k) x m s n = refl
+
+unwritten : (k : ℕ) (new old : List ℕ) → (k ≡ 0 → ⊥) → old ≡ written k new old
+unfolding written
+unwritten zero new old n = absurd (n refl)
+unwritten (suc k) new old n = refl
+
+pub refused-all : (ws : List ℕ) (c y : ℕ) {k : ℕ} → k ≡ insert-refused c y ws → (k ≡ 0 → ⊥) → (Refused k ≡ insert-reply c y ws) × (ws ≡ insert-words c y ws)
+unfolding insert-reply insert-words
+refused-all ws c y {k} e n = (rw (← e) (refused-outcome k _ _ _ n), rw (← e) (unwritten k _ ws n))
+
+-- ACCEPTED
+module _ (ws : List ℕ) (c y : ℕ) (z : insert-refused c y ws ≡ 0) where
+  right : Edit-right c y ws (said ws) (call-edit c y ws)
+  unfolding call-edit
+  right =
+      let says = says-accepted ws c y z in
+      let accepted = store-accepted ws c y z in
+      by-test (eqb c 1)
+      (λ t. let one = eqb-true c 1 t in rw (t, one) (element-right ws (said ws) says y (rw one at accepted)))
+      (λ t. let three = kind-accepted ws c y z (eqb-false c 1 t) in rw three (text-right ws (said ws) says y (rw three at accepted)))
+
+  -- vs are the words that its edit leaves
+  module _ {vs : List ℕ} {m s : ℕ} (e : Edits vs m s (call-edit c y ws)) where
+    stamped-are : stamped vs ≡ in-front (words-of (insert-store (insert-kinds c) y (said ws))) ws
+    stamped-are = rw (e .words-are) (right .words-are)
+
+    -- the stamp is raised by one, and fits
+    pub stamp-fits : header-words ≤ length vs → word-at vs 7 ≤ 400000
+    unfolding stamped in-front insert-store Says
+    stamp-fits long =
+        let su = insert-store (insert-kinds c) y (said ws) in
+        let own = sound-said ws (says-accepted ws c y z) in
+        let there = getD-set-same vs 7 (suc (word-at vs 7)) 0 (omega arith) in
+        let said-there = ap (λ (us : List ℕ). word-at us 7) stamped-are ∙ header-says su (drop (length (words-of su)) ws) .stamp in
+        omega (arith, there, said-there, own .stamp-fits, own .few, marked-few (said ws .facts))
+
+    pub accepted-all : (Inserted (record { 0 = word-at ws 4 }) m s ≡ insert-reply c y ws) × (set vs 7 (word-at vs 7 + 1) ≡ insert-words c y ws)
+    unfolding insert-reply insert-words insert-outcome written stamped
+    accepted-all =
+        (rw (z, header-said ws (said ws) (says-accepted ws c y z) .issued, e .moved-is, e .split-is, right .moved-is, right .split-is), rw (z, add-one) stamped-are)

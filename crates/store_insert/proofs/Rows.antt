@@ -1,0 +1,66 @@
+-- The words of n tags in a row: the tag behind a tag, and the tags that a plan numbers. Assumes nothing.
+use mathlib.Core.Path.{_≡_, refl, ap, _∙_}
+use mathlib.Core.List.{List}
+use Prim.Native.Nat.{ℕ, zero, suc, _+_, _≤_, _<_}
+use native.Mathlib.Omega.{arith}
+use borrow.Author.Tests.{ne-eqb, ltb-true, ltb-false}
+use lib.Dec.{ltb}
+use lib.ListN.{length, getD, length-append, List·getD-eq-default}
+use Rattle.store_types.specs.Limits.{no-tag, most-tags}
+use Rattle.tree.specs.Row.{place}
+use Rattle.tree_laws.proofs.Rows.{by-test}
+use Rattle.calls.specs.Store.{next-in}
+use Rattle.calls.specs.Load.{words-for}
+use Rattle.edit_model.specs.Image.{image-words}
+use Rattle.edit_model.specs.Insert.{Plan, behind}
+use Rattle.edit_model.proofs.Image.{length-image, tag-below, record-says}
+use Rattle.edit_model.proofs.Along.{along-at}
+use Rattle.edit_model.proofs.Added.{tag-before, behind-place}
+use Rattle.edit_model.proofs.Renumbered.{Words-in, Row-in}
+use Rattle.renumber.specs.Needs.{Records, Row-there}
+use Rattle.store_insert.specs.Needs.{Tag-or-none}
+
+module _ {us : List ℕ} {n : ℕ} (g : Words-in us n) (few : n ≤ most-tags) where
+  pub records-in : Records us n
+  unfolding words-for
+  records-in =
+      record {
+        few = few;
+        long = omega (arith, g .counted, length-image (g .image), ap length (g .words-are) ∙ length-append (image-words (g .image)) (g .rest));
+      }
+
+  -- what stands at a place of the row is a tag; behind the last stands none
+  pub place-or-none : (i : ℕ) → Tag-or-none n (getD (g .image .tags) i no-tag)
+  place-or-none i other =
+      by-test (ltb i (length (g .image .tags)))
+      (λ t. omega (arith, g .counted, tag-below (g .proper) i no-tag (ltb-true _ _ t)))
+      (λ t. absurd (other (List·getD-eq-default (g .image .tags) no-tag (ltb-false _ _ t))))
+
+  pub behind-or-none : (x : ℕ) → x < n → Tag-or-none n (behind us x)
+  unfolding behind next-in
+  behind-or-none x own =
+      let v = g .image in
+      let next = record-says v (g .rest) x (omega (arith, g .counted)) .next-word in
+      rw (ne-eqb x no-tag (λ e. omega arith), g .words-are, next) (place-or-none (suc (place x (v .tags))))
+
+-- THE TAGS THAT A PLAN NUMBERS
+module _ {us : List ℕ} {n : ℕ} {q : Plan} (e : Row-in us n q) (few : n ≤ most-tags) where
+  before-or-none : (i : ℕ) → Tag-or-none n (tag-before (e .words-in .image) i)
+  before-or-none zero other = absurd (other refl)
+  before-or-none (suc i) other = place-or-none (e .words-in) few i other
+
+  pub left-or-none : Tag-or-none n (q .left)
+  left-or-none = rw (e .left-is) (before-or-none (e .from))
+
+  pub row-there : Row-there us n (behind us (q .left)) (q .count)
+  row-there =
+      let g = e .words-in in
+      let v = g .image in
+      let all : length (v .tags) ≡ n = g .proper .as-many ∙ g .counted in
+      record {
+        records = records-in g few;
+        most = omega (arith, e .fits);
+        below = λ i l.
+            rw (e .left-is, g .words-are, behind-place (g .proper) (omega (arith, g .counted)) (g .rest) (e .from) (omega (arith, e .fits)), along-at (g .proper) (g .rest) i (e .from) (omega (arith, e .fits)))
+            (omega (arith, g .counted, tag-below (g .proper) (e .from + i) no-tag (omega (arith, e .fits))));
+      }

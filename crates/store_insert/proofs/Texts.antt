@@ -1,0 +1,44 @@
+-- An accepted text as the code has read it: what each step asks, and that the steps come to its edit. Assumes nothing.
+use mathlib.Core.Path.{_≡_}
+use mathlib.Core.Bool.{false}
+use mathlib.Core.List.{List, [], _∷_}
+use Prim.Native.Nat.{ℕ, _+_}
+use native.Mathlib.Numerals.{add-one}
+use native.Mathlib.Omega.{arith}
+use lib.ListN.{length}
+use Rattle.calls.specs.Kind.{text, code, kind-word}
+use Rattle.calls.specs.Insert.{insert-kinds}
+use Rattle.calls.specs.Words.{Says, word-at}
+use Rattle.calls.specs.Replies.{said}
+use Rattle.calls_laws.proofs.Inserts.{Row-accepted}
+use Rattle.edit_model.specs.Insert.{Plan, added, plan, put-words, text-edit}
+use Rattle.store_insert.specs.Needs.{Tag-fits, Put-fits, Ready, Edits}
+use Rattle.store_insert.proofs.Headers.{ranges}
+use Rattle.store_insert.proofs.Keeps.{added-header}
+use Rattle.store_insert.proofs.Accepted.{tag-fits, one-applicable, says-accepted, row-accepted}
+
+-- A TEXT
+module _ {ws w l : List ℕ} {n y u r : ℕ} {p : Plan} (h : Ready 3 1 ws n y u r p w l) where
+  text-said : Says ws (said ws)
+  text-said = says-accepted ws 3 y (h .accepted)
+
+  text-row : Row-accepted (length ws) (text ∷ []) y (said ws)
+  unfolding insert-kinds
+  text-row = row-accepted ws 3 y (h .accepted)
+
+  pub text-tag : Tag-fits ws n y
+  text-tag = rw (h .tags) (tag-fits ws text-said text [] y text-row)
+
+  module _ {vs : List ℕ} (put : vs ≡ added ws n y n u 3) where
+    pub text-put : Put-fits vs (n + 1) r p w l
+    unfolding kind-word code
+    text-put =
+        let levels = added-header 3 (omega arith) ws (word-at ws 4) y (word-at ws 4) u 3 (λ e. omega arith) (λ e. omega arith) in
+        rw (put, h .tags, add-one, h .degree, h .plan, h .widths, h .lows) (record {
+          plan = one-applicable ws text-said text [] y text-row (record { kind = text; marked = false; mate = word-at ws 4; up = u });
+          levels = omega (arith, levels, ranges ws text-said .high);
+        })
+
+    pub text-edits : {us : List ℕ} {m s : ℕ} → Edits us m s (put-words vs w r (n + 1) 1 p) → Edits us m s (text-edit y ws)
+    unfolding text-edit
+    text-edits e = rw (put, h .tags, add-one, h .degree, h .plan, h .widths, h .up-is) at e
