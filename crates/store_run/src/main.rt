@@ -1,0 +1,196 @@
+// Runs every entry, and meets every refusal from 1 to 11. What it writes is compared with the file stdout, which is worked
+// out by hand from document 01.
+use libc::STDOUT_FILENO;
+use store_types::Answer;
+use store_types::HeldPair;
+use store_types::HoldReply;
+use store_types::InsertReply;
+use store_types::Label;
+use store_types::ListReply;
+use store_types::LoadReply;
+use store_types::MarkReply;
+use store_types::QuestionReply;
+use store_types::TagId;
+
+fn number(n: u32) {
+    io::write_all(STDOUT_FILENO, b" ");
+    io::print_decimal(STDOUT_FILENO, n as u64);
+}
+
+fn end() {
+    io::write_all(STDOUT_FILENO, b"\n");
+}
+
+fn refused(k: u32) {
+    io::write_all(STDOUT_FILENO, b" no");
+    number(k);
+    end();
+}
+
+fn load(s: u32, r: u32, kinds: &[u8], words: &mut [u32]) {
+    io::write_all(STDOUT_FILENO, b"load");
+    match store::load(s, r, 7, kinds, words) {
+        LoadReply::Loaded { tags, height } => {
+            number(tags);
+            number(height);
+            end();
+        }
+        LoadReply::Refused(k) => refused(k),
+    }
+}
+
+fn insert(kind: u8, place: TagId, words: &mut [u32]) {
+    io::write_all(STDOUT_FILENO, b"insert");
+    match store::insert(kind, place, words) {
+        InsertReply::Inserted {
+            first,
+            moved,
+            split,
+        } => {
+            number(first.0);
+            number(moved);
+            number(split);
+            end();
+        }
+        InsertReply::Refused(k) => refused(k),
+    }
+}
+
+fn mark(tag: TagId, words: &mut [u32]) {
+    io::write_all(STDOUT_FILENO, b"mark");
+    match store::mark(tag, words) {
+        MarkReply::Marked(n) => {
+            number(n);
+            end();
+        }
+        MarkReply::Refused(k) => refused(k),
+    }
+}
+
+fn hold(tag: TagId, words: &[u32]) {
+    io::write_all(STDOUT_FILENO, b"hold");
+    match store::hold(tag, words) {
+        HoldReply::Held(p) => {
+            number(p.book);
+            number(p.tag.0);
+            number(p.start.0);
+            number(p.end.0);
+            end();
+        }
+        HoldReply::Refused(k) => refused(k),
+    }
+}
+
+fn ask(book: u32, tag: u32, start: u32, last: u32, d: u32, words: &[u32]) {
+    io::write_all(STDOUT_FILENO, b"ask");
+    let pair = HeldPair {
+        book,
+        tag: TagId(tag),
+        start: Label(start),
+        end: Label(last),
+    };
+    match store::question(pair, TagId(d), words) {
+        QuestionReply::Answered(a) => {
+            match a {
+                Answer::Yes => io::write_all(STDOUT_FILENO, b" yes"),
+                Answer::No => io::write_all(STDOUT_FILENO, b" no, not inside"),
+                Answer::Stale => io::write_all(STDOUT_FILENO, b" stale"),
+            }
+            ;
+            end();
+        }
+        QuestionReply::Refused(k) => refused(k),
+    }
+}
+
+fn show(tags: &[u32], labels: &[u32], n: usize) {
+    let mut i: usize = 0;
+    while i < n {
+        if tags.len() <= i {
+            return;
+        }
+        if labels.len() <= i {
+            return;
+        }
+        number(tags[i]);
+        number(labels[i]);
+        i += 1;
+    }
+}
+
+fn list(begin: TagId, words: &[u32], tags: &mut [u32], labels: &mut [u32]) {
+    io::write_all(STDOUT_FILENO, b"list");
+    match store::list(begin, words, tags, labels) {
+        ListReply::Listed(n) => {
+            number(n);
+            show(tags, labels, n as usize);
+            end();
+        }
+        ListReply::Refused(k) => refused(k),
+    }
+}
+
+// The printed case of document 01, with the pairs of specimens H, I and J held before it.
+fn printed() {
+    let mut words = [0u32; 56];
+    let mut tags = [0u32; 8];
+    let mut labels = [0u32; 8];
+    load(2, 2, b"\x01\x01\x02\x01\x02\x02", &mut words);
+    hold(TagId(3), &words);
+    hold(TagId(1), &words);
+    hold(TagId(0), &words);
+    insert(3, TagId(2), &mut words);
+    ask(7, 3, 4, 6, 6, &words);
+    ask(7, 0, 0, 7, 6, &words);
+    insert(3, TagId(2), &mut words);
+    ask(7, 1, 1, 3, 6, &words);
+    ask(7, 0, 0, 7, 6, &words);
+    list(TagId::NONE, &words, &mut tags, &mut labels);
+    list(TagId(0), &words, &mut tags, &mut labels);
+    insert(3, TagId::NONE, &mut words);
+}
+
+// Refusals, each at least once, in a store for 3 tags.
+fn refusals() {
+    let mut words = [0u32; 26];
+    let mut tags = [0u32; 2];
+    let mut labels = [0u32; 3];
+    hold(TagId(0), &words[..7]);
+    mark(TagId::NONE, &mut words);
+    load(1, 2, b"", &mut words);
+    load(2, 2, b"\x03\x03\x03\x03", &mut words);
+    load(2, 2, b"\x01\x04", &mut words);
+    load(2, 2, b"\x01\x03", &mut words);
+    load(2, 2, b"\x01\x02", &mut words);
+    insert(2, TagId(9), &mut words);
+    insert(3, TagId(2), &mut words);
+    insert(1, TagId(0), &mut words);
+    mark(TagId(1), &mut words);
+    hold(TagId(1), &words);
+    insert(3, TagId(0), &mut words);
+    list(TagId(2), &words, &mut tags, &mut labels);
+    list(TagId::NONE, &words, &mut tags, &mut labels);
+    ask(8, 0, 0, 2, 2, &words);
+    ask(7, 0, 0, 2, 2, &words);
+    mark(TagId(2), &mut words);
+    ask(7, 0, 0, 2, 2, &words);
+    mark(TagId(2), &mut words);
+    mark(TagId(0), &mut words);
+    ask(7, 0, 0, 2, 1, &words);
+    hold(TagId(1), &words);
+}
+
+// Specimens K and L: labels run out.
+fn limits() {
+    let mut words = [0u32; 776];
+    let kinds = [3u8; 128];
+    load(16, 2, &kinds[..127], &mut words);
+    load(16, 2, &kinds, &mut words);
+    load(12, 2, &kinds, &mut words);
+}
+
+fn main() {
+    printed();
+    refusals();
+    limits();
+}
