@@ -20,9 +20,9 @@ use Rattle.calls_laws.proofs.WordSteps.{length-in-front}
 use Rattle.edit_model.specs.Image.{Image, image-header, image-record, image-words}
 use Rattle.edit_model.proofs.Fields.{fields-tell}
 use Rattle.edit_model.proofs.Image.{Proper, length-image, image-field, image-header-word}
-use Rattle.store_load.specs.Tags.{next-number, prior-number, facts-new, Tags-written}
+use Rattle.load_tags.specs.Tags.{next-number, prior-number, facts-new, Tags-written}
 use Rattle.store_load.specs.Labels.{first-number, header-new}
-use Rattle.store_load.proofs.Row.{count-new}
+use Rattle.load_tags.proofs.Row.{count-new}
 
 abbrev pub blank : (s r h number : ℕ) → (kinds : List ℕ) → Image
 blank s r h b cs =

@@ -1,8 +1,3 @@
-pub mod KindsSeen
-pub mod Height
-pub mod OneTag
-pub mod Filled
-pub mod Row
 pub mod Header
 pub mod Tables
 pub mod Blank

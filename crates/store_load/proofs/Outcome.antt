@@ -25,11 +25,11 @@ use Rattle.calls_laws.proofs.WordSteps.{length-in-front}
 use Rattle.walk.specs.Needs.{power-fits}
 use Rattle.edit_model.specs.Image.{image-words}
 use Rattle.edit_model.proofs.Image.{length-image}
-use Rattle.store_load.specs.Refusals.{kinds-refusal, refusal-before}
-use Rattle.store_load.specs.Tags.{Tags-fit, Tags-written}
+use Rattle.load_refuse.specs.Refusals.{kinds-refusal, refusal-before}
+use Rattle.load_tags.specs.Tags.{Tags-fit, Tags-written}
 use Rattle.store_load.specs.Labels.{header-new, Labels-fit, labels-written}
-use Rattle.store_load.proofs.Height.{leaves-enough}
-use Rattle.store_load.proofs.Row.{count-new}
+use Rattle.load_refuse.proofs.Height.{leaves-enough}
+use Rattle.load_tags.proofs.Row.{count-new}
 use Rattle.store_load.proofs.Blank.{blank, blank-words}
 use Rattle.store_load.proofs.Loaded.{row-there, loaded-words}
 

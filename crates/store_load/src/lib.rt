@@ -1,6 +1,4 @@
 // Load: validates first, then writes (document 01, "Calls and their replies"). Any old content is accepted.
-mod refusals;
-mod tags;
 
 ghost use mathlib.Core.Path.{_≡_};
 ghost use Prim.Native.Nat.{_≤_};
@@ -61,19 +59,19 @@ pub fn load(s: u32, r: u32, book: u32, kinds: &[u8], words: &mut [u32]) -> LoadR
     ensures reply { λ q. ⌜ q ≡ load-reply s r book (now (kinds .entry)) (now (words .entry)) ⌝ }
     ensures words { λ _. ⌜ now (words .exit) ≡ load-words s r book (now (kinds .entry)) (now (words .entry)) ⌝ }
 {
-    let refused = refusals::refused(words.len(), s, r, kinds);
+    let refused = load_refuse::refused(words.len(), s, r, kinds);
     if refused != 0 {
         return LoadReply::Refused(refused);
     }
     let n = kinds.len() as u32;
-    let under = refusals::load_under(n as u64, r as u64);
+    let under = load_refuse::load_under(n as u64, r as u64);
     let h = under + 1;
     // The last refusal goes by the height; nothing has been written yet.
     if !walk::power_fits((s as u64) * (r as u64) - 1, h) {
         return LoadReply::Refused(7);
     }
     write_header(words, s, r, h, n, book);
-    tags::write_tags(words, kinds);
+    load_tags::write_tags(words, kinds);
     write_labels(words, s, r, n, under as usize);
     LoadReply::Loaded { tags: n, height: h }
 }

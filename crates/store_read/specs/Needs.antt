@@ -1,15 +1,7 @@
--- What the functions behind the calls need of words, and what they find there. Assumes nothing: these are definitions.
-use mathlib.Core.Path.{_≡_}
-use mathlib.Core.Bool.{true, not, cond}
-use mathlib.Core.List.{List, [], _∷_}
-use Prim.Native.Nat.{ℕ, _≤_, _<_}
-use lib.Dec.{leb, eqb}
-use lib.ListN.{getD}
-use lib.Seq.{slice}
-use Rattle.store_types.specs.Limits.{no-tag}
-use Rattle.store_types.specs.declared.HeldPair.{HeldPair}
-use Rattle.calls.specs.Kind.{is-begin}
-use Rattle.calls.specs.Store.{Store, fact, count, row, place-of, next-in}
+-- What the functions behind the calls need of words. Assumes nothing: these are definitions.
+use mathlib.Core.List.{List}
+use Prim.Native.Nat.{ℕ, _<_}
+use Rattle.calls.specs.Store.{count}
 use Rattle.calls.specs.Words.{Says}
 use Rattle.calls.specs.Replies.{said}
 
@@ -17,45 +9,3 @@ use Rattle.calls.specs.Replies.{said}
 pub record Tag-said (ws : List ℕ) (x : ℕ) : Type 0 where
   pub says : Says ws (said ws)
   pub tag : x < count (said ws)
-
--- words that say a store, a pair of this store's book and of a begin, and a tag
-pub record Pair-asked (ws : List ℕ) (p : HeldPair) (d : ℕ) : Type 0 where
-  pub section : Tag-said ws (p .tag .0)
-  pub other : Tag-said ws d
-  pub book : p .book ≡ said ws .number
-  pub begins : is-begin (fact (said ws) (p .tag .0) .kind) ≡ true
-
--- a tag that stands in the row, or no tag, which stands behind the last
-abbrev pub Stands : Store → (tag : ℕ) → Type 0
-Stands st x = getD (row st) (place-of st x) no-tag ≡ x
-
--- words that say a store, and two that stand in its row, the second not before the first
-pub record Span-said (ws : List ℕ) (x y : ℕ) : Type 0 where
-  pub says : Says ws (said ws)
-  pub from : Stands (said ws) x
-  pub to : Stands (said ws) y
-  pub order : place-of (said ws) x ≤ place-of (said ws) y
-
--- the unmarked tags of a row, and those from one tag up to another
-unfoldable pub unmarked : Store → List ℕ → List ℕ
-unmarked st [] = []
-unmarked st (d ∷ ds) = let rest = unmarked st ds in cond (fact st d .marked) rest (d ∷ rest)
-
-unfoldable pub unmarked-between : Store → (x y : ℕ) → List ℕ
-unmarked-between st x y = unmarked st (slice (place-of st x) (place-of st y) (row st))
-
--- 8, 9 and 10 of list, else a number (1 and 2 are the words', 11 the lent lists'); the front is allowed
-unfoldable pub inside-else : (section : ℕ) → Store → (number : ℕ) → ℕ
-inside-else x st k =
-    cond (eqb x no-tag) k (cond (leb (count st) x) 8 (cond (fact st x .marked) 9 (cond (not (is-begin (fact st x .kind))) 10 k)))
-
-unfoldable pub inside-refusal : (section : ℕ) → Store → ℕ
-inside-refusal x st = inside-else x st 0
-
--- where a listing starts: the first tag of the book, or the tag behind a begin; where it stops: behind the last tag, or at
--- the begin's mate
-unfoldable pub first-inside : (section : ℕ) → Store → ℕ
-first-inside x st = cond (eqb x no-tag) (getD (row st) 0 no-tag) (next-in (row st) x)
-
-unfoldable pub stop-of : (section : ℕ) → Store → ℕ
-stop-of x st = cond (eqb x no-tag) no-tag (fact st x .mate)

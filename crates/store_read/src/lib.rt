@@ -1,8 +1,4 @@
-// The calls that write no word of the store: hold and the held-pair question (held), list (listing); and the refusals
-// that every call but load begins with (document 01, "Calls and their replies").
-pub mod held;
-pub mod listing;
-
+// The refusals that every call but load begins with (document 01, "Calls and their replies").
 ghost use mathlib.Core.Path.{_≡_};
 ghost use Rattle.calls.specs.Mark.{section-refusal};
 ghost use Rattle.calls.specs.Replies.{refusal-over};

@@ -1,0 +1,2 @@
+pub mod KindsSeen
+pub mod Height

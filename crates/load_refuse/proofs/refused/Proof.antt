@@ -1,0 +1,74 @@
+-- `load_refuse::refused` meets its contract: each test as the definition has it, in its order. Assumes nothing.
+use mathlib.Core.Path.{_≡_, sym, _∙_}
+use mathlib.Core.Bool.{true, _&&_}
+use borrow.Author.Tests.{lt-ltb, le-ltb, not-true, not-false}
+use lib.Dec.{leb}
+use Rattle.calls.specs.Sound.{degrees-fit}
+use Rattle.calls.specs.Load.{words-for}
+use Rattle.walk.specs.Needs.{degree-fits}
+use Rattle.load_refuse.specs.Refusals.{refusal-before}
+use borrow.Author.Needs.{needs}
+use Rattle.load_refuse.proofs.refused.Statement.{statement}
+use Rattle.load_refuse.proofs.refused.Tie as tie
+
+degree-fits-requires : tie.Need-degree-fits-requires
+degree-fits-requires c κs = search needs
+
+returns : tie.Need-returns
+unfolding refusal-before degrees-fit degree-fits words-for
+returns c = rw (sym (c .before .degree-fits .ensures) ∙ not-true _ (c .if1 .taken))
+
+degree-fits-requires-2 : tie.Need-degree-fits-requires-2
+degree-fits-requires-2 c κs = search needs
+
+-- s and r have passed
+s-fits : (c : tie.Else1) → (leb 2 (c .before .before .before .args .s) && leb (c .before .before .before .args .s) 16) ≡ true
+unfolding degree-fits
+s-fits c = sym (c .before .degree-fits .ensures) ∙ not-false _ (c .if1 .left)
+
+r-fits : (c : tie.Else2) →
+    (leb 2 (c .before .before .before .before .before .args .r) && leb (c .before .before .before .before .before .args .r) 16) ≡ true
+unfolding degree-fits
+r-fits c = sym (c .before .degree-fits2 .ensures) ∙ not-false _ (c .if2 .left)
+
+returns-2 : tie.Need-returns-2
+unfolding refusal-before degrees-fit degree-fits words-for
+returns-2 c = rw (s-fits (c .before .before), sym (c .before .degree-fits2 .ensures) ∙ not-true _ (c .if2 .taken))
+
+returns-3 : tie.Need-returns-3
+unfolding refusal-before degrees-fit degree-fits words-for
+returns-3 c = rw (s-fits (c .before .before .before), r-fits (c .before), lt-ltb _ _ (c .if3 .taken))
+
+mul-if4 : tie.Need-mul-if4
+mul-if4 c = search needs
+
+add-if4 : tie.Need-add-if4
+add-if4 c = search needs
+
+returns-4 : tie.Need-returns-4
+unfolding refusal-before degrees-fit degree-fits words-for
+returns-4 c =
+    rw (s-fits (c .before .before .before .before), r-fits (c .before .before), le-ltb _ _ (c .before .if3 .left), lt-ltb _ _ (c .if4 .taken))
+
+kinds-refused-requires : tie.Need-kinds-refused-requires
+kinds-refused-requires c κs = search needs
+
+returns-5 : tie.Need-returns-5
+unfolding refusal-before degrees-fit degree-fits words-for
+returns-5 c =
+    rw (s-fits (c .before .before .before .before .before), r-fits (c .before .before .before), le-ltb _ _ (c .before .before .if3 .left), le-ltb _ _ (c .before .if4 .left)) (c .kinds-refused .ensures)
+
+pub refused-spec : {M : Type 1} → statement M
+refused-spec =
+    tie.close
+    (tie.spec
+    degree-fits-requires
+    returns
+    degree-fits-requires-2
+    returns-2
+    returns-3
+    mul-if4
+    add-if4
+    returns-4
+    kinds-refused-requires
+    returns-5)

@@ -1,0 +1,100 @@
+// What load refuses before it writes (document 01, "Calls and their replies"), and the height that it takes.
+ghost use mathlib.Core.Path.{_≡_};
+ghost use Prim.Native.Nat.{_<_, _≤_};
+ghost use lib.ListN.{length, drop};
+ghost use Rattle.tree.specs.Book.{load-under as least-under};
+ghost use Rattle.calls.specs.Kind.{is-kind};
+ghost use Rattle.load_refuse.specs.Refusals.{Height-fits, kinds-refusal, rest-refusal, depth-behind, refusal-before};
+
+// 1 begin, 2 end, 3 text.
+fn is_a_kind(kind: u8) -> bool
+    ensures { λ t. ⌜ t ≡ is-kind kind ⌝ }
+{
+    1 <= kind && kind <= 3
+}
+
+// 4 where a kind from there on is none, else 5: an end before them closes no begin.
+fn rest_refused(kinds: &[u8], from: usize) -> u32
+    requires { ⌜ from ≤ length (now kinds) ⌝ }
+    ensures { λ q. ⌜ q ≡ rest-refusal (drop from (now (kinds .entry))) ⌝ }
+{
+    let mut i = from;
+    while i < kinds.len() {
+        if !is_a_kind(kinds[i]) {
+            return 4;
+        }
+        i += 1;
+    }
+    5
+}
+
+// How many begins are open behind a kind.
+fn depth_after(depth: usize, kind: u8) -> usize
+    requires { ⌜ (depth < 9223372036854775808) × (kind ≡ 2 → 1 ≤ depth) ⌝ }
+    ensures { λ d. ⌜ d ≡ depth-behind depth kind ⌝ }
+{
+    if kind == 1 {
+        return depth + 1;
+    }
+    if kind == 2 {
+        return depth - 1;
+    }
+    depth
+}
+
+// 4 and 5: a kind that is none, kinds that do not nest; 0 where there is neither.
+fn kinds_refused(kinds: &[u8]) -> u32
+    ensures { λ q. ⌜ q ≡ kinds-refusal 0 (now (kinds .entry)) ⌝ }
+{
+    let mut depth: usize = 0;
+    let mut i: usize = 0;
+    while i < kinds.len() {
+        let kind = kinds[i];
+        if !is_a_kind(kind) {
+            return 4;
+        }
+        if kind == 2 && depth == 0 {
+            // 4 comes before 5, so the kinds that are left decide.
+            return rest_refused(kinds, i + 1);
+        }
+        depth = depth_after(depth, kind);
+        i += 1;
+    }
+    if depth != 0 {
+        return 5;
+    }
+    0
+}
+
+// 3, 6, 1, 4 and 5, in this order; 0 where there is none of them.
+pub fn refused(room: usize, s: u32, r: u32, kinds: &[u8]) -> u32
+    ensures { λ q. ⌜ q ≡ refusal-before room s r (now (kinds .entry)) ⌝ }
+{
+    if !walk::degree_fits(s) {
+        return 3;
+    }
+    if !walk::degree_fits(r) {
+        return 3;
+    }
+    if 200000 < kinds.len() {
+        return 6;
+    }
+    if room < 8 + 6 * kinds.len() {
+        return 1;
+    }
+    kinds_refused(kinds)
+}
+
+// The height of the root's children: the smallest h with n < 2 r^(h + 1).
+pub fn load_under(n: u64, r: u64) -> u32
+    requires { ⌜ Height-fits n r ⌝ }
+    ensures { λ h. ⌜ h ≡ least-under r n ⌝ }
+{
+    let mut h: u32 = 0;
+    let mut p = 2 * r;
+    while p <= n {
+        p = p * r;
+        h += 1;
+    }
+    h
+}

@@ -1,0 +1,3 @@
+pub mod OneTag
+pub mod Filled
+pub mod Row

@@ -1,0 +1,43 @@
+-- `load_tags::write_place` meets its contract. Assumes nothing.
+use Rattle.load_tags.specs.Tags.{place-written}
+use borrow.Author.Needs.{needs}
+use Rattle.load_tags.proofs.write_place.Statement.{statement}
+use Rattle.load_tags.proofs.write_place.Tie as tie
+
+set-label-requires : tie.Need-set-label-requires
+set-label-requires c κs = search needs
+
+set-kind-requires : tie.Need-set-kind-requires
+set-kind-requires c κs = search needs
+
+next-tag-requires : tie.Need-next-tag-requires
+next-tag-requires c κs = search needs
+
+set-next-requires : tie.Need-set-next-requires
+set-next-requires c κs = search needs
+
+prior-tag-requires : tie.Need-prior-tag-requires
+prior-tag-requires c κs = search needs
+
+set-prior-requires : tie.Need-set-prior-requires
+set-prior-requires c κs = search needs
+
+same-length : tie.Need-same-length
+same-length c = search needs
+
+returns : tie.Need-returns
+unfolding place-written
+returns c = cc
+
+pub write-place-spec : {M : Type 1} → statement M
+write-place-spec =
+    tie.close
+    (tie.spec
+    set-label-requires
+    set-kind-requires
+    next-tag-requires
+    set-next-requires
+    prior-tag-requires
+    set-prior-requires
+    same-length
+    returns)

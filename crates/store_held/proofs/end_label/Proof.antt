@@ -1,0 +1,21 @@
+-- `store_held::end_label` meets its contract: the mate of a tag is a tag. Assumes nothing.
+use mathlib.Core.Path.{_∙_}
+use native.Mathlib.Omega.{arith}
+use Rattle.store_held.proofs.end_label.Statement.{statement}
+use Rattle.store_held.proofs.end_label.Tie as tie
+use Rattle.store_read.proofs.Laws.{room, words-of-tag, mate-of-tag}
+
+mate-of-requires : tie.Need-mate-of-requires
+mate-of-requires c κs = room (c .before .pre) 3 (omega arith)
+
+label-of-requires : tie.Need-label-of-requires
+label-of-requires c κs =
+    let h = c .before .before .pre in rw (c .mate-of .ensures ∙ words-of-tag h .mate-word) (room (mate-of-tag h) 0 (omega arith))
+
+returns : tie.Need-returns
+returns c =
+    let h = c .before .before .before .pre in
+    c .label-of .ensures ∙ rw (c .before .mate-of .ensures ∙ words-of-tag h .mate-word) (words-of-tag (mate-of-tag h) .label-word)
+
+pub end-label-spec : {M : Type 1} → statement M
+end-label-spec = tie.close (tie.spec mate-of-requires label-of-requires returns)

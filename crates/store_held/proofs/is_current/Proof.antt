@@ -1,0 +1,44 @@
+-- `store_held::is_current` meets its contract. Assumes nothing.
+use mathlib.Core.Path.{sym, _∙_}
+use native.Mathlib.Omega.{arith}
+use Rattle.store_held.proofs.is_current.Statement.{statement}
+use Rattle.store_held.proofs.is_current.Tie as tie
+use Rattle.store_read.proofs.Laws.{room}
+use Rattle.store_held.proofs.Pairs.{start-moved, end-moved, unmoved}
+
+label-of-requires : tie.Need-label-of-requires
+label-of-requires c κs = room (c .before .before .pre) 0 (omega arith)
+
+end-label-requires : tie.Need-end-label-requires
+end-label-requires c κs = c .before .before .before .pre
+
+returns : tie.Need-returns
+returns c =
+    let e = c .before .before .before in
+    sym (start-moved _ _ (e .before .before .before .before .pre) (λ same. c .if1 .taken (e .before .label-of .ensures ∙ sym same)))
+
+returns-2 : tie.Need-returns-2
+returns-2 c =
+    let e = c .before .before .before .before .before .before in sym (end-moved _ _ (e .before .before .before .before .pre) (λ same. c .if2 .taken (e .end-label .ensures ∙ sym same)))
+
+kind-of-requires : tie.Need-kind-of-requires
+kind-of-requires c κs = room (c .before .before .before .before .before .before .before .before .before .before .pre) 5 (omega arith)
+
+returns-3 : tie.Need-returns-3
+returns-3 c =
+    let e = c .before .before .before .before .before .before .before in
+    rw (c .kind-of .ensures)
+    (sym
+    (unmoved _ _ (e .before .before .before .before .pre) (sym (c .before .before .before .before .if1 .left) ∙ e .before .label-of .ensures)
+    (sym (c .before .if2 .left) ∙ e .end-label .ensures)))
+
+pub is-current-spec : {M : Type 1} → statement M
+is-current-spec =
+    tie.close
+    (tie.spec
+    label-of-requires
+    end-label-requires
+    returns
+    returns-2
+    kind-of-requires
+    returns-3)

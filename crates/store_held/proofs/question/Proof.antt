@@ -1,0 +1,80 @@
+-- `store_held::question` meets its contract. Assumes nothing.
+use borrow.Author.Needs.{needs}
+use borrow.Author.Tests.{leb-true, leb-false}
+use mathlib.Core.Path.{sym, _∙_}
+use mathlib.Core.Logic.{⊎-elim, inl, inr}
+use native.Mathlib.Omega.{arith}
+use Rattle.calls.specs.Words.{Says}
+use Rattle.calls.specs.Replies.{said}
+use Rattle.store_read.specs.Needs.{Tag-said}
+use Rattle.store_held.proofs.question.Statement.{statement}
+use Rattle.store_held.proofs.question.Tie as tie
+use Rattle.store_read.proofs.Laws.{accepted-says, header-room, tag-below, room}
+use Rattle.store_held.proofs.Pairs.{question-refused, other-book, no-such-tag, not-begin, pair-asked}
+
+-- the words say a store; the pair's tag and the other are tags of it
+says : (c : tie.Else1) → let ws = c .before .before .before .args .words .now in Says ws (said ws)
+says c = accepted-says _ _ (sym (c .before .words-refused .ensures) ∙ c .if1 .left)
+
+section-tag : (c : tie.Else3) → let a = c .before .before .before .before .before .before .before .before .before .before .args in Tag-said (a .words .now) (a .pair .tag .0)
+section-tag c = tag-below _ (says (c .before .before .before .before .before .before .before)) _ (c .if3 .left)
+
+other-tag : (c : tie.Else4) → let a = c .before .before .before .before .before .before .before .before .before .before .before .before .before .args in Tag-said (a .words .now) (a .tag .0)
+other-tag c = tag-below _ (section-tag (c .before .before .before) .says) _ (leb-false _ _ (c .if4 .left))
+
+words-refused-requires : tie.Need-words-refused-requires
+words-refused-requires c κs = search needs
+
+returns : tie.Need-returns
+returns c = question-refused _ _ _ _ (c .before .words-refused .ensures) (c .if1 .taken)
+
+shared-slice-read-if2 : tie.Need-shared-slice-read-if2
+shared-slice-read-if2 c = omega (arith, header-room _ (says (c .before)))
+
+returns-2 : tie.Need-returns-2
+returns-2 c = other-book _ _ _ (says (c .before .before .before)) (c .if2 .taken)
+
+shared-slice-read-if3 : tie.Need-shared-slice-read-if3
+shared-slice-read-if3 c = omega (arith, header-room _ (says (c .before .before .before .before .before)))
+
+shared-slice-read-if4 : tie.Need-shared-slice-read-if4
+shared-slice-read-if4 c = omega (arith, header-room _ (section-tag (c .before) .says))
+
+returns-3 : tie.Need-returns-3
+returns-3 c =
+    no-such-tag _ _ _ (says (c .before .before .before .before .before .before .before)) (c .before .before .before .before .if2 .left)
+    (⊎-elim (λ w. inl (w .taken)) (λ w. inr (leb-true _ _ (w .3 .taken))) (c .if3 .came))
+
+kind-of-requires : tie.Need-kind-of-requires
+kind-of-requires c κs = room (section-tag (c .before .before .before)) 5 (omega arith)
+
+returns-4 : tie.Need-returns-4
+returns-4 c =
+    let e = c .before .before in
+    not-begin _ _ _ (section-tag (e .before .before .before)) (other-tag e) (e .before .before .before .before .before .before .before .if2 .left)
+    (rw (c .before .kind-of .ensures) at (c .if5 .taken))
+
+answer-requires : tie.Need-answer-requires
+answer-requires c κs =
+    let e = c .before .before in
+    pair-asked _ _ _ (section-tag (e .before .before .before)) (other-tag e) (e .before .before .before .before .before .before .before .if2 .left)
+    (rw (c .before .kind-of .ensures) at (c .if5 .left))
+
+returns-5 : tie.Need-returns-5
+returns-5 c = search needs
+
+pub question-spec : {M : Type 1} → statement M
+question-spec =
+    tie.close
+    (tie.spec
+    words-refused-requires
+    returns
+    shared-slice-read-if2
+    returns-2
+    shared-slice-read-if3
+    shared-slice-read-if4
+    returns-3
+    kind-of-requires
+    returns-4
+    answer-requires
+    returns-5)

@@ -1,0 +1,5 @@
+pub mod Along
+pub mod ListRefusals
+pub mod Listed
+pub mod ListReplies
+pub mod Passes

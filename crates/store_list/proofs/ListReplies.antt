@@ -1,0 +1,63 @@
+-- What list replies and leaves in the lent lists. Assumes nothing.
+use mathlib.Core.Path.{_≡_, refl, sym, _∙_}
+use mathlib.Core.Bool.{_||_, cond, or-true}
+use mathlib.Core.List.{List, map}
+use mathlib.Core.Logic.{_⊎_, inl, inr}
+use Prim.Native.Nat.{ℕ, zero, suc, _≤_, _<_}
+use native.Mathlib.Omega.{arith}
+use borrow.Author.Tests.{lt-ltb, le-ltb}
+use lib.Dec.{ltb}
+use lib.ListN.{length}
+use Rattle.store_types.specs.declared.ListReply.{ListReply}
+use Rattle.store_types.specs.declared.ListReply.the-variants.{Listed, Refused}
+use Rattle.calls.specs.Store.{label}
+use Rattle.calls.specs.Listing.{listed-tags, listed-labels, list-refusal}
+use Rattle.calls.specs.Words.{in-front}
+use Rattle.calls.specs.Replies.{refusal-over, said, written, list-outcome, list-refused, list-reply, list-tags, list-labels}
+use Rattle.store_list.specs.Needs.{unmarked-between, inside-refusal, first-inside, stop-of}
+use Rattle.store_read.proofs.Laws.{refused-first, refused-said, accepted-says, accepted-store}
+use Rattle.store_list.proofs.ListRefusals.{list-refused-first, list-refused-last}
+use Rattle.store_list.proofs.Listed.{listed-is}
+
+-- the reply, and the two lists afterwards
+abbrev pub Replied : ListReply → (x : ℕ) → (ws ts ls after-ts after-ls : List ℕ) → Type 0
+Replied q x ws ts ls us vs = (q ≡ list-reply x ws ts ls) × ((us ≡ list-tags x ws ts ls) × (vs ≡ list-labels x ws ts ls))
+
+-- REFUSED, before 11 and with 11
+refuses : (k n : ℕ) (us vs ts ls : List ℕ) → (k ≡ 0 → ⊥) → (Refused k ≡ list-outcome k n) × ((ts ≡ written k us ts) × (ls ≡ written k vs ls))
+unfolding list-outcome written
+refuses zero n us vs ts ls m = absurd (m refl)
+refuses (suc k) n us vs ts ls m = (refl, (refl, refl))
+
+module _ (ws : List ℕ) (x : ℕ) (ts ls : List ℕ) where
+  refused-by : (k : ℕ) → k ≡ list-refused x ws ts ls → (k ≡ 0 → ⊥) → Replied (Refused k) x ws ts ls ts ls
+  unfolding list-reply list-tags list-labels
+  refused-by k e n = rw (← e) (refuses k (length (listed-tags x (said ws))) (listed-tags x (said ws)) (listed-labels x (said ws)) ts ls n)
+
+  pub list-refuses : (k : ℕ) → k ≡ refusal-over ws (inside-refusal x) → (k ≡ 0 → ⊥) → Replied (Refused k) x ws ts ls ts ls
+  unfolding list-refused
+  list-refuses k e n =
+      refused-by k
+      (refused-first ws (inside-refusal x) (list-refusal (length ts) (length ls) x) k (λ st. list-refused-first (length ts) (length ls) x st) e n) n
+
+  -- ACCEPTED but for 11, with the passes from a to b
+  module _ (e : refusal-over ws (inside-refusal x) ≡ 0) (a b : ℕ) (starts : a ≡ first-inside x (said ws)) (stops : b ≡ stop-of x (said ws)) where
+    tags-are : listed-tags x (said ws) ≡ unmarked-between (said ws) a b
+    tags-are = rw (starts, stops) (listed-is ws x e)
+
+    or-short : list-refused x ws ts ls ≡
+        cond (ltb (length ts) (length (unmarked-between (said ws) a b)) || ltb (length ls) (length (unmarked-between (said ws) a b))) 11 0
+    unfolding list-refused
+    or-short =
+        refused-said ws (list-refusal (length ts) (length ls) x) (accepted-says ws (inside-refusal x) e)
+        ∙ (list-refused-last (length ts) (length ls) x (said ws) (accepted-store ws (inside-refusal x) e) ∙ rw tags-are)
+
+    pub list-short : (n : ℕ) → n ≡ length (unmarked-between (said ws) a b) → (length ts < n) ⊎ (length ls < n) → Replied (Refused 11) x ws ts ls ts ls
+    list-short n m (inl l) = refused-by 11 (sym (or-short ∙ rw (← m, lt-ltb (length ts) n l))) (λ z. omega arith)
+    list-short n m (inr l) = refused-by 11 (sym (or-short ∙ rw (← m, lt-ltb (length ls) n l, or-true (ltb (length ts) n)))) (λ z. omega arith)
+
+    pub list-lists : (n : ℕ) → n ≡ length (unmarked-between (said ws) a b) → n ≤ length ts → n ≤ length ls →
+        Replied (Listed n) x ws ts ls (in-front (unmarked-between (said ws) a b) ts) (in-front (map (label (said ws)) (unmarked-between (said ws) a b)) ls)
+    unfolding list-reply list-tags list-labels list-outcome written listed-labels
+    list-lists n m t l =
+        rw (or-short, ← m, le-ltb (length ts) n t, le-ltb (length ls) n l, tags-are) (rw m, (refl, refl))

@@ -1,0 +1,18 @@
+-- `store_list::count_unmarked` meets its contract. Assumes nothing.
+use native.Mathlib.Omega.{arith}
+use Rattle.store_list.proofs.count_unmarked.Statement.{statement}
+use Rattle.store_list.proofs.count_unmarked.Tie as tie
+use Rattle.store_read.proofs.Laws.{room}
+use Rattle.store_list.proofs.Along.{one-marked, one-unmarked}
+
+kind-of-requires : tie.Need-kind-of-requires
+kind-of-requires c κs = room (c .before .pre) 5 (omega arith)
+
+returns : tie.Need-returns
+returns c = rw (one-marked (c .before .before .before .pre) (rw (c .before .kind-of .ensures) at (c .if1 .taken)))
+
+returns-2 : tie.Need-returns-2
+returns-2 c = rw (one-unmarked (c .before .before .before .pre) (rw (c .before .kind-of .ensures) at (c .if1 .left)))
+
+pub count-unmarked-spec : {M : Type 1} → statement M
+count-unmarked-spec = tie.close (tie.spec kind-of-requires returns returns-2)
