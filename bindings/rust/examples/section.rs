@@ -1,0 +1,73 @@
+//! A session on one section of a book: it holds the section's pair of labels, shows it with a write, finds it stale once the
+//! book has been relabelled, and holds it again. Then the book is listed, and once more with a part of it marked.
+//!
+//! Writes what examples/section.c of the repository writes.
+
+use vekhturop::{words_for, Answer, HeldPair, Kind, Place, Refusal, Store, Tag, Within};
+
+fn tag(number: u32) -> Tag {
+    Tag::new(number).expect("a tag")
+}
+
+fn insert_text(store: &mut Store, place: Tag) -> Result<(), Refusal> {
+    let reply = store.insert_text(Place::After(place))?;
+    println!(
+        "text {} behind {}: moved {}, split {}",
+        reply.first.number(),
+        place.number(),
+        reply.moved,
+        reply.split
+    );
+    Ok(())
+}
+
+fn hold(store: &Store, section: Tag) -> Result<HeldPair, Refusal> {
+    let pair = store.hold(section)?;
+    println!(
+        "pair of {}: {} {}",
+        pair.tag.number(),
+        pair.start.0,
+        pair.end.0
+    );
+    Ok(pair)
+}
+
+fn ask(store: &Store, pair: &HeldPair, d: Tag) -> Result<(), Refusal> {
+    let says = match store.question(pair, d)? {
+        Answer::No => "no",
+        Answer::Yes => "yes",
+        Answer::Stale => "stale",
+    };
+    println!("{} inside {}: {says}", d.number(), pair.tag.number());
+    Ok(())
+}
+
+fn list(store: &Store) -> Result<(), Refusal> {
+    let all = store.list(Within::Book)?;
+    print!("{} tags:", all.len());
+    for (tag, label) in all {
+        print!(" {}={}", tag.number(), label.0);
+    }
+    println!();
+    Ok(())
+}
+
+fn main() -> Result<(), Refusal> {
+    use Kind::{Begin, End};
+    let mut words = vec![0; words_for(100)];
+    let mut store = Store::new(&mut words);
+    let loaded = store.load(2, 2, 7, &[Begin, Begin, End, Begin, End, End])?;
+    println!("loaded {} tags, height {}", loaded.tags, loaded.height);
+
+    let pair = hold(&store, tag(0))?;
+    insert_text(&mut store, tag(2))?;
+    ask(&store, &pair, tag(6))?;
+    insert_text(&mut store, tag(2))?;
+    ask(&store, &pair, tag(6))?;
+    let pair = hold(&store, tag(0))?;
+    ask(&store, &pair, tag(6))?;
+    list(&store)?;
+
+    println!("marked {}", store.mark(tag(3))?);
+    list(&store)
+}

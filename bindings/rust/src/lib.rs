@@ -1,0 +1,35 @@
+//! A label store for long documents of nested tags: a safe layer over the C interface of the verified store.
+//!
+//! Each tag of a book has a number for life, its [`Tag`], and a [`Label`] for now. Labels rise along the book, so a section
+//! encloses a tag when its two labels lie either side of the tag's. A session holds a section's pair of labels and shows
+//! it with each write; the store answers yes, no, or stale where an insertion has changed them since.
+//!
+//! ```
+//! use vekhturop::{words_for, Answer, Kind, Place, Store, Tag};
+//!
+//! # fn main() -> Result<(), vekhturop::Refusal> {
+//! let mut words = vec![0; words_for(100)];
+//! let mut store = Store::new(&mut words);
+//! store.load(2, 2, 7, &[Kind::Begin, Kind::Text, Kind::End])?;
+//!
+//! let begin = Tag::new(0).unwrap();
+//! let pair = store.hold(begin)?;
+//! let text = store.insert_text(Place::After(begin))?;
+//! if store.question(&pair, text.first)? == Answer::Stale {
+//!     let pair = store.hold(begin)?;
+//!     assert_eq!(store.question(&pair, text.first)?, Answer::Yes);
+//! }
+//! # Ok(())
+//! # }
+//! ```
+
+#![warn(missing_docs)]
+
+mod ffi;
+mod refusal;
+mod store;
+mod types;
+
+pub use refusal::Refusal;
+pub use store::{words_for, Store};
+pub use types::{Answer, HeldPair, Inserted, Kind, Label, Loaded, Place, Tag, Within};

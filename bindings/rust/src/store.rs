@@ -1,0 +1,162 @@
+//! The six calls over lent words.
+
+use crate::ffi;
+use crate::refusal::Refusal;
+use crate::types::{Answer, HeldPair, Inserted, Kind, Label, Loaded, Place, Tag, Within};
+
+/// The words before the first tag's.
+const HEADER: usize = 8;
+/// The words of one tag.
+const RECORD: usize = 6;
+
+/// How many words a store of so many tags needs.
+pub const fn words_for(tags: usize) -> usize {
+    HEADER + RECORD * tags
+}
+
+/// A store over lent words. It keeps nothing outside them: words that were copied, or written to a file and read again,
+/// are the same store. Words that say no sound store are refused by every call but [`Store::load`].
+#[derive(Debug)]
+pub struct Store<'a> {
+    words: &'a mut [u32],
+}
+
+impl<'a> Store<'a> {
+    /// A store over words of any content, with room for `(words.len() - 8) / 6` tags ([`words_for`]).
+    pub fn new(words: &'a mut [u32]) -> Store<'a> {
+        Store { words }
+    }
+
+    /// The words as they stand.
+    pub fn words(&self) -> &[u32] {
+        self.words
+    }
+
+    /// Makes the words a book of these kinds, whatever they held before; its tags are numbered 0, 1, 2 .. in book order.
+    /// `s` and `r`, 2 to 16 each, are the degrees of the tree, `book` is any number of the caller's.
+    pub fn load(&mut self, s: u32, r: u32, book: u32, kinds: &[Kind]) -> Result<Loaded, Refusal> {
+        // SAFETY: both pointers and lengths are those of slices, of which one is lent mutably. A kind is one byte.
+        let reply = unsafe {
+            ffi::vk_load(
+                s,
+                r,
+                book,
+                kinds.as_ptr().cast(),
+                kinds.len(),
+                self.words.as_mut_ptr(),
+                self.words.len(),
+            )
+        };
+        Refusal::check(reply.refusal)?;
+        Ok(Loaded {
+            tags: reply.tags,
+            height: reply.height,
+        })
+    }
+
+    /// Inserts a text.
+    pub fn insert_text(&mut self, place: Place) -> Result<Inserted, Refusal> {
+        self.insert(Kind::Text, place, 0)
+    }
+
+    /// Inserts an element: a begin, and its end right behind it.
+    pub fn insert_element(&mut self, place: Place) -> Result<Inserted, Refusal> {
+        self.insert(Kind::Begin, place, 1)
+    }
+
+    /// Inserts one tag, and `more` behind it.
+    fn insert(&mut self, kind: Kind, place: Place, more: u32) -> Result<Inserted, Refusal> {
+        // SAFETY: the pointer and the length are those of a slice that is lent mutably.
+        let reply = unsafe {
+            ffi::vk_insert(
+                kind as u8,
+                place.number(),
+                self.words.as_mut_ptr(),
+                self.words.len(),
+            )
+        };
+        Refusal::check(reply.refusal)?;
+        Ok(Inserted {
+            first: Tag::issued(reply.first),
+            last: Tag::issued(reply.first + more),
+            moved: reply.moved,
+            split: reply.split,
+        })
+    }
+
+    /// Marks a text, or an element by its begin with all that is inside it; how many tags became marked. Labels stay.
+    pub fn mark(&mut self, tag: Tag) -> Result<u32, Refusal> {
+        // SAFETY: the pointer and the length are those of a slice that is lent mutably.
+        let reply =
+            unsafe { ffi::vk_mark(tag.number(), self.words.as_mut_ptr(), self.words.len()) };
+        Refusal::check(reply.refusal)?;
+        Ok(reply.marked)
+    }
+
+    /// The held pair of an element, by its begin, or of a text.
+    pub fn hold(&self, tag: Tag) -> Result<HeldPair, Refusal> {
+        // SAFETY: the pointer and the length are those of a slice, which the call only reads.
+        let reply = unsafe { ffi::vk_hold(tag.number(), self.words.as_ptr(), self.words.len()) };
+        Refusal::check(reply.refusal)?;
+        Ok(HeldPair {
+            book: reply.book,
+            tag: Tag::issued(reply.tag),
+            start: Label(reply.start),
+            end: Label(reply.end),
+        })
+    }
+
+    /// Whether the element of a held pair encloses a tag; its own two tags are not inside it.
+    pub fn question(&self, pair: &HeldPair, tag: Tag) -> Result<Answer, Refusal> {
+        // SAFETY: the pointer and the length are those of a slice, which the call only reads.
+        let reply = unsafe {
+            ffi::vk_question(
+                pair.book,
+                pair.tag.number(),
+                pair.start.0,
+                pair.end.0,
+                tag.number(),
+                self.words.as_ptr(),
+                self.words.len(),
+            )
+        };
+        Refusal::check(reply.refusal)?;
+        Ok(Answer::of(reply.answer))
+    }
+
+    /// The unmarked tags there with their labels, in book order.
+    pub fn list(&self, within: Within) -> Result<Vec<(Tag, Label)>, Refusal> {
+        // A list has no more tags than were issued, and those have records in the words, or they are refused.
+        let room = self.words.len().saturating_sub(HEADER) / RECORD;
+        let issued = self.words.get(4).map_or(0, |n| room.min(*n as usize));
+        let mut tags = vec![Tag::default(); issued];
+        let mut labels = vec![Label::default(); issued];
+        let count = self.list_into(within, &mut tags, &mut labels)?;
+        Ok(tags.into_iter().zip(labels).take(count).collect())
+    }
+
+    /// The same without allocation: the tags and the labels go into two lent lists, and their number is replied. What
+    /// stands behind them stays.
+    pub fn list_into(
+        &self,
+        within: Within,
+        tags: &mut [Tag],
+        labels: &mut [Label],
+    ) -> Result<usize, Refusal> {
+        // SAFETY: the pointers and lengths are those of slices, of which two are lent mutably and one is only read. A
+        // tag or a label is one word, and the tags written are numbers that the store has issued.
+        let reply = unsafe {
+            ffi::vk_list(
+                within.number(),
+                self.words.as_ptr(),
+                self.words.len(),
+                tags.as_mut_ptr().cast(),
+                tags.len(),
+                labels.as_mut_ptr().cast(),
+                labels.len(),
+            )
+        };
+        Refusal::check(reply.refusal)?;
+        Ok(reply.count as usize)
+    }
+}

@@ -1,0 +1,138 @@
+//! What calls take and reply.
+
+/// A tag's number: it never changes. The order of numbers is that of issue, not that of the book.
+#[derive(Clone, Copy, PartialEq, Eq, PartialOrd, Ord, Hash, Debug, Default)]
+#[repr(transparent)]
+pub struct Tag(u32);
+
+impl Tag {
+    /// The tag of a number; none for 4,294,967,295, which stands for no tag.
+    pub const fn new(number: u32) -> Option<Tag> {
+        match number {
+            NO_TAG => None,
+            _ => Some(Tag(number)),
+        }
+    }
+
+    /// Its number.
+    pub const fn number(self) -> u32 {
+        self.0
+    }
+
+    /// A number that the store has issued.
+    pub(crate) const fn issued(number: u32) -> Tag {
+        Tag(number)
+    }
+}
+
+/// A tag's place at the moment: labels rise along the book, and any insertion may change them.
+#[derive(Clone, Copy, PartialEq, Eq, PartialOrd, Ord, Hash, Debug, Default)]
+#[repr(transparent)]
+pub struct Label(pub u32);
+
+/// What a tag is.
+#[derive(Clone, Copy, PartialEq, Eq, Hash, Debug)]
+#[repr(u8)]
+pub enum Kind {
+    /// The begin of an element.
+    Begin = 1,
+    /// The end of the innermost element that is not ended yet.
+    End = 2,
+    /// A text.
+    Text = 3,
+}
+
+/// Where an insertion goes.
+#[derive(Clone, Copy, PartialEq, Eq, Hash, Debug)]
+pub enum Place {
+    /// Before every tag.
+    Front,
+    /// Right behind a tag: behind a begin, that is inside its element.
+    After(Tag),
+}
+
+/// What is listed.
+#[derive(Clone, Copy, PartialEq, Eq, Hash, Debug)]
+pub enum Within {
+    /// The whole book.
+    Book,
+    /// What stands strictly inside the element of a begin tag.
+    Section(Tag),
+}
+
+/// The reply of a load.
+#[derive(Clone, Copy, PartialEq, Eq, Hash, Debug)]
+pub struct Loaded {
+    /// How many tags the book has.
+    pub tags: u32,
+    /// The height of its tree.
+    pub height: u32,
+}
+
+/// The reply of an insertion.
+#[derive(Clone, Copy, PartialEq, Eq, Hash, Debug)]
+pub struct Inserted {
+    /// The new text, or the new element's begin.
+    pub first: Tag,
+    /// The new text, or the new element's end.
+    pub last: Tag,
+    /// How many tags that were there before have another label now.
+    pub moved: u32,
+    /// The height of the node that was split, 0 where none was; of an element's two, the greater.
+    pub split: u32,
+}
+
+/// A section's two labels as they were when it was held, to be shown with later writes.
+#[derive(Clone, Copy, PartialEq, Eq, Hash, Debug)]
+pub struct HeldPair {
+    /// The number of the book.
+    pub book: u32,
+    /// The section's begin tag, or the text.
+    pub tag: Tag,
+    /// The label of its begin.
+    pub start: Label,
+    /// The label of its end; a text's own label.
+    pub end: Label,
+}
+
+/// Whether a held pair's element encloses a tag.
+#[derive(Clone, Copy, PartialEq, Eq, Hash, Debug)]
+pub enum Answer {
+    /// The tag is not strictly inside the element.
+    No,
+    /// The tag is strictly inside the element.
+    Yes,
+    /// The pair is of another book, a label of it has changed, or its element is marked: it must be held again.
+    Stale,
+}
+
+const NO_TAG: u32 = u32::MAX;
+
+impl Place {
+    pub(crate) fn number(self) -> u32 {
+        match self {
+            Place::Front => NO_TAG,
+            Place::After(tag) => tag.0,
+        }
+    }
+}
+
+impl Within {
+    pub(crate) fn number(self) -> u32 {
+        match self {
+            Within::Book => NO_TAG,
+            Within::Section(begin) => begin.0,
+        }
+    }
+}
+
+impl Answer {
+    pub(crate) fn of(number: u32) -> Answer {
+        match number {
+            0 => Answer::No,
+            1 => Answer::Yes,
+            2 => Answer::Stale,
+            _ => unreachable!("the store has no answer {number}"),
+        }
+    }
+}

@@ -1,0 +1,206 @@
+//! Every call, and every refusal that this crate lets a caller meet, on the book that document 01 prints.
+
+use vekhturop::Kind::{Begin, End, Text};
+use vekhturop::{words_for, Answer, Inserted, Kind, Label, Loaded, Place, Refusal, Store, Tag};
+use vekhturop::{HeldPair, Within};
+
+const PRINTED: [Kind; 6] = [Begin, Begin, End, Begin, End, End];
+
+fn tag(number: u32) -> Tag {
+    Tag::new(number).expect("a tag")
+}
+
+/// Loads the printed book, with room for so many tags.
+fn with_book(tags: usize, test: impl FnOnce(&mut Store)) {
+    let mut words = vec![0; words_for(tags)];
+    let mut store = Store::new(&mut words);
+    let loaded = store.load(2, 2, 7, &PRINTED);
+    assert_eq!(loaded, Ok(Loaded { tags: 6, height: 2 }));
+    test(&mut store);
+}
+
+fn listed(store: &Store, within: Within) -> Vec<(u32, u32)> {
+    let list = store.list(within).expect("a list");
+    list.into_iter().map(|(t, l)| (t.number(), l.0)).collect()
+}
+
+#[test]
+fn the_printed_insertions() {
+    with_book(10, |store| {
+        let first = store.insert_text(Place::After(tag(2)));
+        let text = tag(6);
+        assert_eq!(
+            first,
+            Ok(Inserted {
+                first: text,
+                last: text,
+                moved: 1,
+                split: 0
+            })
+        );
+        let second = store.insert_text(Place::After(tag(2)));
+        let text = tag(7);
+        assert_eq!(
+            second,
+            Ok(Inserted {
+                first: text,
+                last: text,
+                moved: 4,
+                split: 2
+            })
+        );
+        let book = [
+            (0, 0),
+            (1, 1),
+            (2, 3),
+            (7, 4),
+            (6, 9),
+            (3, 10),
+            (4, 12),
+            (5, 13),
+        ];
+        assert_eq!(listed(store, Within::Book), book);
+        assert_eq!(listed(store, Within::Section(tag(0))), book[1..7]);
+    });
+}
+
+#[test]
+fn an_element_goes_in_with_its_end_behind_it() {
+    with_book(10, |store| {
+        let element = store.insert_element(Place::Front).expect("room");
+        assert_eq!((element.first, element.last), (tag(6), tag(7)));
+        let order: Vec<u32> = listed(store, Within::Book).iter().map(|it| it.0).collect();
+        assert_eq!(order, [6, 7, 0, 1, 2, 3, 4, 5]);
+    });
+}
+
+#[test]
+fn a_pair_is_held_asked_and_gets_stale() {
+    with_book(10, |store| {
+        let outer = store.hold(tag(0)).expect("a section");
+        let pair = HeldPair {
+            book: 7,
+            tag: tag(0),
+            start: Label(0),
+            end: Label(7),
+        };
+        assert_eq!(outer, pair);
+        let inner = store.hold(tag(1)).expect("a section");
+        store.insert_text(Place::After(tag(2))).expect("room");
+        assert_eq!(store.question(&outer, tag(6)), Ok(Answer::Yes));
+        assert_eq!(store.question(&outer, tag(0)), Ok(Answer::No));
+        store.insert_text(Place::After(tag(2))).expect("room");
+        assert_eq!(store.question(&outer, tag(6)), Ok(Answer::Stale));
+        assert_eq!(store.question(&inner, tag(6)), Ok(Answer::No));
+    });
+}
+
+#[test]
+fn a_marked_section_is_listed_no_more() {
+    with_book(10, |store| {
+        assert_eq!(store.mark(tag(3)), Ok(2));
+        assert_eq!(listed(store, Within::Section(tag(0))), [(1, 1), (2, 3)]);
+        assert_eq!(store.mark(tag(3)), Err(Refusal::TagMarked));
+    });
+}
+
+#[test]
+fn a_list_goes_into_lent_lists() {
+    with_book(10, |store| {
+        let (mut tags, mut labels) = ([tag(99); 5], [Label(99); 5]);
+        let count = store.list_into(Within::Section(tag(0)), &mut tags, &mut labels);
+        assert_eq!(count, Ok(4));
+        assert_eq!(tags.map(Tag::number), [1, 2, 3, 4, 99]);
+        assert_eq!(labels.map(|it| it.0), [1, 3, 4, 6, 99]);
+
+        let (before, after) = (tags, labels);
+        let short = store.list_into(Within::Section(tag(0)), &mut tags[..3], &mut labels);
+        assert_eq!(short, Err(Refusal::ListTooShort));
+        assert_eq!((tags, labels), (before, after));
+    });
+}
+
+#[test]
+fn loads_that_are_refused() {
+    let mut words = vec![5; words_for(200)];
+    let mut store = Store::new(&mut words);
+    let many = vec![Text; 200_001];
+    assert_eq!(store.load(1, 2, 0, &PRINTED), Err(Refusal::Degree));
+    assert_eq!(store.load(2, 2, 0, &many), Err(Refusal::TooManyTags));
+    assert_eq!(store.load(2, 2, 0, &[Text; 201]), Err(Refusal::TooFewWords));
+    assert_eq!(store.load(2, 2, 0, &[Begin, Text]), Err(Refusal::Nesting));
+    assert_eq!(
+        store.load(16, 2, 0, &[Text; 128]),
+        Err(Refusal::OutOfLabels)
+    );
+    assert!(store.words().iter().all(|it| *it == 5));
+    assert_eq!(
+        store.load(16, 2, 0, &[Text; 127]),
+        Ok(Loaded {
+            tags: 127,
+            height: 6
+        })
+    );
+}
+
+#[test]
+fn calls_that_are_refused_change_nothing() {
+    with_book(6, |store| {
+        let before = store.words().to_vec();
+        let pair = store.hold(tag(1)).expect("a section");
+        assert_eq!(store.insert_text(Place::Front), Err(Refusal::TooManyTags));
+        assert_eq!(
+            store.insert_text(Place::After(tag(6))),
+            Err(Refusal::NoSuchTag)
+        );
+        assert_eq!(store.mark(tag(2)), Err(Refusal::NotASection));
+        assert_eq!(store.hold(tag(5)), Err(Refusal::NotASection));
+        assert_eq!(store.question(&pair, tag(6)), Err(Refusal::NoSuchTag));
+        assert_eq!(
+            store.list(Within::Section(tag(2))),
+            Err(Refusal::NotASection)
+        );
+        assert_eq!(store.words(), before);
+    });
+}
+
+#[test]
+fn words_that_say_no_store() {
+    let mut few = [1; 7];
+    assert_eq!(Store::new(&mut few).hold(tag(0)), Err(Refusal::TooFewWords));
+    assert_eq!(
+        Store::new(&mut []).list(Within::Book),
+        Err(Refusal::TooFewWords)
+    );
+    let mut full = [u32::MAX; words_for(3)];
+    assert_eq!(
+        Store::new(&mut full).list(Within::Book),
+        Err(Refusal::NotSound)
+    );
+    assert_eq!(Store::new(&mut full).mark(tag(0)), Err(Refusal::NotSound));
+}
+
+#[test]
+fn an_empty_book() {
+    let mut words = [0; words_for(1)];
+    let mut store = Store::new(&mut words);
+    assert_eq!(store.load(2, 2, 7, &[]), Ok(Loaded { tags: 0, height: 1 }));
+    assert_eq!(store.list(Within::Book), Ok(vec![]));
+    assert_eq!(
+        store.insert_text(Place::Front).map(|it| it.first),
+        Ok(tag(0))
+    );
+}
+
+#[test]
+fn no_tag_is_no_tag() {
+    assert_eq!(Tag::new(u32::MAX), None);
+    assert_eq!(Tag::new(3).map(Tag::number), Some(3));
+}
+
+#[test]
+fn a_refusal_is_an_error_with_a_number() {
+    let error: Box<dyn std::error::Error> = Box::new(Refusal::NoSuchTag);
+    assert_eq!(error.to_string(), "the book has no such tag");
+    assert_eq!(Refusal::NoSuchTag.number(), 8);
+}

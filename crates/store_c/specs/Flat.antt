@@ -1,0 +1,49 @@
+-- A reply as a C struct: document 01's numbers of the reply in their order, the refusal (0 where the call is accepted)
+-- first, and 0 in every field behind them; and a held pair from its four words. Assumes nothing: these are definitions.
+use mathlib.Core.List.{List}
+use Prim.Native.Nat.{ℕ}
+use lib.ListN.{getD}
+use Rattle.store_types.specs.declared.HeldPair.{HeldPair}
+use Rattle.store_types.specs.declared.LoadReply.{LoadReply}
+use Rattle.store_types.specs.declared.InsertReply.{InsertReply}
+use Rattle.store_types.specs.declared.MarkReply.{MarkReply}
+use Rattle.store_types.specs.declared.HoldReply.{HoldReply}
+use Rattle.store_types.specs.declared.QuestionReply.{QuestionReply}
+use Rattle.store_types.specs.declared.ListReply.{ListReply}
+use Rattle.calls.specs.Replies.{load-numbers, insert-numbers, mark-numbers, hold-numbers, question-numbers, list-numbers}
+use Rattle.store_c.specs.declared.flat.Loaded.{Loaded}
+use Rattle.store_c.specs.declared.flat.Inserted.{Inserted}
+use Rattle.store_c.specs.declared.flat.Marked.{Marked}
+use Rattle.store_c.specs.declared.flat.Held.{Held}
+use Rattle.store_c.specs.declared.flat.Answered.{Answered}
+use Rattle.store_c.specs.declared.flat.Listed.{Listed}
+
+-- number i of a reply, from 0; 0 where it has no more
+abbrev pub nth : ℕ → List ℕ → ℕ
+nth i ns = getD ns i 0
+
+unfoldable pub c-loaded : LoadReply → Loaded
+c-loaded q = let ns = load-numbers q in record { refusal = nth 0 ns; tags = nth 1 ns; height = nth 2 ns }
+
+unfoldable pub c-inserted : InsertReply → Inserted
+c-inserted q =
+    let ns = insert-numbers q in
+    record { refusal = nth 0 ns; first = nth 1 ns; moved = nth 2 ns; split = nth 3 ns }
+
+unfoldable pub c-marked : MarkReply → Marked
+c-marked q = let ns = mark-numbers q in record { refusal = nth 0 ns; marked = nth 1 ns }
+
+unfoldable pub c-held : HoldReply → Held
+c-held q =
+    let ns = hold-numbers q in
+    record { refusal = nth 0 ns; book = nth 1 ns; tag = nth 2 ns; start = nth 3 ns; end = nth 4 ns }
+
+unfoldable pub c-answered : QuestionReply → Answered
+c-answered q = let ns = question-numbers q in record { refusal = nth 0 ns; answer = nth 1 ns }
+
+unfoldable pub c-listed : ListReply → Listed
+c-listed q = let ns = list-numbers q in record { refusal = nth 0 ns; count = nth 1 ns }
+
+-- the pair that a caller shows
+abbrev pub pair-of : (book tag start end : ℕ) → HeldPair
+pair-of b x l m = record { book = b; tag = record { 0 = x }; start = record { 0 = l }; end = record { 0 = m } }

@@ -1,0 +1,163 @@
+// The replies as C structs: the refusal, 0 where the call is accepted, then the reply's values, 0 where it is refused.
+ghost use mathlib.Core.Path.{_≡_};
+ghost use Rattle.calls.specs.Replies.{answer-number};
+ghost use Rattle.store_c.specs.Flat.{c-loaded, c-inserted, c-marked, c-held, c-answered, c-listed};
+use store_types::Answer;
+use store_types::HoldReply;
+use store_types::InsertReply;
+use store_types::ListReply;
+use store_types::LoadReply;
+use store_types::MarkReply;
+use store_types::QuestionReply;
+
+#[repr(C)]
+pub struct Loaded {
+    pub refusal: u32,
+    pub tags: u32,
+    pub height: u32,
+}
+
+#[repr(C)]
+pub struct Inserted {
+    pub refusal: u32,
+    pub first: u32,
+    pub moved: u32,
+    pub split: u32,
+}
+
+#[repr(C)]
+pub struct Marked {
+    pub refusal: u32,
+    pub marked: u32,
+}
+
+#[repr(C)]
+pub struct Held {
+    pub refusal: u32,
+    pub book: u32,
+    pub tag: u32,
+    pub start: u32,
+    pub end: u32,
+}
+
+#[repr(C)]
+pub struct Answered {
+    pub refusal: u32,
+    pub answer: u32,
+}
+
+#[repr(C)]
+pub struct Listed {
+    pub refusal: u32,
+    pub count: u32,
+}
+
+pub fn of_load(reply: LoadReply) -> Loaded
+    ensures { λ c. ⌜ c ≡ c-loaded reply ⌝ }
+{
+    match reply {
+        LoadReply::Loaded { tags, height } => Loaded {
+            refusal: 0,
+            tags,
+            height,
+        },
+        LoadReply::Refused(k) => Loaded {
+            refusal: k,
+            tags: 0,
+            height: 0,
+        },
+    }
+}
+
+pub fn of_insert(reply: InsertReply) -> Inserted
+    ensures { λ c. ⌜ c ≡ c-inserted reply ⌝ }
+{
+    match reply {
+        InsertReply::Inserted {
+            first,
+            moved,
+            split,
+        } => Inserted {
+            refusal: 0,
+            first: first.0,
+            moved,
+            split,
+        },
+        InsertReply::Refused(k) => Inserted {
+            refusal: k,
+            first: 0,
+            moved: 0,
+            split: 0,
+        },
+    }
+}
+
+pub fn of_mark(reply: MarkReply) -> Marked
+    ensures { λ c. ⌜ c ≡ c-marked reply ⌝ }
+{
+    match reply {
+        MarkReply::Marked(marked) => Marked { refusal: 0, marked },
+        MarkReply::Refused(k) => Marked {
+            refusal: k,
+            marked: 0,
+        },
+    }
+}
+
+pub fn of_hold(reply: HoldReply) -> Held
+    ensures { λ c. ⌜ c ≡ c-held reply ⌝ }
+{
+    match reply {
+        HoldReply::Held(p) => Held {
+            refusal: 0,
+            book: p.book,
+            tag: p.tag.0,
+            start: p.start.0,
+            end: p.end.0,
+        },
+        HoldReply::Refused(k) => Held {
+            refusal: k,
+            book: 0,
+            tag: 0,
+            start: 0,
+            end: 0,
+        },
+    }
+}
+
+fn of_answer(answer: Answer) -> u32
+    ensures { λ a. ⌜ a ≡ answer-number answer ⌝ }
+{
+    match answer {
+        Answer::No => 0,
+        Answer::Yes => 1,
+        Answer::Stale => 2,
+    }
+}
+
+pub fn of_question(reply: QuestionReply) -> Answered
+    ensures { λ c. ⌜ c ≡ c-answered reply ⌝ }
+{
+    match reply {
+        QuestionReply::Answered(a) => Answered {
+            refusal: 0,
+            answer: of_answer(a),
+        },
+        QuestionReply::Refused(k) => Answered {
+            refusal: k,
+            answer: 0,
+        },
+    }
+}
+
+pub fn of_list(reply: ListReply) -> Listed
+    ensures { λ c. ⌜ c ≡ c-listed reply ⌝ }
+{
+    match reply {
+        ListReply::Listed(count) => Listed { refusal: 0, count },
+        ListReply::Refused(k) => Listed {
+            refusal: k,
+            count: 0,
+        },
+    }
+}

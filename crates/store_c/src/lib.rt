@@ -1,0 +1,76 @@
+// The six calls for C, as include/vekhturop.h declares them: a lent slice is a pointer and a length there, a reply a struct
+// of words. Each contract is that of the entry it calls, through the flat form of the reply; none has a `requires`.
+mod flat;
+
+ghost use mathlib.Core.Path.{_≡_};
+ghost use Rattle.calls.specs.Replies.{load-reply, load-words, insert-reply, insert-words, mark-reply, mark-words, hold-reply, question-reply, list-reply, list-tags, list-labels};
+ghost use Rattle.store_c.specs.Flat.{c-loaded, c-inserted, c-marked, c-held, c-answered, c-listed, pair-of};
+use flat::Answered;
+use flat::Held;
+use flat::Inserted;
+use flat::Listed;
+use flat::Loaded;
+use flat::Marked;
+use store_types::HeldPair;
+use store_types::Label;
+use store_types::TagId;
+
+#[no_mangle]
+pub extern "C" fn vk_load(s: u32, r: u32, book: u32, kinds: &[u8], words: &mut [u32]) -> Loaded
+    ensures reply { λ c. ⌜ c ≡ c-loaded (load-reply s r book (now (kinds .entry)) (now (words .entry))) ⌝ }
+    ensures words { λ _. ⌜ now (words .exit) ≡ load-words s r book (now (kinds .entry)) (now (words .entry)) ⌝ }
+{
+    flat::of_load(store::load(s, r, book, kinds, words))
+}
+
+#[no_mangle]
+pub extern "C" fn vk_insert(kind: u8, place: u32, words: &mut [u32]) -> Inserted
+    ensures reply { λ c. ⌜ c ≡ c-inserted (insert-reply kind place (now (words .entry))) ⌝ }
+    ensures words { λ _. ⌜ now (words .exit) ≡ insert-words kind place (now (words .entry)) ⌝ }
+{
+    flat::of_insert(store::insert(kind, TagId(place), words))
+}
+
+#[no_mangle]
+pub extern "C" fn vk_mark(tag: u32, words: &mut [u32]) -> Marked
+    ensures reply { λ c. ⌜ c ≡ c-marked (mark-reply tag (now (words .entry))) ⌝ }
+    ensures words { λ _. ⌜ now (words .exit) ≡ mark-words tag (now (words .entry)) ⌝ }
+{
+    flat::of_mark(store::mark(TagId(tag), words))
+}
+
+#[no_mangle]
+pub extern "C" fn vk_hold(tag: u32, words: &[u32]) -> Held
+    ensures { λ c. ⌜ c ≡ c-held (hold-reply tag (now (words .entry))) ⌝ }
+{
+    flat::of_hold(store::hold(TagId(tag), words))
+}
+
+#[no_mangle]
+pub extern "C" fn vk_question(
+    book: u32,
+    tag: u32,
+    start: u32,
+    end: u32,
+    d: u32,
+    words: &[u32],
+) -> Answered
+    ensures { λ c. ⌜ c ≡ c-answered (question-reply (pair-of book tag start end) d (now (words .entry))) ⌝ }
+{
+    let pair = HeldPair {
+        book,
+        tag: TagId(tag),
+        start: Label(start),
+        end: Label(end),
+    };
+    flat::of_question(store::question(pair, TagId(d), words))
+}
+
+#[no_mangle]
+pub extern "C" fn vk_list(begin: u32, words: &[u32], tags: &mut [u32], labels: &mut [u32]) -> Listed
+    ensures reply { λ c. ⌜ c ≡ c-listed (list-reply begin (now (words .entry)) (now (tags .entry)) (now (labels .entry))) ⌝ }
+    ensures tags { λ _. ⌜ now (tags .exit) ≡ list-tags begin (now (words .entry)) (now (tags .entry)) (now (labels .entry)) ⌝ }
+    ensures labels { λ _. ⌜ now (labels .exit) ≡ list-labels begin (now (words .entry)) (now (tags .entry)) (now (labels .entry)) ⌝ }
+{
+    flat::of_list(store::list(TagId(begin), words, tags, labels))
+}

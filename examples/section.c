@@ -1,0 +1,86 @@
+/* A session on one section of a book: it holds the section's pair of labels, shows it with a write, finds it stale once the
+ * book has been relabelled, and holds it again. Then the book is listed, and once more with a part of it marked.
+ *
+ *     rt staticlib store_c
+ *     gcc -I include examples/section.c target/staticlib/libstore_c.a -o target/section
+ */
+#include <inttypes.h>
+#include <stdio.h>
+#include <stdlib.h>
+#include <vekhturop.h>
+
+#define MOST 100
+
+static uint32_t words[VK_WORDS(MOST)];
+static const size_t len = VK_WORDS(MOST);
+
+/* This program makes no call that is refused. */
+static void accept(const char *call, uint32_t refusal)
+{
+    if (refusal != VK_ACCEPTED) {
+        fprintf(stderr, "%s: refused, %" PRIu32 "\n", call, refusal);
+        exit(1);
+    }
+}
+
+static void insert_text(uint32_t place)
+{
+    vk_inserted reply = vk_insert(VK_TEXT, place, words, len);
+    accept("insert", reply.refusal);
+    printf("text %" PRIu32 " behind %" PRIu32 ": moved %" PRIu32 ", split %" PRIu32 "\n", reply.first, place, reply.moved,
+           reply.split);
+}
+
+static vk_held hold(uint32_t tag)
+{
+    vk_held pair = vk_hold(tag, words, len);
+    accept("hold", pair.refusal);
+    printf("pair of %" PRIu32 ": %" PRIu32 " %" PRIu32 "\n", pair.tag, pair.start, pair.end);
+    return pair;
+}
+
+static void ask(vk_held pair, uint32_t d)
+{
+    static const char *const says[] = { "no", "yes", "stale" };
+    vk_answered reply = vk_question(pair.book, pair.tag, pair.start, pair.end, d, words, len);
+    accept("question", reply.refusal);
+    printf("%" PRIu32 " inside %" PRIu32 ": %s\n", d, pair.tag, says[reply.answer]);
+}
+
+static void list(void)
+{
+    uint32_t tags[MOST], labels[MOST], i;
+    vk_listed reply = vk_list(VK_FRONT, words, len, tags, MOST, labels, MOST);
+    accept("list", reply.refusal);
+    printf("%" PRIu32 " tags:", reply.count);
+    for (i = 0; i < reply.count; i++) {
+        printf(" %" PRIu32 "=%" PRIu32, tags[i], labels[i]);
+    }
+    printf("\n");
+}
+
+int main(void)
+{
+    static const uint8_t kinds[] = { VK_BEGIN, VK_BEGIN, VK_END, VK_BEGIN, VK_END, VK_END };
+    vk_loaded loaded = vk_load(2, 2, 7, kinds, sizeof kinds, words, len);
+    vk_marked marked;
+    vk_held pair;
+
+    accept("load", loaded.refusal);
+    printf("loaded %" PRIu32 " tags, height %" PRIu32 "\n", loaded.tags, loaded.height);
+
+    pair = hold(0);
+    insert_text(2);
+    ask(pair, 6);
+    insert_text(2);
+    ask(pair, 6);
+    pair = hold(0);
+    ask(pair, 6);
+    list();
+
+    marked = vk_mark(3, words, len);
+    accept("mark", marked.refusal);
+    printf("marked %" PRIu32 "\n", marked.marked);
+    list();
+    return 0;
+}

@@ -1,0 +1,132 @@
+/* Vekhturop: a verified label store, for C and C++.
+ *
+ * A book is a row of tags (begins, ends, texts). Each tag has a number for life and a label for now; labels rise along the
+ * book. A tag number is an index, a label is only compared: never pass one as the other.
+ *
+ * WORDS. A store lives in words that the caller lends to each call: 8 + 6n of them for n tags, VK_WORDS(n). Nothing else
+ * is kept between calls, nothing is allocated, and the words may be copied or written to a file as they are.
+ *   words 0 to 7        1; s; r; height H; tags issued n; first tag or VK_NO_TAG; book number; stamp (changes since load)
+ *   six a tag, from 0   label; next; prior; mate; up; kind (1 begin, 2 end, 3 text; 17, 18, 19 the same when marked)
+ * Every call but vk_load first checks that the words say a sound store, in one pass over all tags.
+ *
+ * REPLIES. The first field of every reply is the refusal: 0 where the call is accepted. Where it is not 0, every other
+ * field is 0 and no lent word is changed. An accepted call changes no word behind those it writes.
+ *
+ * POINTERS. Each pointer is followed by how many elements it points to. It must be aligned and must not be null, even where
+ * that number is 0; what a call writes must not overlap anything else that is lent to it. Calls on separate words may run
+ * at the same time; so may calls on the same words that take them as const.
+ *
+ * Build:  rt staticlib store_c    writes target/staticlib/libstore_c.a (x86-64 Linux), which needs the C library alone.
+ */
+#ifndef VEKHTUROP_H
+#define VEKHTUROP_H
+
+#include <stddef.h>
+#include <stdint.h>
+
+#ifdef __cplusplus
+extern "C" {
+#endif
+
+/* How many words a store of n tags needs. */
+#define VK_WORDS(n) ((size_t)8 + (size_t)6 * (size_t)(n))
+
+/* The most tags of a book, marked ones counted. */
+#define VK_MOST_TAGS 200000
+
+/* Stands for no tag; as a place of vk_insert, and to vk_list, it is the front of the book. */
+#define VK_NO_TAG UINT32_C(4294967295)
+#define VK_FRONT VK_NO_TAG
+
+/* Kinds of tags, as vk_load and vk_insert take them. */
+#define VK_BEGIN 1
+#define VK_END 2
+#define VK_TEXT 3
+
+/* Refusals. */
+#define VK_ACCEPTED 0
+#define VK_TOO_FEW_WORDS 1   /* all: under 8 words; load: under 8 + 6n */
+#define VK_NOT_SOUND 2       /* all but load: the words say no sound store */
+#define VK_DEGREE 3          /* load: s or r outside 2 to 16 */
+#define VK_KIND 4            /* load, insert: a kind not allowed there */
+#define VK_NESTING 5         /* load: kinds not properly nested */
+#define VK_TOO_MANY_TAGS 6   /* load, insert: over 200,000 tags; insert: also too few words for the new tags */
+#define VK_OUT_OF_LABELS 7   /* load: b^H > 2^32, where b = s*r - 1; insert of k tags: n + k >= s*r^H and b^(H+1) > 2^32 */
+#define VK_NO_SUCH_TAG 8     /* all but load: the tag is not below n (VK_FRONT is allowed on insert and list) */
+#define VK_TAG_MARKED 9      /* all but load: the tag is marked */
+#define VK_NOT_A_SECTION 10  /* mark, hold: an end tag; question, list: an end tag or a text */
+#define VK_LIST_TOO_SHORT 11 /* list: a lent list is shorter than the count */
+
+/* Answers of vk_question. */
+#define VK_NO 0
+#define VK_YES 1
+#define VK_STALE 2
+
+typedef struct vk_loaded {
+    uint32_t refusal;
+    uint32_t tags;   /* n */
+    uint32_t height; /* H */
+} vk_loaded;
+
+typedef struct vk_inserted {
+    uint32_t refusal;
+    uint32_t first; /* the number of the new text or begin; an element's end has the next */
+    uint32_t moved; /* how many tags that were there before have another label now */
+    uint32_t split; /* the height of the node that was split, 0 where none was; of an element's two, the greater */
+} vk_inserted;
+
+typedef struct vk_marked {
+    uint32_t refusal;
+    uint32_t marked; /* how many tags became marked */
+} vk_marked;
+
+typedef struct vk_held {
+    uint32_t refusal;
+    uint32_t book;  /* the book's number */
+    uint32_t tag;   /* the section's begin tag, or the text */
+    uint32_t start; /* the label of the section's begin */
+    uint32_t end;   /* the label of its end; a text's own label */
+} vk_held;
+
+typedef struct vk_answered {
+    uint32_t refusal;
+    uint32_t answer; /* VK_NO, VK_YES or VK_STALE */
+} vk_answered;
+
+typedef struct vk_listed {
+    uint32_t refusal;
+    uint32_t count; /* how many tags were written */
+} vk_listed;
+
+/* Makes the words a store over kinds (VK_BEGIN, VK_END, VK_TEXT in book order), whatever the words held before. The tag
+ * numbers are 0, 1, 2 .. in that order. s and r (2 to 16 each) are the tree's degrees, book is any number of the caller's.
+ * Refusals, in the order in which they are tested: 3, 6, 1, 4, 5, 7. */
+vk_loaded vk_load(uint32_t s, uint32_t r, uint32_t book, const uint8_t *kinds, size_t kinds_len, uint32_t *words,
+                  size_t words_len);
+
+/* Inserts an element (VK_BEGIN: a begin, and its end behind it) or a text (VK_TEXT) right behind the tag `place`, or at the
+ * front of the book (VK_FRONT). New tags take the next numbers. Refusals: 1, 2, 4, 8, 9, 6, 7. */
+vk_inserted vk_insert(uint8_t kind, uint32_t place, uint32_t *words, size_t words_len);
+
+/* Marks a text, or an element by its begin with all that is inside it. Labels stay. Refusals: 1, 2, 8, 9, 10. */
+vk_marked vk_mark(uint32_t tag, uint32_t *words, size_t words_len);
+
+/* The held pair of an element, by its begin, or of a text. Refusals: 1, 2, 8, 9, 10. */
+vk_held vk_hold(uint32_t tag, const uint32_t *words, size_t words_len);
+
+/* Whether the element of a held pair (book, tag, start, end as vk_hold replied them) encloses tag d. Its own two tags give
+ * VK_NO. VK_STALE: the pair is of another book, a label of it has changed, or its element is marked: hold it again.
+ * In order: 1, 2, stale (book), 8 (tag, then d), 10, stale (labels, marked), 9 (d), then yes or no. */
+vk_answered vk_question(uint32_t book, uint32_t tag, uint32_t start, uint32_t end, uint32_t d, const uint32_t *words,
+                        size_t words_len);
+
+/* The unmarked tags strictly inside the element of a begin, or of the whole book (VK_FRONT), in book order: numbers into
+ * tags, labels into labels. Elements behind them stay as they are. Refusals: 1, 2, 8, 9, 10, 11. */
+vk_listed vk_list(uint32_t begin, const uint32_t *words, size_t words_len, uint32_t *tags, size_t tags_len,
+                  uint32_t *labels, size_t labels_len);
+
+#ifdef __cplusplus
+}
+#endif
+
+#endif
