@@ -3,54 +3,104 @@
 //! The list is fed arguments and whether a call was accepted, never a word of the store. Only the checks look at words.
 
 use crate::call::{Call, Reply};
+use crate::kinds::{BEGIN, END, TEXT};
 use reference::{HEADER, NO_TAG, RECORD};
 
 pub struct Bare {
-    s: u64,
-    r: u64,
+    pub(crate) s: u64,
+    pub(crate) r: u64,
     /// The tag numbers in book order.
-    list: Vec<u32>,
+    pub(crate) list: Vec<u32>,
     /// Tags of the load.
     n0: u64,
     /// Tags inserted since.
     m: u64,
-    height: u32,
+    pub(crate) height: u32,
     /// The sum of the moved numbers replied since the load.
     moved: u64,
+    /// Kind and mark of each tag, by number. Document 01's list keeps neither; they tell which calls are to be refused.
+    pub(crate) kinds: Vec<u8>,
+    pub(crate) marked: Vec<bool>,
 }
 
 impl Bare {
     /// The list after an accepted load.
-    pub fn load(s: u32, r: u32, tags: usize) -> Bare {
-        let (s, r, n0) = (u64::from(s), u64::from(r), tags as u64);
+    pub fn load(s: u32, r: u32, kinds: &[u8]) -> Bare {
+        let (s, r, n0) = (u64::from(s), u64::from(r), kinds.len() as u64);
         let mut height = 1;
         while n0 >= 2 * r.pow(height) {
             height += 1;
         }
-        Bare { s, r, list: (0..tags as u32).collect(), n0, m: 0, height, moved: 0 }
+        let list = (0..kinds.len() as u32).collect();
+        Bare { s, r, list, n0, m: 0, height, moved: 0, kinds: kinds.to_vec(), marked: vec![false; kinds.len()] }
     }
 
-    /// An accepted call after the load.
-    pub fn accepted(&mut self, call: &Call, reply: &Reply) {
+    /// An accepted call after the load, or what is wrong with the numbers that it replied.
+    pub fn accepted(&mut self, call: &Call, reply: &Reply) -> Result<(), String> {
         match *call {
-            Call::Load { s, r, ref kinds, .. } => *self = Bare::load(s, r, kinds.len()),
             Call::Insert { kind, place } => {
-                let at = match place {
-                    NO_TAG => 0,
-                    // A place that is no tag cannot have been accepted by a right store; the check will say so.
-                    tag => self.list.iter().position(|&it| it == tag).map_or(0, |i| i + 1),
-                };
-                for new in 0..(if kind == 1 { 2 } else { 1 }) {
-                    self.list.insert(at + new, self.list.len() as u32);
-                    self.m += 1;
-                    if self.list.len() as u64 == self.s * self.r.pow(self.height) {
-                        self.height += 1;
-                    }
+                if reply[1] as usize != self.list.len() {
+                    return Err(format!("bare list: first new tag {}, not {}", reply[1], self.list.len()));
                 }
+                self.insert(kind, place);
                 self.moved += u64::from(reply[2]);
+            }
+            Call::Mark { tag } => {
+                let count = self.mark(tag);
+                if reply[1] != count {
+                    return Err(format!("bare list: {} became marked, not {count}", reply[1]));
+                }
             }
             _ => {}
         }
+        Ok(())
+    }
+
+    fn insert(&mut self, kind: u8, place: u32) {
+        let at = if place == NO_TAG { 0 } else { self.position(place) + 1 };
+        let new: &[u8] = if kind == BEGIN { &[BEGIN, END] } else { &[TEXT] };
+        for (i, &kind) in new.iter().enumerate() {
+            self.list.insert(at + i, self.list.len() as u32);
+            self.kinds.push(kind);
+            self.marked.push(false);
+            self.m += 1;
+            if self.list.len() as u64 == self.s * self.r.pow(self.height) {
+                self.height += 1;
+            }
+        }
+    }
+
+    /// Marks a text, or an element with all inside; how many became marked.
+    fn mark(&mut self, tag: u32) -> u32 {
+        let from = self.position(tag);
+        let mut count = 0;
+        for &tag in &self.list[from..=self.close(from)] {
+            let mark = &mut self.marked[tag as usize];
+            count += u32::from(!*mark);
+            *mark = true;
+        }
+        count
+    }
+
+    /// Where in the list the tag stands. Only asked for tags that are there.
+    pub(crate) fn position(&self, tag: u32) -> usize {
+        self.list.iter().position(|&it| it == tag).expect("the tag is in the list")
+    }
+
+    /// Where the element that begins at this position ends, by counting begins and ends; a text ends where it stands.
+    pub(crate) fn close(&self, from: usize) -> usize {
+        let mut open = 0;
+        for (i, &tag) in self.list.iter().enumerate().skip(from) {
+            match self.kinds[tag as usize] {
+                BEGIN => open += 1,
+                END => open -= 1,
+                _ => {}
+            }
+            if open == 0 {
+                return i;
+            }
+        }
+        unreachable!("kinds are properly nested")
     }
 
     /// What demand 3 says of the words, or which statement fails.
@@ -97,4 +147,20 @@ impl Bare {
         }
         Ok(())
     }
+}
+
+/// Moved and marked are differences between the words before and after an accepted call: labels and kinds of the tags
+/// that were there before.
+pub fn counts(call: &Call, reply: &Reply, before: &[u32], after: &[u32]) -> Result<(), String> {
+    let (field, said) = match call {
+        Call::Insert { .. } => (0, reply[2]),
+        Call::Mark { .. } => (5, reply[1]),
+        _ => return Ok(()),
+    };
+    let differs = |tag: &usize| {
+        let at = HEADER + RECORD * tag + field;
+        before[at] != after[at]
+    };
+    let count = (0..before[4] as usize).filter(differs).count();
+    if count == said as usize { Ok(()) } else { Err(format!("the words differ at {count} tags, not at {said}")) }
 }

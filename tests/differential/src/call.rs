@@ -26,6 +26,14 @@ impl Call {
         }
     }
 
+    /// The kinds that the call lends.
+    pub fn kinds(&self) -> &[u8] {
+        match self {
+            Call::Load { kinds, .. } => kinds,
+            _ => &[],
+        }
+    }
+
     /// The lengths of the lists that the call lends.
     pub fn lists(&self) -> (usize, usize) {
         match self {

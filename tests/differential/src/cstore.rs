@@ -1,7 +1,7 @@
 //! The verified store through its C interface, as include/vekhturop.h declares it.
 
 use crate::call::{Call, Reply};
-use crate::subject::Subject;
+use crate::subject::{Lent, Subject};
 
 /// A reply struct of the header is so many words in a row, the refusal first.
 #[repr(C)]
@@ -41,16 +41,17 @@ fn reply<const N: usize>(words: Words<N>) -> Reply {
 }
 
 impl Subject for CStore {
-    fn call(&self, call: &Call, words: &mut [u32], tags: &mut [u32], labels: &mut [u32]) -> Reply {
-        // The words are lent through a mutable pointer even where the header says const: a store that writes where it
-        // must not is then seen in the comparison, and the compiler cannot assume that nothing changed.
+    fn call(&self, call: &Call, lent: Lent) -> Reply {
+        // Words and kinds are lent through mutable pointers even where the header says const: a store that writes where
+        // it must not is then seen in the comparison, and the compiler cannot assume that nothing changed.
+        let Lent { kinds, words, tags, labels } = lent;
         let (to, len) = (words.as_mut_ptr(), words.len());
         // SAFETY: every pointer and length is that of one of the slices lent to this function, which do not overlap
-        // since three of them are lent mutably and the kinds belong to the call.
+        // since all are lent mutably.
         unsafe {
             match *call {
-                Call::Load { s, r, book, ref kinds } => {
-                    reply(vk_load(s, r, book, kinds.as_ptr(), kinds.len(), to, len))
+                Call::Load { s, r, book, .. } => {
+                    reply(vk_load(s, r, book, kinds.as_mut_ptr(), kinds.len(), to, len))
                 }
                 Call::Insert { kind, place } => reply(vk_insert(kind, place, to, len)),
                 Call::Mark { tag } => reply(vk_mark(tag, to, len)),

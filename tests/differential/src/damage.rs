@@ -266,3 +266,19 @@ pub fn damage(subject: &dyn Subject, tally: &mut Tally, rng: &mut Rng, sound: &[
     }
     Ok(())
 }
+
+/// Makes a few calls on a store with a flaw in its tree, which all must refuse.
+pub fn flawed(subject: &dyn Subject, tally: &mut Tally, rng: &mut Rng, words: &[u32]) -> Result<(), Failure> {
+    let n = tags(words);
+    let mut start = words.to_vec();
+    start.resize(words.len() + 2 * RECORD, 0);
+    let tag = rng.below(n) as u32;
+    for call in [
+        Call::Insert { kind: TEXT, place: tag },
+        Call::Hold { tag },
+        Call::List { begin: NO_TAG, tags: n, labels: n },
+    ] {
+        Session::new(subject, tally, start.clone()).step(call)?;
+    }
+    Ok(())
+}

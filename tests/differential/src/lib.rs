@@ -1,20 +1,38 @@
-//! The comparison of two label stores, and of one with document 01's bare list.
+//! The comparison of two label stores, of one with document 01's bare list, and of two programs that read the book
+//! program's lines.
 //!
-//! `subject` names what is compared, `session` makes one call on both sides and compares, the generators
-//! (`history`, `shape`, `limits`, `damage`) choose the calls, and `shrink` and `script` make a failure short.
+//! By calls: `subject` names what is compared, `session` makes one call on both sides and compares, `bare` and `due`
+//! set it beside the bare list, the generators (`history`, `shape`, `limits`, `damage`, `flaw`) choose the calls, and
+//! `shrink` makes a failure short.
+//!
+//! By lines: `program` names what is compared, `process` starts the book program and `pieces` cuts what is written to
+//! it, `near`, `scripts` and `writer` make the lines, and `shorten` and `edit` make a failure short.
+//!
+//! `plan` is a whole run of each, and `script` and `report` print what was found.
 
 pub mod bare;
 pub mod call;
 #[cfg(not(feature = "self"))]
 pub mod cstore;
 pub mod damage;
+pub mod due;
+pub mod edit;
+pub mod flaw;
 pub mod history;
 pub mod kinds;
 pub mod limits;
+pub mod near;
+pub mod pieces;
 pub mod plan;
+pub mod process;
+pub mod program;
+pub mod report;
 pub mod rng;
 pub mod script;
+pub mod scripts;
 pub mod session;
 pub mod shape;
+pub mod shorten;
 pub mod shrink;
 pub mod subject;
+pub mod writer;

@@ -65,6 +65,19 @@ pub fn run_from_k(subject: &dyn Subject, tally: &mut Tally, rng: &mut Rng) -> Re
     Ok(())
 }
 
+/// All rows of at most so many kinds, nested or not.
+fn every_kinds(most: usize) -> Vec<Vec<u8>> {
+    let mut rows = vec![vec![]];
+    let mut from = 0;
+    for _ in 0..most {
+        let longer: Vec<Vec<u8>> =
+            rows[from..].iter().flat_map(|row| [BEGIN, END, TEXT].map(|kind| [&row[..], &[kind]].concat())).collect();
+        from = rows.len();
+        rows.extend(longer);
+    }
+    rows
+}
+
 /// Loads with s, r and kinds at and beside what is allowed.
 pub fn loads(subject: &dyn Subject, tally: &mut Tally) -> Result<(), Failure> {
     let sides = [0, 1, 2, 16, 17, 18, 256, u32::MAX];
@@ -72,6 +85,11 @@ pub fn loads(subject: &dyn Subject, tally: &mut Tally) -> Result<(), Failure> {
         for r in sides {
             Session::new(subject, tally, vec![0; HEADER]).step(Call::Load { s, r, book: 1, kinds: vec![] })?;
         }
+    }
+    for kinds in every_kinds(6) {
+        let mut session = Session::new(subject, tally, vec![6; HEADER + RECORD * 6]);
+        session.step(Call::Load { s: 2, r: 2, book: 1, kinds })?;
+        session.step(Call::Hold { tag: 0 })?;
     }
     for kind in 0..=u8::MAX {
         for kinds in [vec![kind], vec![BEGIN, kind], vec![END, kind], vec![BEGIN, kind, END]] {

@@ -1,50 +1,119 @@
-//! `cargo run --release -- SEED SIZE`: compares the verified store with the reference.
+//! `cargo run --release --offline -- SEED SIZE [calls|lines]`: compares the verified store with the reference, by calls
+//! of the C interface and by lines of the book program, or only one of them.
 //!
-//! SIZE is the number of random histories; 225 meet every s and r. A difference is printed as a short script and ends
-//! the run with status 1.
+//! SIZE is the number of random histories of each; 225 meet every s and r. A difference is printed as a short script
+//! and ends the run with status 1. The library is linked (build.rs); the program is the one that VEKHTUROP_BOOK names,
+//! or target/bin/book of the repository.
 
 use differential::plan;
-use differential::script::script;
+use differential::program::LineProgram;
+use differential::report;
 use differential::session::Tally;
+use differential::shorten::shorten;
 use differential::shrink::shrink;
 use differential::subject::Subject;
+use differential::writer::LineTally;
+use std::fmt::Display;
 use std::process::ExitCode;
+use std::time::Instant;
 
 #[cfg(feature = "self")]
-fn subject() -> impl Subject {
-    differential::subject::Reference::right()
+mod compared {
+    use super::*;
+
+    pub fn subject() -> impl Subject {
+        differential::subject::Reference::right()
+    }
+
+    pub fn program() -> Result<impl LineProgram, String> {
+        Ok(differential::program::Interpreter { fault: reference::Fault::None })
+    }
 }
 
 #[cfg(not(feature = "self"))]
-fn subject() -> impl Subject {
-    differential::cstore::CStore
+mod compared {
+    use super::*;
+
+    pub fn subject() -> impl Subject {
+        differential::cstore::CStore
+    }
+
+    pub fn program() -> Result<impl LineProgram, String> {
+        differential::process::Process::of_environment()
+    }
 }
 
-fn arguments() -> Option<(u64, usize)> {
-    let mut arguments = std::env::args().skip(1);
-    let seed = arguments.next()?.parse().ok()?;
-    let size = arguments.next()?.parse().ok()?;
-    arguments.next().is_none().then_some((seed, size))
+struct Arguments {
+    seed: u64,
+    size: usize,
+    calls: bool,
+    lines: bool,
+}
+
+fn arguments() -> Option<Arguments> {
+    let all: Vec<String> = std::env::args().skip(1).collect();
+    let (seed, size, part) = match &all[..] {
+        [seed, size] => (seed, size, ""),
+        [seed, size, part] if part == "calls" || part == "lines" => (seed, size, part.as_str()),
+        _ => return None,
+    };
+    let (calls, lines) = (part != "lines", part != "calls");
+    Some(Arguments { seed: seed.parse().ok()?, size: size.parse().ok()?, calls, lines })
+}
+
+/// Says what was alike, and how often which reply came.
+fn alike(what: &str, since: Instant, tally: impl Iterator<Item = (&'static str, String, u64)>) {
+    let rows: Vec<_> = tally.collect();
+    let all: u64 = rows.iter().map(|(.., count)| count).sum();
+    println!("{all} {what} alike in {} seconds", since.elapsed().as_secs());
+    for (name, reply, count) in rows {
+        println!("{name:>9} {reply:>5} {count:>9}");
+    }
+}
+
+fn by_calls(seed: u64, size: usize, run: &str) -> Result<(), String> {
+    let (subject, since) = (compared::subject(), Instant::now());
+    let mut tally = Tally::new();
+    if let Err(failure) = plan::calls(&subject, &mut tally, seed, size) {
+        let (case, what) = shrink(&subject, failure.case, failure.what);
+        return Err(report::of_calls(&case, &what, run));
+    }
+    alike("calls", since, tally.into_iter().map(|((name, refusal), count)| (name, refusal.to_string(), count)));
+    Ok(())
+}
+
+fn by_lines(program: &dyn LineProgram, seed: u64, size: usize, run: &str) -> Result<(), String> {
+    let since = Instant::now();
+    let mut tally = LineTally::new();
+    if let Err(found) = plan::lines(program, &mut tally, seed, size) {
+        return Err(report::of_lines(&shorten(program, found), run));
+    }
+    alike("lines", since, tally.into_iter().map(|((name, reply), count)| (name, reply, count)));
+    Ok(())
+}
+
+fn stop(status: u8, what: impl Display) -> ExitCode {
+    eprintln!("{what}");
+    ExitCode::from(status)
 }
 
 fn main() -> ExitCode {
-    let Some((seed, size)) = arguments() else {
-        eprintln!("usage: differential SEED SIZE");
-        return ExitCode::from(2);
+    let Some(Arguments { seed, size, calls, lines }) = arguments() else {
+        return stop(2, "usage: differential SEED SIZE [calls|lines]");
     };
-    let subject = subject();
-    let mut tally = Tally::new();
-    match plan::run(&subject, &mut tally, seed, size) {
-        Ok(()) => {
-            println!("seed {seed}, size {size}: {} calls alike", tally.values().sum::<u64>());
-            for ((name, refusal), count) in tally {
-                println!("{name:>9} {refusal:>2} {count:>9}");
-            }
-            ExitCode::SUCCESS
-        }
+    let program = match compared::program() {
+        Err(missing) if lines => return stop(2, missing),
+        program => program,
+    };
+    let run = format!("seed-{seed}-size-{size}");
+    let mut result = if calls { by_calls(seed, size, &run) } else { Ok(()) };
+    if let (Ok(()), Ok(program), true) = (&result, &program, lines) {
+        result = by_lines(program, seed, size, &run);
+    }
+    match result {
+        Ok(()) => ExitCode::SUCCESS,
         Err(failure) => {
-            let (case, what) = shrink(&subject, failure.case, failure.what);
-            println!("{}\n# the last call differs: {what} (seed {seed}, size {size})", script(&case));
+            println!("{failure}");
             ExitCode::FAILURE
         }
     }

@@ -1,12 +1,18 @@
 //! A whole run: what a seed and a size stand for.
 
 use crate::damage;
+use crate::flaw::{self, Flaw};
 use crate::history::{ground, history, walk};
 use crate::limits;
+use crate::pieces::Pieces;
+use crate::program::{compare, LineProgram};
 use crate::rng::Rng;
+use crate::scripts;
 use crate::session::{Failure, Session, Tally};
 use crate::shape;
+use crate::shorten::Found;
 use crate::subject::Subject;
+use crate::writer::{LineTally, Script};
 
 /// All 225 of s and r, in an order by the seed, so that 225 histories meet each once.
 fn pairs(rng: &mut Rng) -> Vec<(u32, u32)> {
@@ -53,7 +59,22 @@ pub fn damages(subject: &dyn Subject, tally: &mut Tally, rng: &mut Rng, size: us
     Ok(())
 }
 
-pub fn run(subject: &dyn Subject, tally: &mut Tally, seed: u64, size: usize) -> Result<(), Failure> {
+/// Stores with each flaw in their trees, for so many of s and r.
+pub fn flaws(subject: &dyn Subject, tally: &mut Tally, rng: &mut Rng, size: usize) -> Result<(), Failure> {
+    for &(s, r) in pairs(rng).iter().cycle().take(size) {
+        for flaw in Flaw::ALL {
+            // A full node needs s·r^2 leaves.
+            let most = if matches!(flaw, Flaw::Full | Flaw::FullRoot) { 6_000 } else { 400 };
+            if let Some(words) = flaw::flawed(rng, s, r, flaw, most) {
+                damage::flawed(subject, tally, rng, &words)?;
+            }
+        }
+    }
+    Ok(())
+}
+
+/// The comparison by calls.
+pub fn calls(subject: &dyn Subject, tally: &mut Tally, seed: u64, size: usize) -> Result<(), Failure> {
     let mut rng = Rng::new(seed);
     let rng = &mut rng;
     limits::loads(subject, tally)?;
@@ -61,8 +82,43 @@ pub fn run(subject: &dyn Subject, tally: &mut Tally, seed: u64, size: usize) -> 
     histories(subject, tally, rng, size)?;
     shapes(subject, tally, rng, size)?;
     damages(subject, tally, rng, size / 8 + 4)?;
+    flaws(subject, tally, rng, size)?;
     limits::run_from_k(subject, tally, rng)?;
     // With 225 or more the run is meant to meet all pairs; the great stores then come too.
     limits::labels(subject, tally, rng, if size < 225 { 5_000 } else { 20_000 })?;
     limits::tags(subject, tally, rng)
+}
+
+/// Runs a script on the program, cut into pieces by chance.
+fn attempt(program: &dyn LineProgram, rng: &mut Rng, script: Script) -> Result<(), Found> {
+    let pieces = Pieces::any(rng, script.input.len());
+    match compare(program, &script.input, &script.due, &pieces) {
+        Some(what) => Err(Found { script: script.input, pieces, what }),
+        None => Ok(()),
+    }
+}
+
+/// The comparison by lines.
+pub fn lines(program: &dyn LineProgram, tally: &mut LineTally, seed: u64, size: usize) -> Result<(), Found> {
+    let mut rng = Rng::new(!seed);
+    let rng = &mut rng;
+    let few = vec![scripts::fresh(tally), scripts::run_from_k(rng, tally)];
+    for script in [scripts::endings(tally), few, scripts::misses(tally)].concat() {
+        attempt(program, rng, script)?;
+    }
+    for (i, (s, r)) in pairs(rng).into_iter().cycle().take(size).enumerate() {
+        let script = scripts::mixed(rng, tally, s, r);
+        attempt(program, rng, script)?;
+        if i % 15 == 0 {
+            let script = scripts::long(rng, tally, s, r);
+            attempt(program, rng, script)?;
+        }
+        if i % 30 == 0 {
+            let script = scripts::full(rng, tally);
+            attempt(program, rng, script)?;
+            let script = scripts::lengths(rng, tally);
+            attempt(program, rng, script)?;
+        }
+    }
+    Ok(())
 }

@@ -3,44 +3,53 @@
 
 use crate::call::{Call, Case};
 use crate::kinds::{BEGIN, END, TEXT};
-use reference::{HEADER, NO_TAG, RECORD};
+use reference::{HEADER, LONGEST_LINE, NO_TAG, PROGRAM_TAGS, RECORD};
 
-/// The program's store.
-const PROGRAM_WORDS: usize = HEADER + RECORD * 2_000;
+const PROGRAM_WORDS: usize = HEADER + RECORD * PROGRAM_TAGS;
 
-/// The longest line that the program reads.
-const LONGEST: usize = 2_100;
-
-fn tag(tag: u32) -> String {
+pub(crate) fn tag(tag: u32) -> String {
     if tag == NO_TAG { "front".into() } else { tag.to_string() }
 }
 
-fn letters(kinds: &[u8]) -> Option<String> {
+pub(crate) fn load(s: u32, r: u32, book: u32, kinds: &[u8]) -> Option<String> {
     let letter = |kind: &u8| match *kind {
         BEGIN => Some('B'),
         END => Some('E'),
         TEXT => Some('T'),
         _ => None,
     };
-    kinds.iter().map(letter).collect()
+    let letters: String = kinds.iter().map(letter).collect::<Option<_>>()?;
+    Some(format!("load {s} {r} {book} {letters}").trim_end().into())
 }
 
-fn line(call: &Call) -> String {
+/// The line that makes the program make this call, if there is one. Its lists have room for all its tags.
+fn line(call: &Call) -> Option<String> {
     let said = match call {
-        Call::Load { s, r, book, kinds } if kinds.is_empty() => Some(format!("load {s} {r} {book}")),
-        Call::Load { s, r, book, kinds } => letters(kinds).map(|kinds| format!("load {s} {r} {book} {kinds}")),
-        Call::Insert { kind: BEGIN, place } => Some(format!("element {}", tag(*place))),
-        Call::Insert { kind: TEXT, place } => Some(format!("text {}", tag(*place))),
-        Call::Mark { tag: it } => Some(format!("mark {}", tag(*it))),
-        Call::List { begin: NO_TAG, .. } => Some("list".into()),
-        _ => None,
+        Call::Load { s, r, book, kinds } => load(*s, *r, *book, kinds)?,
+        Call::Insert { kind: BEGIN, place } => format!("element {}", tag(*place)),
+        Call::Insert { kind: TEXT, place } => format!("text {}", tag(*place)),
+        Call::Mark { tag: it } => format!("mark {}", tag(*it)),
+        Call::List { begin: NO_TAG, tags, labels } if *tags.min(labels) >= PROGRAM_TAGS => "list".into(),
+        _ => return None,
     };
-    match said {
-        Some(said) if said.len() <= LONGEST => said,
-        _ => format!("# {call:?}"),
-    }
+    (said.len() <= LONGEST_LINE).then_some(said)
 }
 
+fn starts_as_the_program(case: &Case) -> bool {
+    case.start.len() == PROGRAM_WORDS && case.start.iter().all(|word| *word == 0)
+}
+
+/// The case as an input of the book program, if it is one. Where the last call is no listing, one is added: it shows
+/// what the call has left behind.
+pub fn input(case: &Case) -> Option<String> {
+    let mut lines: Vec<String> = case.calls.iter().map(line).collect::<Option<_>>()?;
+    if !matches!(case.calls.last(), Some(Call::List { .. })) {
+        lines.push("list".into());
+    }
+    starts_as_the_program(case).then(|| lines.join("\n") + "\n")
+}
+
+/// The case for a reader, whole.
 pub fn script(case: &Case) -> String {
     let mut lines = Vec::new();
     if case.start.len() != PROGRAM_WORDS {
@@ -49,6 +58,6 @@ pub fn script(case: &Case) -> String {
     if case.start.iter().any(|word| *word != 0) {
         lines.push(format!("# over these words: {:?}", case.start));
     }
-    lines.extend(case.calls.iter().map(line));
+    lines.extend(case.calls.iter().map(|call| line(call).unwrap_or_else(|| format!("# {call:?}"))));
     lines.join("\n")
 }

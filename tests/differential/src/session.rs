@@ -1,12 +1,16 @@
 //! A session makes calls on the subject and on the reference, from the same words, and compares all they give.
 
-use crate::bare::Bare;
+use crate::bare::{self, Bare};
 use crate::call::{Call, Case, Reply};
-use crate::subject::{Reference, Subject};
+use crate::due;
+use crate::subject::{Lent, Reference, Subject};
 use std::collections::BTreeMap;
 
 /// Words around every lent slice, to see writes outside it.
 const GUARD: [u32; 4] = [0xA5A5_5A5A; 4];
+
+/// And bytes around the kinds.
+const BYTES: [u8; 4] = [0xA5; 4];
 
 /// How often which call gave which refusal number, or 0; an answered question counts under its answer.
 pub type Tally = BTreeMap<(&'static str, u32), u64>;
@@ -26,14 +30,24 @@ struct After {
     labels: Vec<u32>,
 }
 
-fn guarded(words: &[u32]) -> Vec<u32> {
-    [&GUARD[..], words, &GUARD[..]].concat()
-}
+/// A slice to lend, with guards on both sides.
+struct Guarded<T>(Vec<T>, [T; 4]);
 
-/// The words between the guards; None where a guard was written.
-fn unguard(words: Vec<u32>) -> Option<Vec<u32>> {
-    let inner = words.strip_prefix(&GUARD[..])?.strip_suffix(&GUARD[..])?;
-    Some(inner.to_vec())
+impl<T: Copy + PartialEq> Guarded<T> {
+    fn new(inner: &[T], guard: [T; 4]) -> Guarded<T> {
+        Guarded([&guard[..], inner, &guard[..]].concat(), guard)
+    }
+
+    fn lend(&mut self) -> &mut [T] {
+        let end = self.0.len() - self.1.len();
+        &mut self.0[self.1.len()..end]
+    }
+
+    /// What stands between the guards; None where a guard was written.
+    fn back(self) -> Option<Vec<T>> {
+        let inner = self.0.strip_prefix(&self.1[..])?.strip_suffix(&self.1[..])?;
+        Some(inner.to_vec())
+    }
 }
 
 /// Distinct values, so that a list that writes past its count is seen.
@@ -43,13 +57,14 @@ fn blank(len: usize) -> Vec<u32> {
 
 fn perform(subject: &dyn Subject, call: &Call, words: &[u32]) -> Result<After, String> {
     let (tags, labels) = call.lists();
-    let mut lent = [guarded(words), guarded(&blank(tags)), guarded(&blank(labels))];
-    let [words, tags, labels] = &mut lent;
-    let inside = |it: &Vec<u32>| GUARD.len()..it.len() - GUARD.len();
-    let (w, t, l) = (inside(words), inside(tags), inside(labels));
-    let reply = subject.call(call, &mut words[w], &mut tags[t], &mut labels[l]);
-    match lent.map(unguard) {
-        [Some(words), Some(tags), Some(labels)] => Ok(After { reply, words, tags, labels }),
+    let mut kinds = Guarded::new(call.kinds(), BYTES);
+    let mut words = Guarded::new(words, GUARD);
+    let [mut tags, mut labels] = [tags, labels].map(|len| Guarded::new(&blank(len), GUARD));
+    let lent = Lent { kinds: kinds.lend(), words: words.lend(), tags: tags.lend(), labels: labels.lend() };
+    let reply = subject.call(call, lent);
+    match (kinds.back(), words.back(), tags.back(), labels.back()) {
+        (Some(kinds), ..) if kinds != call.kinds() => Err("the store wrote into the kinds".into()),
+        (Some(_), Some(words), Some(tags), Some(labels)) => Ok(After { reply, words, tags, labels }),
         _ => Err("the store wrote outside a lent slice".into()),
     }
 }
@@ -94,6 +109,11 @@ impl<'a> Session<'a> {
         Session { subject, tally, words: start.clone(), bare: None, case: Case { start, calls: Vec::new() } }
     }
 
+    /// What has been done so far.
+    pub fn case(&self) -> &Case {
+        &self.case
+    }
+
     /// Makes a call on both sides.
     pub fn step(&mut self, call: Call) -> Result<Reply, Failure> {
         let result = self.compare(&call);
@@ -108,18 +128,31 @@ impl<'a> Session<'a> {
             return Err(what);
         }
         *self.tally.entry((heading(call, &got.reply), got.reply[0])).or_default() += 1;
+        self.account(call, &got)?;
         self.words = got.words;
-        if got.reply[0] == 0 {
-            match (&mut self.bare, call) {
-                (Some(bare), call) => bare.accepted(call, &got.reply),
-                (bare @ None, Call::Load { s, r, kinds, .. }) => *bare = Some(Bare::load(*s, *r, kinds.len())),
-                (None, _) => {}
-            }
-            if let Some(bare) = &self.bare {
-                bare.check(&self.words)?;
-            }
-        }
         Ok(got.reply)
+    }
+
+    /// Sets the call beside the bare list. This asks the reference nothing.
+    fn account(&mut self, call: &Call, got: &After) -> Result<(), String> {
+        let due = match (&self.bare, call) {
+            (_, Call::Load { s, r, kinds, .. }) => Some(due::load_refusal(*s, *r, kinds, self.words.len())),
+            (Some(bare), _) => bare.refusal(call, self.words.len()),
+            (None, _) => None,
+        };
+        if let Some(due) = due.filter(|due| *due != got.reply[0]) {
+            return Err(format!("bare list: refusal {} where {due} is due", got.reply[0]));
+        }
+        if got.reply[0] != 0 {
+            return Ok(());
+        }
+        bare::counts(call, &got.reply, &self.words, &got.words)?;
+        match (&mut self.bare, call) {
+            (bare, Call::Load { s, r, kinds, .. }) => *bare = Some(Bare::load(*s, *r, kinds)),
+            (Some(bare), _) => bare.accepted(call, &got.reply)?,
+            (None, _) => {}
+        }
+        self.bare.as_ref().map_or(Ok(()), |bare| bare.check(&got.words))
     }
 }
 

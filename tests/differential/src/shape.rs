@@ -5,9 +5,9 @@ use crate::kinds::{self, BEGIN, END};
 use crate::rng::Rng;
 use reference::{HEADER, NO_TAG, RECORD};
 
-/// Splits l leaves into children of `least` to `most` leaves each.
-fn parts(rng: &mut Rng, l: u64, least: u64, most: u64) -> Vec<u64> {
-    let (few, many) = (l.div_ceil(most), l / least);
+/// Splits l leaves into at most so many children of `least` to `most` leaves each. There must be a way to.
+pub(crate) fn parts(rng: &mut Rng, l: u64, children: u64, least: u64, most: u64) -> Vec<u64> {
+    let (few, many) = (l.div_ceil(most), children.min(l / least));
     let count = match rng.below(4) {
         0 => few,
         1 => many,
@@ -34,9 +34,9 @@ fn number(rng: &mut Rng, s: u64, r: u64, height: u32, l: u64, value: u64, labels
         labels.extend((0..l).map(|i| value + i));
         return;
     }
-    let least = r.pow(height - 1);
-    let step = (s * r - 1).pow(height - 1);
-    for (i, l) in parts(rng, l, least, s * least - 1).into_iter().enumerate() {
+    let (least, base) = (r.pow(height - 1), s * r - 1);
+    let step = base.pow(height - 1);
+    for (i, l) in parts(rng, l, base, least, s * least - 1).into_iter().enumerate() {
         number(rng, s, r, height - 1, l, value + i as u64 * step, labels);
     }
 }

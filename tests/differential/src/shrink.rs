@@ -3,21 +3,26 @@
 use crate::call::{Call, Case};
 use crate::kinds::{BEGIN, TEXT};
 use crate::session::replay;
-use crate::subject::{Reference, Subject};
-use reference::{HEADER, NO_TAG, RECORD};
+use crate::subject::{Lent, Reference, Subject};
+use reference::{HEADER, NO_TAG, PROGRAM_TAGS, RECORD};
 
 /// Replays of one shrinking, so that a long case cannot take for ever.
 const PATIENCE: usize = 2_000;
 
-/// Renames tags up to the next load, as if `many` tags from `first` on had never been: the tags after them have lower
-/// numbers, and what stood at one of them now stands at the place.
+/// The number of a tag as if `many` tags from `first` on had never been: the tags after them have lower numbers, and
+/// what stood at one of them now stands at the place.
+pub(crate) fn lowered(tag: u32, first: u32, many: u32, place: u32) -> u32 {
+    match tag {
+        NO_TAG => tag,
+        _ if tag >= first + many => tag - many,
+        _ if tag >= first => place,
+        _ => tag,
+    }
+}
+
+/// Renames tags up to the next load.
 fn forget(calls: &mut [Call], first: u32, many: u32, place: u32) {
-    let lower = |tag: &mut u32| match *tag {
-        NO_TAG => {}
-        it if it >= first + many => *tag = it - many,
-        it if it >= first => *tag = place,
-        _ => {}
-    };
+    let lower = |tag: &mut u32| *tag = lowered(*tag, first, many, place);
     for call in calls.iter_mut().take_while(|call| !matches!(call, Call::Load { .. })) {
         match call {
             Call::Insert { place, .. } => lower(place),
@@ -34,14 +39,11 @@ fn forget(calls: &mut [Call], first: u32, many: u32, place: u32) {
 
 /// The kinds of the call, if it is a load.
 fn kinds_of(case: &Case, index: usize) -> &[u8] {
-    match case.calls.get(index) {
-        Some(Call::Load { kinds, .. }) => kinds,
-        _ => &[],
-    }
+    case.calls.get(index).map_or(&[], Call::kinds)
 }
 
 /// The smallest trees first.
-const SMALL: [(u32, u32); 5] = [(2, 2), (3, 2), (2, 3), (4, 2), (3, 3)];
+pub(crate) const SMALL: [(u32, u32); 5] = [(2, 2), (3, 2), (2, 3), (4, 2), (3, 3)];
 
 struct Shrinker<'a> {
     subject: &'a dyn Subject,
@@ -91,7 +93,9 @@ impl Shrinker<'_> {
         let mut reply = [2; 5];
         for call in &case.calls[..=index] {
             let (tags, labels) = call.lists();
-            reply = Reference::right().call(call, &mut words, &mut vec![0; tags], &mut vec![0; labels]);
+            let (tags, labels) = (&mut vec![0; tags], &mut vec![0; labels]);
+            let lent = Lent { kinds: &mut call.kinds().to_vec(), words: &mut words, tags, labels };
+            reply = Reference::right().call(call, lent);
         }
         if let (Call::Insert { kind, place }, 0) = (case.calls.remove(index), reply[0]) {
             forget(&mut case.calls[index..], reply[1], if kind == BEGIN { 2 } else { 1 }, place);
@@ -188,13 +192,20 @@ impl Shrinker<'_> {
         self.try_case(case);
     }
 
-    /// Starts from the words of the book program where the failure allows it.
+    /// Starts from the words of the book program and lends lists as long as it does, where the failure allows it.
     fn plainer_start(&mut self) {
-        let program = vec![0; HEADER + RECORD * 2_000];
+        let program = vec![0; HEADER + RECORD * PROGRAM_TAGS];
         if !self.try_case(Case { start: program, ..self.best.clone() }) {
             let zeros = vec![0; self.best.start.len()];
             self.try_case(Case { start: zeros, ..self.best.clone() });
         }
+        let mut case = self.best.clone();
+        for call in &mut case.calls {
+            if let Call::List { tags, labels, .. } = call {
+                (*tags, *labels) = (PROGRAM_TAGS, PROGRAM_TAGS);
+            }
+        }
+        self.try_case(case);
     }
 }
 

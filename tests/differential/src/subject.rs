@@ -3,9 +3,16 @@
 use crate::call::{Call, Reply};
 use reference::{Answer, Fault, Held, Refusal, Store};
 
+/// The slices that a call is lent, of exactly these lengths. The kinds are those of the call.
+pub struct Lent<'a> {
+    pub kinds: &'a mut [u8],
+    pub words: &'a mut [u32],
+    pub tags: &'a mut [u32],
+    pub labels: &'a mut [u32],
+}
+
 pub trait Subject {
-    /// Makes the call on the lent slices, of exactly these lengths.
-    fn call(&self, call: &Call, words: &mut [u32], tags: &mut [u32], labels: &mut [u32]) -> Reply;
+    fn call(&self, call: &Call, lent: Lent) -> Reply;
 }
 
 /// The reference, with a fault where a test wants one.
@@ -29,8 +36,8 @@ fn reply<const N: usize>(result: Result<[u32; N], Refusal>) -> Reply {
 }
 
 impl Subject for Reference {
-    fn call(&self, call: &Call, words: &mut [u32], tags: &mut [u32], labels: &mut [u32]) -> Reply {
-        let mut store = Store::faulty(words.to_vec(), self.fault);
+    fn call(&self, call: &Call, lent: Lent) -> Reply {
+        let mut store = Store::faulty(lent.words.to_vec(), self.fault);
         let reply = match *call {
             Call::Load { s, r, book, ref kinds } => {
                 reply(store.load(s, r, book, kinds).map(|it| [it.tags, it.height]))
@@ -48,9 +55,9 @@ impl Subject for Reference {
                     Answer::Stale => [2],
                 }))
             }
-            Call::List { begin, .. } => reply(store.list(begin, tags, labels).map(|count| [count])),
+            Call::List { begin, .. } => reply(store.list(begin, lent.tags, lent.labels).map(|count| [count])),
         };
-        words.copy_from_slice(&store.words);
+        lent.words.copy_from_slice(&store.words);
         reply
     }
 }

@@ -1,13 +1,16 @@
 //! The harness must fail on every seeded fault, and say it briefly. Runs without the library: `--features self`.
 
-use differential::call::{Call, Reply};
+use differential::call::{Call, Case, Reply};
+use differential::flaw::{flawed, Flaw};
 use differential::plan;
+use differential::program::due;
+use differential::report;
 use differential::rng::Rng;
-use differential::script::script;
+use differential::script::{input, script};
 use differential::session::{replay, Failure, Tally};
 use differential::shrink::shrink;
-use differential::subject::{Reference, Subject};
-use reference::Fault;
+use differential::subject::{Lent, Reference, Subject};
+use reference::{Clause, Fault, Program, HEADER, NO_TAG, RECORD};
 
 fn histories(subject: &dyn Subject, seed: u64) -> Result<(), Failure> {
     plan::histories(subject, &mut Tally::new(), &mut Rng::new(seed), 40)
@@ -16,7 +19,7 @@ fn histories(subject: &dyn Subject, seed: u64) -> Result<(), Failure> {
 #[test]
 fn the_reference_agrees_with_itself() {
     let mut tally = Tally::new();
-    plan::run(&Reference::right(), &mut tally, 1, 12).expect("no difference");
+    plan::calls(&Reference::right(), &mut tally, 1, 12).expect("no difference");
     // Every refusal that document 01's table names must have come, and every call must have been accepted.
     let expected: &[(&str, &[u32])] = &[
         ("load", &[0, 1, 3, 4, 5, 6, 7]),
@@ -42,6 +45,9 @@ fn caught(fault: Fault) -> String {
     let (case, _) = shrink(&subject, failure.case, failure.what);
     assert!(replay(&subject, &case).is_some());
     assert!(replay(&Reference::right(), &case).is_none());
+    // The book program can replay it: with the same fault it prints something else than it must.
+    let input = input(&case).expect("lines can say it");
+    assert_ne!(Program::faulty(fault).run(input.as_bytes()), due(input.as_bytes()), "{fault:?}");
     let script = script(&case);
     println!("{fault:?}\n{script}");
     assert!(case.calls.len() <= 8 && script.len() <= 100, "{fault:?} is not short");
@@ -78,59 +84,107 @@ fn moved_off_by_one_is_caught() {
     assert!(script.lines().count() <= 2, "{script}");
 }
 
+/// What is printed of a difference by calls: an input of the book program with what it must print, where lines can say
+/// the case, and else the words and the calls.
+#[test]
+fn a_report_can_be_replayed() {
+    let load = Call::Load { s: 2, r: 2, book: 7, kinds: vec![3] };
+    let insert = Call::Insert { kind: 3, place: NO_TAG };
+    let case = Case { start: vec![0; HEADER + RECORD * 2_000], calls: vec![load, insert] };
+    let printed = report::of_calls(&case, "a difference", "test-calls");
+    let (lines, rest) = printed.split_once("# replay: ./book ").expect("it names a file");
+    assert_eq!(lines, "load 2 2 7 T\ntext front\nlist\n# call 2 differs: a difference (test-calls)\n");
+    let (path, rest) = rest.split_once('\n').expect("more comes");
+    assert_eq!(rest, "# it must print:\nok 1 1\nok 1 1 0\n1 0\n0 1\nend 2\n");
+    assert_eq!(std::fs::read_to_string(path).expect("the file is there"), "load 2 2 7 T\ntext front\nlist\n");
+    std::fs::remove_file(path).expect("it can be removed");
+
+    let case = Case { start: vec![1; 8], calls: vec![Call::Hold { tag: 0 }] };
+    let printed = report::of_calls(&case, "a difference", "test-calls");
+    assert!(printed.contains("# over these words: [1, 1, 1, 1, 1, 1, 1, 1]\n# Hold { tag: 0 }\n"), "{printed}");
+    assert!(!printed.contains("replay"), "{printed}");
+}
+
 /// The reference with something done to the lent slices after each call.
-struct Spoiled(fn(&Reply, &mut [u32], &mut [u32]));
+struct Spoiled(fn(&Reply, Lent));
 
 impl Subject for Spoiled {
-    fn call(&self, call: &Call, words: &mut [u32], tags: &mut [u32], labels: &mut [u32]) -> Reply {
-        let reply = Reference::right().call(call, words, tags, labels);
-        (self.0)(&reply, words, tags);
+    fn call(&self, call: &Call, lent: Lent) -> Reply {
+        let Lent { kinds, words, tags, labels } = lent;
+        let again = Lent { kinds: &mut *kinds, words: &mut *words, tags: &mut *tags, labels: &mut *labels };
+        let reply = Reference::right().call(call, again);
+        (self.0)(&reply, Lent { kinds, words, tags, labels });
         reply
     }
 }
 
 #[test]
 fn writing_where_a_call_must_not_is_caught() {
-    let after_refusal = Spoiled(|reply, words, _| {
-        if let (8, Some(last)) = (reply[0], words.last_mut()) {
+    let after_refusal = Spoiled(|reply, lent| {
+        if let (8, Some(last)) = (reply[0], lent.words.last_mut()) {
             *last ^= 1;
         }
     });
     let failure = histories(&after_refusal, 5).expect_err("a refused call wrote");
     assert_eq!(failure.what, "refusal 8 changed words");
 
-    let past_the_store = Spoiled(|reply, words, _| {
-        if let (0, Some(last)) = (reply[0], words.last_mut()) {
+    let past_the_store = Spoiled(|reply, lent| {
+        if let (0, Some(last)) = (reply[0], lent.words.last_mut()) {
             *last ^= 1;
         }
     });
     histories(&past_the_store, 5).expect_err("words past the store were written");
 
-    let past_the_list = Spoiled(|_, _, tags| {
-        if let Some(last) = tags.last_mut() {
+    let past_the_list = Spoiled(|_, lent| {
+        if let Some(last) = lent.tags.last_mut() {
             *last = 0;
         }
     });
     let failure = histories(&past_the_list, 5).expect_err("a list was written past its count");
     assert!(failure.what.starts_with("tags["), "{}", failure.what);
+
+    let into_the_kinds = Spoiled(|_, lent| {
+        if let Some(first) = lent.kinds.first_mut() {
+            *first += 16;
+        }
+    });
+    let failure = histories(&into_the_kinds, 5).expect_err("a load wrote into its kinds");
+    assert_eq!(failure.what, "the store wrote into the kinds");
 }
 
-/// A store that takes one unsound store for sound must be caught by the damaged stores alone.
+/// A soundness test that overlooks one clause must be caught by stores that are not sound, and by nothing else.
 #[test]
-fn a_blind_verdict_is_caught() {
-    struct Blind;
-    impl Subject for Blind {
-        fn call(&self, call: &Call, words: &mut [u32], tags: &mut [u32], labels: &mut [u32]) -> Reply {
-            let reply = Reference::right().call(call, words, tags, labels);
-            let is_hold = matches!(call, Call::Hold { .. });
-            // Prior of tag 0 is never looked at.
-            let mut mended = words.to_vec();
-            if reply[0] == 2 && is_hold && mended.len() > 10 {
-                mended[10] = u32::MAX;
-                return Reference::right().call(call, &mut mended, tags, labels);
-            }
-            reply
-        }
+fn every_overlooked_clause_is_caught() {
+    for clause in Clause::ALL {
+        let subject = Reference { fault: Fault::Overlooks(clause) };
+        assert!(histories(&subject, 6).is_ok(), "{clause:?}");
+        let (mut tally, mut rng) = (Tally::new(), Rng::new(4));
+        let caught = plan::damages(&subject, &mut tally, &mut rng, 40)
+            .and_then(|()| plan::flaws(&subject, &mut tally, &mut rng, 40))
+            .expect_err("an unsound store was served");
+        assert!(caught.what.contains("the reference says [2, 0, 0, 0, 0]"), "{clause:?}: {}", caught.what);
     }
-    plan::damages(&Blind, &mut Tally::new(), &mut Rng::new(4), 30).expect_err("a wrong prior was let through");
+}
+
+/// Each flaw of a tree must be seen by the clause that names it alone: the store is sound but for that.
+#[test]
+fn each_flaw_breaks_one_clause() {
+    let mut rng = Rng::new(5);
+    for (flaw, clause) in [
+        (Flaw::Thin, Clause::Thin),
+        (Flaw::Full, Clause::Full),
+        (Flaw::ThinRoot, Clause::ThinRoot),
+        (Flaw::FullRoot, Clause::FullRoot),
+        (Flaw::Gap, Clause::Gaps),
+    ] {
+        let mut found = 0;
+        for (s, r) in (2..=16).flat_map(|s| (2..=16).map(move |r| (s, r))) {
+            if let Some(words) = flawed(&mut rng, s, r, flaw, 6_000) {
+                assert!(reference::read(&words, Fault::None).is_none(), "{flaw:?}, s {s}, r {r}");
+                assert!(reference::read(&words, Fault::Overlooks(clause)).is_some(), "{flaw:?}, s {s}, r {r}");
+                found += 1;
+            }
+        }
+        assert!(found > 200, "{flaw:?} for {found} of 225");
+    }
 }

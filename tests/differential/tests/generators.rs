@@ -1,13 +1,17 @@
 //! What the generators promise: sound shapes are sound, damage gives both verdicts, and the bare list is strict.
 
-use differential::bare::Bare;
+use differential::bare::{counts, Bare};
 use differential::call::{Call, Case};
 use differential::damage::variants;
+use differential::due::load_refusal;
+use differential::history::history;
 use differential::kinds;
 use differential::rng::Rng;
-use differential::script::script;
+use differential::script::{input, script};
+use differential::session::{Session, Tally};
 use differential::shape;
-use reference::{Fault, Store, HEADER, NO_TAG, RECORD};
+use differential::subject::Reference;
+use reference::{Fault, Program, Store, HEADER, NO_TAG, RECORD};
 
 #[test]
 fn shapes_are_sound_for_all_s_and_r() {
@@ -54,11 +58,11 @@ fn damage_gives_both_verdicts() {
 fn the_bare_list_is_strict() {
     let mut store = Store::new(vec![0; HEADER + RECORD * 8]);
     store.load(2, 2, 7, &[1, 1, 2, 1, 2, 2]).unwrap();
-    let mut bare = Bare::load(2, 2, 6);
+    let mut bare = Bare::load(2, 2, &[1, 1, 2, 1, 2, 2]);
     for first in [6, 7] {
         let reply = store.insert(3, 2).unwrap();
         assert_eq!(reply.first, first);
-        bare.accepted(&Call::Insert { kind: 3, place: 2 }, &[0, reply.first, reply.moved, reply.split, 0]);
+        bare.accepted(&Call::Insert { kind: 3, place: 2 }, &[0, reply.first, reply.moved, reply.split, 0]).unwrap();
     }
     assert_eq!(bare.check(&store.words), Ok(()));
     // Height, tag count, order of the book, a label too great, two labels alike.
@@ -68,10 +72,72 @@ fn the_bare_list_is_strict() {
         assert!(bare.check(&words).is_err(), "word {at} = {word}");
     }
     // More moved than the insertions and the load have paid for.
-    bare.accepted(&Call::Insert { kind: 3, place: NO_TAG }, &[0, 8, 1_000, 0, 0]);
+    bare.accepted(&Call::Insert { kind: 3, place: NO_TAG }, &[0, 8, 1_000, 0, 0]).unwrap();
     store.words.resize(HEADER + RECORD * 9, 0);
     store.insert(3, NO_TAG).unwrap();
     assert!(bare.check(&store.words).unwrap_err().contains("T ="));
+}
+
+/// Refusals from the calls alone, on B T E T with the text 1 marked, over words for six tags.
+#[test]
+fn the_bare_list_knows_the_refusals() {
+    let mut bare = Bare::load(2, 2, &[1, 3, 2, 3]);
+    assert_eq!(bare.accepted(&Call::Mark { tag: 1 }, &[0, 1, 0, 0, 0]), Ok(()));
+    let words = HEADER + RECORD * 6;
+    let list = |begin, tags, labels| Call::List { begin, tags, labels };
+    for (call, due) in [
+        (Call::Insert { kind: 2, place: 9 }, 4),
+        (Call::Insert { kind: 3, place: 4 }, 8),
+        (Call::Insert { kind: 3, place: 1 }, 9),
+        (Call::Insert { kind: 1, place: NO_TAG }, 0),
+        (Call::Insert { kind: 3, place: 3 }, 0),
+        (Call::Mark { tag: NO_TAG }, 8),
+        (Call::Mark { tag: 1 }, 9),
+        (Call::Hold { tag: 2 }, 10),
+        (Call::Hold { tag: 3 }, 0),
+        (list(4, 0, 0), 8),
+        (list(1, 0, 0), 9),
+        (list(3, 9, 9), 10),
+        (list(NO_TAG, 2, 3), 11),
+        (list(NO_TAG, 3, 3), 0),
+        (list(0, 0, 0), 0),
+    ] {
+        assert_eq!(bare.refusal(&call, words), Some(due), "{call:?}");
+    }
+    assert_eq!(bare.refusal(&Call::Insert { kind: 1, place: 0 }, words - 1), Some(6));
+    assert_eq!(bare.refusal(&Call::Insert { kind: 3, place: 0 }, words - 1), Some(0));
+    // The element has one tag left to mark inside it, and its own two.
+    assert!(bare.accepted(&Call::Mark { tag: 0 }, &[0, 3, 0, 0, 0]).is_err());
+    // New tags take the next numbers.
+    assert!(bare.accepted(&Call::Insert { kind: 3, place: 3 }, &[0, 5, 0, 0, 0]).is_err());
+
+    // Specimens K and L, and the end of the run from K.
+    assert_eq!(load_refusal(16, 2, &[3; 127], 9_999), 0);
+    assert_eq!(load_refusal(16, 2, &[3; 128], 9_999), 7);
+    let mut bare = Bare::load(16, 2, &[3; 127]);
+    for n in 127..1_022 {
+        bare.accepted(&Call::Insert { kind: 3, place: 0 }, &[0, n, 0, 0, 0]).unwrap();
+    }
+    assert_eq!(bare.refusal(&Call::Insert { kind: 1, place: 0 }, 9_999), Some(7));
+    assert_eq!(bare.refusal(&Call::Insert { kind: 3, place: 0 }, 9_999), Some(0));
+    bare.accepted(&Call::Insert { kind: 3, place: 0 }, &[0, 1_022, 0, 0, 0]).unwrap();
+    assert_eq!(bare.refusal(&Call::Insert { kind: 3, place: 0 }, 9_999), Some(7));
+}
+
+/// Moved and marked are counted in the words, whoever replies them.
+#[test]
+fn counts_are_differences_between_words() {
+    let mut store = Store::new(vec![0; HEADER + RECORD * 8]);
+    store.load(2, 2, 7, &[1, 1, 2, 1, 2, 2]).unwrap();
+    let before = store.words.clone();
+    let insert = Call::Insert { kind: 3, place: 2 };
+    store.insert(3, 2).unwrap();
+    assert_eq!(counts(&insert, &[0, 6, 1, 0, 0], &before, &store.words), Ok(()));
+    assert!(counts(&insert, &[0, 6, 2, 0, 0], &before, &store.words).is_err());
+    let before = store.words.clone();
+    store.mark(1).unwrap();
+    assert_eq!(counts(&Call::Mark { tag: 1 }, &[0, 2, 0, 0, 0], &before, &store.words), Ok(()));
+    assert!(counts(&Call::Mark { tag: 1 }, &[0, 1, 0, 0, 0], &before, &store.words).is_err());
 }
 
 #[test]
@@ -82,10 +148,43 @@ fn a_script_is_what_the_program_reads() {
         Call::Insert { kind: 3, place: 2 },
         Call::Insert { kind: 1, place: NO_TAG },
         Call::Mark { tag: 0 },
-        Call::List { begin: NO_TAG, tags: 8, labels: 8 },
+        Call::List { begin: NO_TAG, tags: 2_000, labels: 2_000 },
         Call::Hold { tag: 1 },
     ];
-    let case = Case { start: vec![0; HEADER + RECORD * 2_000], calls };
-    let want = "load 2 2 7 BBEBEE\nload 2 2 7\ntext 2\nelement front\nmark 0\nlist\n# Hold { tag: 1 }";
-    assert_eq!(script(&case), want);
+    let mut case = Case { start: vec![0; HEADER + RECORD * 2_000], calls };
+    let lines = "load 2 2 7 BBEBEE\nload 2 2 7\ntext 2\nelement front\nmark 0\nlist\n";
+    assert_eq!(script(&case), format!("{lines}# Hold {{ tag: 1 }}"));
+    assert_eq!(input(&case), None);
+    case.calls.pop();
+    assert_eq!(input(&case).as_deref(), Some(lines));
+    // A listing shows what another last call has left behind.
+    case.calls.pop();
+    assert_eq!(input(&case).as_deref(), Some(lines));
+    // No line says another start, a list with too little room or a kind that has no letter.
+    assert_eq!(input(&Case { start: vec![0; 8], ..case.clone() }), None);
+    for call in [
+        Call::List { begin: NO_TAG, tags: 2_000, labels: 8 },
+        Call::List { begin: 0, tags: 2_000, labels: 2_000 },
+        Call::Load { s: 2, r: 2, book: 7, kinds: vec![4] },
+        Call::Load { s: 2, r: 2, book: 7, kinds: vec![3; 2_100] },
+        Call::Insert { kind: 2, place: 0 },
+    ] {
+        assert_eq!(input(&Case { calls: vec![call.clone()], ..case.clone() }), None, "{call:?}");
+    }
+}
+
+/// What the lines of a case do in the program is what its calls do in a store.
+#[test]
+fn a_script_does_what_its_calls_do() {
+    let mut rng = Rng::new(6);
+    for round in 0..40 {
+        let (reference, mut tally) = (Reference::right(), Tally::new());
+        let mut session = Session::new(&reference, &mut tally, vec![0; HEADER + RECORD * 2_000]);
+        history(&mut session, &mut rng, 2 + round % 4, 2 + round / 4 % 3, 40, 60).expect("no difference");
+        let (words, mut case) = (session.words.clone(), session.case().clone());
+        case.calls.retain(|call| input(&Case { start: case.start.clone(), calls: vec![call.clone()] }).is_some());
+        let mut program = Program::default();
+        program.run(input(&case).expect("all calls are lines").as_bytes());
+        assert_eq!(program.store.words, words);
+    }
 }

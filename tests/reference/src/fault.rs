@@ -1,7 +1,8 @@
 //! Faults that a test can switch on, to see that the comparison notices them.
 //!
-//! They are the mistakes that document 01 lists under "Plausible and false", and an invented moved count. Everything
-//! outside tests uses `Fault::None`.
+//! They are the mistakes that document 01 lists under "Plausible and false", an invented moved count, a soundness
+//! test that overlooks one clause, and mistakes in reading the book program's lines. Everything outside tests uses
+//! `Fault::None`.
 
 #[derive(Clone, Copy, PartialEq, Eq, Debug, Default)]
 pub enum Fault {
@@ -17,4 +18,74 @@ pub enum Fault {
     MarkedLeftOut,
     /// The reply of an insertion says one moved tag too many.
     MovedOffByOne,
+    /// Words are taken for a sound store though this clause fails.
+    Overlooks(Clause),
+    /// Numbers in lines may have leading zeros.
+    LeadingZeros,
+    /// Numbers in lines that do not fit a word are cut to one.
+    NumbersCut,
+    /// Any run of spaces parts two fields, and spaces around a line do not count.
+    SpacesAlike,
+    /// A carriage return before the line feed is no part of the line.
+    CarriageReturn,
+    /// A line of 2,101 bytes is read.
+    LongLine,
+    /// A last line without a line feed gets no reply.
+    LastLineDropped,
+}
+
+/// A clause of document 01's "Sound means". That labels have H digits is none of its own: a root with more children
+/// than b has too many leaves.
+#[derive(Clone, Copy, PartialEq, Eq, Debug)]
+pub enum Clause {
+    /// The first word is 1.
+    One,
+    /// Prior is the reverse of next.
+    Prior,
+    /// Labels rise strictly.
+    Rise,
+    /// Children stand at 0, 1, 2 without gaps.
+    Gaps,
+    /// A node below the root has r^j leaves or more.
+    Thin,
+    /// A node below the root has fewer than s·r^j leaves.
+    Full,
+    /// A root of height 2 or more has 2·r^(H - 1) leaves or more.
+    ThinRoot,
+    /// The root has fewer than s·r^H leaves.
+    FullRoot,
+    /// Mates spell the nesting.
+    Mates,
+    /// Ups spell the nesting.
+    Ups,
+    /// A tag under a marked begin is marked.
+    MarksClosed,
+    /// Mates are marked together.
+    MarksPaired,
+    /// The stamp is at most n plus the marked tags.
+    Stamp,
+}
+
+impl Clause {
+    pub const ALL: [Clause; 13] = [
+        Clause::One,
+        Clause::Prior,
+        Clause::Rise,
+        Clause::Gaps,
+        Clause::Thin,
+        Clause::Full,
+        Clause::ThinRoot,
+        Clause::FullRoot,
+        Clause::Mates,
+        Clause::Ups,
+        Clause::MarksClosed,
+        Clause::MarksPaired,
+        Clause::Stamp,
+    ];
+}
+
+impl Fault {
+    pub(crate) fn overlooks(self, clause: Clause) -> bool {
+        self == Fault::Overlooks(clause)
+    }
 }

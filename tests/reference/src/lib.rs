@@ -2,12 +2,14 @@
 //!
 //! It keeps an explicit tree of nodes with children, where the verified store keeps words only. The two share no code
 //! and no idea of how to do it, so that agreeing word for word means something. Speed is no aim: every call of
-//! [`Store`] reads the whole store out of its words and writes it back.
+//! [`Store`] reads the whole store out of its words and writes it back. [`Program`] is the book program over one.
 
 mod book;
+mod command;
 mod fault;
 mod load;
 mod params;
+mod program;
 mod reply;
 mod sound;
 mod store;
@@ -16,8 +18,10 @@ mod tree;
 mod words;
 
 pub use book::Book;
-pub use fault::Fault;
+pub use command::{Command, LONGEST_LINE};
+pub use fault::{Clause, Fault};
 pub use params::{Params, LABELS, MAX_TAGS};
+pub use program::{lines, Program, PROGRAM_TAGS};
 pub use reply::{Answer, Held, Inserted, Loaded, Refusal};
 pub use sound::read;
 pub use store::Store;
