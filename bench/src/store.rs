@@ -1,0 +1,20 @@
+//! What is measured: anything that makes document 01's six calls on lent slices.
+
+/// A reply is a row of words: the refusal's number or 0, then the fields in document 01's order.
+pub trait Store {
+    fn load(s: u32, r: u32, book: u32, kinds: &[u8], words: &mut [u32]) -> [u32; 3];
+    fn insert(kind: u8, place: u32, words: &mut [u32]) -> [u32; 4];
+    fn mark(tag: u32, words: &mut [u32]) -> [u32; 2];
+    fn hold(tag: u32, words: &[u32]) -> [u32; 5];
+    /// The pair is book, tag, start and end label. Answers: 0 no, 1 yes, 2 stale.
+    fn question(pair: [u32; 4], d: u32, words: &[u32]) -> [u32; 2];
+    fn list(begin: u32, words: &[u32], tags: &mut [u32], labels: &mut [u32]) -> [u32; 2];
+}
+
+#[cfg(feature = "plain")]
+pub use crate::plain::Plain as Verified;
+#[cfg(not(feature = "plain"))]
+pub use crate::verified::Verified;
+
+/// Whether the verified store is there, or the plain version in its stead.
+pub const LINKED: bool = cfg!(not(feature = "plain"));

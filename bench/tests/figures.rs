@@ -1,0 +1,63 @@
+//! The books that are measured on, and what is made of the figures.
+
+use bench::calls::{Bench, Case};
+use bench::plain::Plain;
+use bench::report::{filled, Section};
+use bench::rng::Rng;
+use bench::store::Store;
+use bench::words::*;
+use bench::{bits, books, moved};
+
+fn listed(words: &[u32], n: usize) -> (Vec<u32>, Vec<u32>) {
+    let (mut tags, mut labels) = (vec![0; n], vec![0; n]);
+    assert_eq!(Plain::list(NO_TAG, words, &mut tags, &mut labels), [0, n as u32]);
+    (tags, labels)
+}
+
+#[test]
+fn a_shuffled_book_is_the_same_book() {
+    let rng = &mut Rng(3);
+    let kinds = books::kinds(500, rng);
+    let book = books::loaded::<Plain>(3, 2, &kinds).expect("labels fit");
+    let shuffled = books::shuffled(&book, rng);
+    let ((_, before), (tags, after)) = (listed(&book, 500), listed(&shuffled, 500));
+    assert_eq!(before, after);
+    let along: Vec<u32> = tags.iter().map(|&tag| shuffled[at(tag, KIND)]).collect();
+    assert_eq!(along, kinds.iter().map(|&kind| u32::from(kind)).collect::<Vec<_>>());
+}
+
+/// Every call is accepted and both subjects reply alike, which `repeat` asserts; a book that does not fit is left out.
+#[test]
+fn cases_are_timed_or_left_out() {
+    for shuffled in [false, true] {
+        let mut bench = Bench::new(Case { n: 300, s: 4, r: 4, shuffled }).expect("labels fit");
+        (0..50).for_each(|_| bench.repeat());
+        assert!(bench.times().bare > 0.0);
+    }
+    assert!(Bench::new(Case { n: 300, s: 16, r: 2, shuffled: false }).is_none());
+}
+
+/// Document 01's specimens K and L, and the run behind them.
+#[test]
+fn room_is_what_document_01_says() {
+    assert_eq!(bits::room(16, 2), (127, 1_023));
+    assert!(bits::bits(127, 16, 2).largest.is_some());
+    assert!(bits::bits(128, 16, 2).largest.is_none());
+}
+
+/// Refusal 7 comes where the tags reach s·r^H and no height is left.
+#[test]
+fn moved_stops_where_labels_run_out() {
+    assert_eq!(moved::moved(moved::Pattern::Front, 16, 2, 10), Err(0));
+    assert_eq!(moved::moved(moved::Pattern::Front, 6, 2, 2_100), Err(3_071));
+    assert!(moved::moved(moved::Pattern::Random, 2, 2, 50).is_ok_and(|moved| moved > 0.0));
+}
+
+#[test]
+fn only_what_stands_between_the_marks_is_replaced() {
+    let section = |name| Section { name, title: "", body: "new\n".into() };
+    let document = "text\n<!-- bench:a -->\nold\nold\n<!-- end -->\nmore\n<!-- bench:b -->\n<!-- end -->\n";
+    let wanted = "text\n<!-- bench:a -->\n\nnew\n\n<!-- end -->\nmore\n<!-- bench:b -->\n\nnew\n\n<!-- end -->\n";
+    assert_eq!(filled(document, &[section("a"), section("b")]).as_deref(), Ok(wanted));
+    assert!(filled(document, &[section("c")]).is_err());
+}
