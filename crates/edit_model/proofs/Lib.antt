@@ -4,10 +4,9 @@ pub mod Along
 pub mod Differ
 pub mod Relabels
 pub mod Moves
-pub mod Numbers
-pub mod Spans
 pub mod Splits
 pub mod Added
+pub mod Borders
 pub mod Applied
 pub mod Plans
 pub mod Widest

@@ -22,12 +22,12 @@ use Rattle.calls.specs.Kind.{kind-word}
 use Rattle.calls.specs.Store.{Fact}
 use Rattle.calls.specs.Words.{field}
 use Rattle.walk_model.specs.Levels.{entry}
+use Rattle.walk_model.specs.Watch.{ancestor-numbers}
+use Rattle.walk_model.proofs.Numbers.{numbers-whole}
 use Rattle.edit_model.specs.Image.{Image, image-words, with-labels}
-use Rattle.edit_model.specs.Span.{ancestor-numbers}
 use Rattle.edit_model.specs.Insert.{Plan, added, applied, place-label, numbers-at, plain-plan}
 use Rattle.edit_model.proofs.Image.{Proper, tag-below}
 use Rattle.edit_model.proofs.Along.{label-at}
-use Rattle.edit_model.proofs.Numbers.{numbers-whole}
 use Rattle.edit_model.proofs.Added.{with-tag, one-more, tag-before, added-image, proper-with-tag}
 use Rattle.edit_model.proofs.Plans.{cut-low}
 use Rattle.edit_model.proofs.Single.{flat-labels, flat-with}

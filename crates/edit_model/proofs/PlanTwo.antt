@@ -5,16 +5,15 @@ use mathlib.Core.Bool.{Bool, true, false, cond}
 use mathlib.Core.List.{List, _++_}
 use Prim.Native.Nat.{ℕ, suc, _+_, _*_, _-_, _^_, _≤_, _<_}
 use native.Mathlib.Omega.{arith}
-use borrow.Author.Tests.{eq-eqb, ne-eqb, le-ltb, lt-ltb, eqb-true, eqb-false}
+use borrow.Author.Tests.{eq-eqb, ne-eqb, le-ltb, lt-ltb, eqb-true}
 use lib.Dec.{ltb, eqb}
 use lib.ListN.{length, getD}
 use Rattle.tree.specs.Forest.{nil, size, labels}
 use Rattle.tree.specs.Book.{Book, height, root-full, inserted, split-of}
 use Rattle.tree.specs.Reach.{size-in}
 use Rattle.tree_laws.proofs.Rows.{by-test}
-use Rattle.tree_laws.proofs.Spread.{some-power}
 use Rattle.tree_laws.proofs.Labels.{rising-from, power-widths}
-use Rattle.tree_laws.proofs.Insertion.{rooted, empty-low, root-at-limit, split-of-split, split-of-inside}
+use Rattle.tree_laws.proofs.Insertion.{rooted, root-at-limit, split-of-split, split-of-inside}
 use Rattle.tree_laws.proofs.Ancestors.{at-here, at-inside}
 use Rattle.tree_laws.proofs.Flat.{split-at-most}
 use Rattle.tree_laws.proofs.Root.{whole, flat-whole, split-flat}
@@ -25,29 +24,21 @@ use Rattle.calls.specs.Store.{Store, count, width}
 use Rattle.calls.specs.Words.{Says}
 use Rattle.calls_laws.proofs.Tests.{sane}
 use Rattle.walk_model.specs.Levels.{entry}
-use Rattle.edit_model.specs.Span.{Split, highest-full}
-use Rattle.edit_model.specs.Insert.{Plan, numbers-at, plain-plan, root-plan, split-plan, split-at, plan, widths-of, highs-of, plan-of}
-use Rattle.edit_model.proofs.Splits.{Highest, Fills, counted, counted-highest, counted-span, second-split-of}
-use Rattle.edit_model.proofs.Plans.{place-tag, numbers-before, planned, cut-low, sound-said, low-enough, widths-right, highs-right, numbers-said, split-said, plan-said, size-said, number-right}
+use Rattle.edit_model.specs.Split.{left-of}
+use Rattle.edit_model.specs.Insert.{Plan, numbers-at, plain-plan, root-plan, split-plan, plan, widths-of, highs-of, plan-of}
+use Rattle.edit_model.proofs.Splits.{Highest, Fills, second-split-of}
+use Rattle.edit_model.proofs.Plans.{place-tag, numbers-before, height-found, planned, cut-low, sound-said, widths-right, highs-right, numbers-said, plan-said, size-said, number-right, left-said, found-highest}
 
 module _ (ws : List ℕ) (st : Store) (says : Says ws st) (p : ℕ) (fits : p ≤ count st) where
   abbrev k : Book
   k = st .book
 
-  abbrev found-two : Split
-  found-two = split-at ws (widths-of ws) (highs-of ws) (count st) 2 (k .under) (place-tag st p)
+  -- the highest node below the root that comes to its limit with both
+  abbrev found-two : ℕ
+  found-two = height-found ws st p 2
 
-  -- what is counted is the highest node below the root that comes to its limit with both
-  two-highest : Highest (Fills (k .s) (k .r) (k .root) (k .under) p 2) 0 (k .under) (found-two .height)
-  unfolding split-at highest-full
-  two-highest =
-      let e = sound-said ws st says in
-      by-test (eqb (count st) 0)
-      (λ t.
-      let flat-root : k .under ≡ 0 = empty-low k (sane e) (e .as-many ∙ eqb-true (count st) 0 t) in
-      rw flat-root (record { most = omega arith; above = λ l. absurd (omega arith); holds = λ l. absurd (omega arith); none = λ i l b u f. omega arith }))
-      (λ t. let some = eqb-false (count st) 0 t in
-      rw (split-said ws st says p fits 2) (counted-highest ws st says p fits (omega arith) (low-enough ws st says) (widths-of ws) (highs-of ws) (widths-right ws st says) (highs-right ws st says) 2))
+  two-highest : Highest (Fills (k .s) (k .r) (k .root) (k .under) p 2) 0 (k .under) found-two
+  two-highest = found-highest ws st says p fits 2
 
   -- THE HEIGHTS of the two plans
   pub one-height : plan-of ws 1 (place-tag st p) .height ≡ split-of p k
@@ -56,17 +47,18 @@ module _ (ws : List ℕ) (st : Store) (says : Says ws st) (p : ℕ) (fits : p �
       let d = flat-whole p k inside (width st) 0 (sane (sound-said ws st says)) in
       planned ws st says p fits 0 d .height-is ∙ sym (split-flat inside d)
 
-  pub two-height : plan-of ws 2 (place-tag st p) .height ≡ cond (eqb (count st + 2) (k .s * k .r ^ height k)) (height k) (found-two .height)
+  pub two-height : plan-of ws 2 (place-tag st p) .height ≡ cond (eqb (count st + 2) (k .s * k .r ^ height k)) (height k) found-two
   unfolding plan root-plan plain-plan split-plan
   two-height =
       rw (plan-said ws st says p fits 2, highs-right ws st says (height k) (omega arith))
-      (go (eqb (count st + 2) (k .s * k .r ^ height k)) (eqb (found-two .height) 0) refl)
+      (go (eqb (count st + 2) (k .s * k .r ^ height k)) (eqb found-two 0) refl)
     where
-      go : (t u : Bool) → eqb (found-two .height) 0 ≡ u → cond t (root-plan (height k) (count st + 2))
-          (cond u (plain-plan ws (widths-of ws) (k .under) (place-tag st p)) (split-plan (k .s) (widths-of ws) (highs-of ws) (numbers-at ws (widths-of ws) (k .under) (place-tag st p)) found-two)) .height
-          ≡ cond t (height k) (found-two .height)
+      go : (t u : Bool) → eqb found-two 0 ≡ u → cond t (root-plan (height k) (count st + 2))
+          (cond u (plain-plan ws (widths-of ws) (k .under) (place-tag st p)) (split-plan (k .s) (widths-of ws) (highs-of ws) (numbers-at ws (widths-of ws) (k .under) (place-tag st p)) found-two
+          (left-of (count st) (count st) ws (entry (numbers-at ws (widths-of ws) (k .under) (place-tag st p)) found-two) (place-tag st p)))) .height
+          ≡ cond t (height k) found-two
       go true u e = refl
-      go false true e = sym (eqb-true (found-two .height) 0 e)
+      go false true e = sym (eqb-true found-two 0 e)
       go false false e = refl
 
   -- a split below the root is one of a tree under it
@@ -85,12 +77,12 @@ module _ (ws : List ℕ) (st : Store) (says : Says ws st) (p : ℕ) (fits : p �
       (by-test (root-full k)
       (λ t.
       let full = root-at-limit k t in
-      let less : found-two .height ≤ height k = omega (arith, two-highest .most) in
-      rw (unsplit-root p x 0 0 k (sane e) inside t, split-of-split p k t, ne-eqb (count st + 2) limit (λ i. omega (arith, e .as-many)), le-ltb (height k) (found-two .height) less))
+      let less : found-two ≤ height k = omega (arith, two-highest .most) in
+      rw (unsplit-root p x 0 0 k (sane e) inside t, split-of-split p k t, ne-eqb (count st + 2) limit (λ i. omega (arith, e .as-many)), le-ltb (height k) found-two less))
       (λ t.
       let low = one-below t in
       let many : size (k .root) + 2 ≡ count st + 2 = omega (arith, e .as-many) in
-      rw (second-split-of p x k (sane e) inside (found-two .height) two-highest t, many)
+      rw (second-split-of p x k (sane e) inside found-two two-highest t, many)
       (by-test (eqb (count st + 2) limit) (λ u. rw (u, lt-ltb (split-of p k) (height k) (omega arith))) (λ u. rw u))))
 
   -- where it does, that node comes to its limit with both
@@ -103,11 +95,11 @@ module _ (ws : List ℕ) (st : Store) (says : Says ws st) (p : ℕ) (fits : p �
 
     -- at the root, or below it
     by-root : {G : Type 0} → (count st + 2 ≡ k .s * k .r ^ height k → h ≡ k .under → G) →
-        (eqb (count st + 2) (k .s * k .r ^ height k) ≡ false → found-two .height ≡ suc h → h < k .under → G) → G
+        (eqb (count st + 2) (k .s * k .r ^ height k) ≡ false → found-two ≡ suc h → h < k .under → G) → G
     by-root at-root under-it =
         by-test (eqb (count st + 2) (k .s * k .r ^ height k))
         (λ t. at-root (eqb-true _ _ t) (omega (arith, rw t at two-height)))
-        (λ t. let same : found-two .height ≡ suc h = sym (rw t at two-height) ∙ top in under-it t same (omega (arith, two-highest .most)))
+        (λ t. let same : found-two ≡ suc h = sym (rw t at two-height) ∙ top in under-it t same (omega (arith, two-highest .most)))
 
     pub two-full : size-in (whole k) (height k) (suc h) p + 2 ≡ k .s * k .r ^ suc h
     two-full =
@@ -162,16 +154,10 @@ module _ (ws : List ℕ) (st : Store) (says : Says ws st) (p : ℕ) (fits : p �
         stop = rw (none .3) (λ l. absurd (omega arith));
       }))
       (λ t same low.
-      let some : 1 ≤ count st = omega (arith, e .as-many, rooted k (sane e) .low (λ i. omega arith), some-power (k .r) (k .under) (e .degrees .r-least)) in
-      let within = at-inside (k .root) nil (width st) (height k) (suc h) p 0 inside (λ i. omega arith) in
-      let span = counted-span ws st says p fits some (low-enough ws st says) (widths-of ws) (highs-of ws) (widths-right ws st says) (highs-right ws st says) 2 in
-      let counted-height : counted ws (widths-of ws) (highs-of ws) st p 2 .height ≡ suc h = sym (ap (λ (q : Split). q .height) (split-said ws st says p fits 2)) ∙ same in
-      let left : split-at ws (widths-of ws) (highs-of ws) (count st) 2 (k .under) (place-tag st p) .span .left ≡ place-tag st (length (d .before)) =
-      ap (λ (q : Split). q .span .left) (split-said ws st says p fits 2 ∙ span) ∙ rw (counted-height, ← within .1, d .left-is) in
       let cuts = bound-cuts-two low in
-      rw (t, ne-eqb (split-at ws (widths-of ws) (highs-of ws) (count st) 2 (k .under) (place-tag st p) .height) 0 (λ i. omega arith), same, left, numbers-said ws st says p fits) (record {
+      rw (t, same, ne-eqb (suc h) 0 (λ i. omega arith), numbers-said ws st says p fits) (record {
         height-is = refl;
-        left-is = refl;
+        left-is = left-said ws st says p fits (suc h) (omega arith) (omega arith) ∙ rw (d .left-is);
         number-is = number-right ws st says p fits (suc h) (omega arith) (omega arith) ∙ d .number-is;
         count-is = highs-right ws st says (suc h) (omega arith);
         by-is = λ l. rw (widths-right ws st says (suc h) (omega arith));

@@ -4,18 +4,19 @@ use mathlib.Core.Bool.{true, false, cond}
 use mathlib.Core.List.{List, _∷_, _++_}
 use Prim.Native.Nat.{ℕ, zero, suc, _+_, _*_, _-_, _^_, _≤_, _<_}
 use native.Mathlib.Omega.{arith}
-use borrow.Author.Tests.{eq-eqb, ne-eqb, eqb-true, eqb-false}
+use borrow.Author.Tests.{le-ltb, lt-ltb, eq-eqb, ne-eqb, eqb-true, eqb-false}
 use lib.Dec.{eqb}
 use lib.ListN.{length, getD, replicate, length-append, List·getD-append, List·getD-eq-default}
 use lib.Seq.{getD-append-add}
 use Rattle.store_types.specs.Limits.{no-tag}
 use Rattle.tree.specs.Forest.{Forest, nil, leaf, node, leaves, size, labels, split-height}
 use Rattle.tree.specs.Book.{height, labels-of, root-full, split-of}
+use Rattle.tree.specs.Reach.{left-in, size-in}
 use Rattle.tree_laws.proofs.Good.{Good}
 use Rattle.tree_laws.proofs.Rows.{by-test, member-getD}
 use Rattle.tree_laws.proofs.Spread.{some-power}
 use Rattle.tree_laws.proofs.Labels.{length-labels, rising-from, rising-below, power-widths}
-use Rattle.tree_laws.proofs.Insertion.{rooted, empty-low, root-at-limit, split-of-split, split-of-inside}
+use Rattle.tree_laws.proofs.Insertion.{rooted, root-at-limit, split-of-split, split-of-inside}
 use Rattle.tree_laws.proofs.Ancestors.{number-in, at-here, at-inside}
 use Rattle.tree_laws.proofs.Flat.{Piece, Flat, split-at-most}
 use Rattle.tree_laws.proofs.Root.{whole, labels-whole, split-flat}
@@ -27,17 +28,20 @@ use Rattle.calls_laws.proofs.Sections.{row-below}
 use Rattle.calls_laws.proofs.WordSteps.{header-said}
 use Rattle.walk_model.specs.Levels.{entry}
 use Rattle.walk_model.specs.Walk.{shape-of}
+use Rattle.walk_model.specs.Watch.{ancestor-numbers, watched-label, sizes-at}
 use Rattle.walk_model.specs.Promise.{Tables-right}
 use Rattle.walk_model.proofs.Shapes.{tables-right}
 use Rattle.walk_model.proofs.WalkRight.{facts as header-facts-said}
+use Rattle.walk_model.proofs.Numbers.{numbers-whole}
+use Rattle.walk_model.proofs.Sizes.{sizes-right}
 use Rattle.edit_model.specs.Image.{image-words, image-of}
-use Rattle.edit_model.specs.Span.{Split, ancestor-numbers, highest-full}
-use Rattle.edit_model.specs.Insert.{Plan, behind, place-label, numbers-at, plain-plan, root-plan, split-plan, split-at, plan, widths-of, highs-of, plan-of}
+use Rattle.edit_model.specs.Split.{highest-full, left-of}
+use Rattle.edit_model.specs.Insert.{Plan, behind, place-label, numbers-at, plain-plan, root-plan, split-plan, plan, widths-of, highs-of, plan-of}
 use Rattle.edit_model.proofs.Image.{store-image, proper-image}
 use Rattle.edit_model.proofs.Along.{label-at}
-use Rattle.edit_model.proofs.Numbers.{numbers-whole}
-use Rattle.edit_model.proofs.Splits.{counted, counted-one, counted-span}
+use Rattle.edit_model.proofs.Splits.{Highest, Fills, highest-one, split-highest, full-found}
 use Rattle.edit_model.proofs.Added.{behind-place}
+use Rattle.edit_model.proofs.Borders.{left-ancestor}
 
 -- the first label of a forest is its number
 first-label : (s r : ℕ) (f : Forest) (w : ℕ → ℕ) (j a : ℕ) → 2 ≤ r → Good s r f j → 1 ≤ size f → getD (labels f w j a) 0 0 ≡ a
@@ -49,12 +53,19 @@ first-label s r (node g f) w (suc j) a r-least good some =
     let inner : 1 ≤ size g = omega (arith, good .0, some-power r (suc j) r-least) in
     List·getD-append (labels g w j a) (labels f w (suc j) (a + w (suc j))) 0 0 (rw (length-labels g w j a) inner) ∙ first-label s r g w j a r-least (good .2) inner
 
--- the tag before the place behind the first p tags, and the numbers of the ancestors of that place
+-- the tag before the place behind the first p tags, and the numbers and sizes of the ancestors of that place
 abbrev pub place-tag : Store → (p : ℕ) → ℕ
 place-tag st p = getD (no-tag ∷ row st) p no-tag
 
 abbrev pub numbers-before : (ws : List ℕ) → Store → (p : ℕ) → List ℕ
 numbers-before ws st p = ancestor-numbers (widths-of ws) (st .book .under) (getD (labels-of (width st) (st .book)) (p - 1) 0) 0 (replicate 24 0)
+
+abbrev pub sizes-before : (ws : List ℕ) → Store → (p : ℕ) → List ℕ
+sizes-before ws st p = sizes-at ws (place-tag st p) (replicate 24 0)
+
+-- the height that is found by them for m tags
+abbrev pub height-found : (ws : List ℕ) → Store → (p m : ℕ) → ℕ
+height-found ws st p m = highest-full (highs-of ws) (sizes-before ws st p) m (st .book .under) 1 0
 
 -- the flat view of an insertion into a store
 abbrev pub Flat-in : Store → (p x : ℕ) → Type 0
@@ -96,7 +107,7 @@ module _ (ws : List ℕ) (st : Store) (says : Says ws st) where
   tables-said : Tables-right (st .book .s) (st .book .r) (width st) (height (st .book)) (shape-of ws .tables)
   tables-said = tables-right (header-facts-said ws st says)
 
-  pub low-enough : st .book .under ≤ 22
+  low-enough : st .book .under ≤ 22
   low-enough = omega (arith, tables-said .top-fits)
 
   pub widths-right : (h : ℕ) → h ≤ height (st .book) → entry (widths-of ws) h ≡ width st h
@@ -108,10 +119,11 @@ module _ (ws : List ℕ) (st : Store) (says : Says ws st) where
   highs-right h l = tables-said .highs h l
 
   -- A PLACE behind the first p tags: the tag before it, its label, and the tag behind it
+  tag-said : (i : ℕ) → i < count st → getD (row st) i no-tag < count st
+  tag-said i l = row-below sound-said _ (member-getD (row st) i no-tag (omega (arith, sound-said .as-many)))
+
   pub is-tag : (i : ℕ) → i < count st → eqb (getD (row st) i no-tag) no-tag ≡ false
-  is-tag i l =
-      ne-eqb (getD (row st) i no-tag) no-tag
-      (λ e. omega (arith, sound-said .few, row-below sound-said _ (member-getD (row st) i no-tag (omega (arith, sound-said .as-many)))))
+  is-tag i l = ne-eqb (getD (row st) i no-tag) no-tag (λ e. omega (arith, sound-said .few, tag-said i l))
 
   pub behind-said : (p : ℕ) → p ≤ count st → behind ws (place-tag st p) ≡ getD (row st) p no-tag
   unfolding image-of
@@ -130,10 +142,26 @@ module _ (ws : List ℕ) (st : Store) (says : Says ws st) where
       (λ t. let some = eqb-false (size (k .root)) 0 t in
       first-label (k .s) (k .r) (k .root) (width st) (k .under) 0 (sound-said .degrees .r-least) (rooted k (sane sound-said) .good) (omega arith))
 
+  -- a root whose children are nodes is over some tag
+  some-said : 1 ≤ st .book .under → 1 ≤ count st
+  some-said high =
+      omega (arith, sound-said .as-many, rooted (st .book) (sane sound-said) .low (λ i. omega arith), some-power (st .book .r) (st .book .under) (sound-said .degrees .r-least))
+
   pub place-label-said : (p : ℕ) → p ≤ count st → place-label ws (place-tag st p) ≡ getD (labels-of (width st) (st .book)) (p - 1) 0
   unfolding place-label
   place-label-said zero fits = sym first-said
   place-label-said (suc q) fits = let before : suc q - 1 ≡ q = omega arith in rw (is-tag q fits, before) (label-said q fits)
+
+  -- it is the label by which the ancestors of the place are watched
+  pub watched-said : (p : ℕ) → p ≤ count st → watched-label ws (place-tag st p) ≡ getD (labels-of (width st) (st .book)) (p - 1) 0
+  unfolding watched-label
+  watched-said zero fits = rw (header-said ws st says .issued, le-ltb no-tag (count st) (omega (arith, sound-said .few))) (sym first-said)
+  watched-said (suc q) fits =
+      let before : suc q - 1 ≡ q = omega arith in
+      rw (header-said ws st says .issued, lt-ltb (getD (row st) q no-tag) (count st) (tag-said q fits), before) (label-said q fits)
+
+  pub watched-place : (p : ℕ) → p ≤ count st → watched-label ws (place-tag st p) ≡ place-label ws (place-tag st p)
+  watched-place p fits = watched-said p fits ∙ sym (place-label-said p fits)
 
   -- the label right behind it
   pub next-number : (p n : ℕ) → p ≤ count st → (p ≡ 0 → n ≡ 0) → ((q : ℕ) → p ≡ suc q → n ≡ getD (labels-of (width st) (st .book)) q 0 + width st 0) →
@@ -146,12 +174,8 @@ module _ (ws : List ℕ) (st : Store) (says : Says ws st) where
     unfolding numbers-at
     numbers-said = rw (place-label-said p fits)
 
-    -- what is counted at it for m tags, and their plan
-    pub split-said : (m : ℕ) → split-at ws (widths-of ws) (highs-of ws) (count st) m (st .book .under) (place-tag st p) ≡ counted ws (widths-of ws) (highs-of ws) st p m
-    unfolding split-at
-    split-said m = let none : p - p ≡ 0 = omega arith in rw (numbers-said, behind-said p fits, none)
-
-    pub plan-said : (m : ℕ) → plan-of ws m (place-tag st p) ≡ plan ws (st .book .s) (widths-of ws) (highs-of ws) (count st) m (st .book .under) (place-tag st p)
+    -- the plan of m tags
+    pub plan-said : (m : ℕ) → plan-of ws m (place-tag st p) ≡ plan ws (st .book .s) (widths-of ws) (highs-of ws) (sizes-before ws st p) (count st) m (st .book .under) (place-tag st p)
     unfolding plan-of
     plan-said m = let head = header-said ws st says in rw (head .degree-s, head .levels, head .issued)
 
@@ -162,6 +186,26 @@ module _ (ws : List ℕ) (st : Store) (says : Says ws st) where
     pub number-right : (h : ℕ) → 1 ≤ h → h ≤ height (st .book) → entry (numbers-before ws st p) h ≡ number-in (whole (st .book)) (width st) (height (st .book)) h p 0
     number-right =
         numbers-whole (st .book) (power-widths (st .book .s) (st .book .r)) (sane sound-said) (widths-of ws) p size-said (λ h l. widths-right h (omega arith)) low-enough
+
+    -- the tag left of the ancestor of a height below the root
+    pub left-said : (h : ℕ) → 1 ≤ h → h ≤ st .book .under →
+        left-of (count st) (count st) ws (entry (numbers-before ws st p) h) (place-tag st p) ≡ place-tag st (left-in (whole (st .book)) (height (st .book)) h p)
+    unfolding image-of
+    left-said h least most =
+        let k = st .book in
+        let inside = at-inside (k .root) nil (width st) (height k) h p 0 size-said (λ i. omega arith) in
+        rw (number-right h least (omega arith), inside .0, inside .1, image-said .1)
+        (left-ancestor (sound-said .degrees .s-least) (sound-said .degrees .r-least) (power-widths (k .s) (k .r)) (proper-image sound-said) (omega (arith, sound-said .few)) (image-said .0) (k .root) (k .under) p h
+        (rooted k (sane sound-said) .good) size-said (omega (arith, some-said (omega arith), sound-said .as-many)) refl refl least most)
+
+    -- its size, and the height that is found by the sizes
+    sizes-said : (h : ℕ) → 1 ≤ h → h ≤ st .book .under → entry (sizes-before ws st p) h ≡ size-in (st .book .root) (st .book .under) h p
+    sizes-said h least most =
+        sizes-right ws st says p (place-tag st p) fits (some-said (omega arith)) (watched-said p fits) (replicate 24 0) refl h least most
+
+    pub found-highest : (m : ℕ) → Highest (Fills (st .book .s) (st .book .r) (st .book .root) (st .book .under) p m) 0 (st .book .under) (height-found ws st p m)
+    found-highest =
+        full-found (st .book .s) (st .book .r) (st .book .root) (st .book .under) p (highs-of ws) (sizes-before ws st p) (λ h l. highs-right h (omega arith)) sizes-said
 
     pub bound-cuts : (x : ℕ) (d : Flat-in st p x) → d .height ≤ st .book .under →
         Cut 0 (entry (numbers-before ws st p) (suc (d .height)) + entry (widths-of ws) (suc (d .height))) (width st (height (st .book))) (d .before ++ (d .old ++ d .beside)) (d .after)
@@ -214,7 +258,7 @@ module _ (ws : List ℕ) (st : Store) (says : Says ws st) where
             stop = rw numbers-said (rising-from _ _ (d .after) (cuts .1) 0);
           }
 
-      -- BELOW THE ROOT: the height that is counted is that of the split
+      -- BELOW THE ROOT: the height that is found is that of the split
       module _ (room : root-full (st .book) ≡ false) where
         split-inside : split-height (st .book .root) (st .book .s) (st .book .r) (st .book .under) p ≡ d .height
         split-inside = sym (split-of-inside p (st .book) room) ∙ split-is
@@ -222,41 +266,29 @@ module _ (ws : List ℕ) (st : Store) (says : Says ws st) where
         at-most : d .height ≤ st .book .under
         at-most = omega (arith, split-inside, split-at-most (st .book .root) (st .book .s) (st .book .r) (st .book .under) p (rooted (st .book) (sane sound-said) .good))
 
-        split-height-said : split-at ws (widths-of ws) (highs-of ws) (count st) 1 (st .book .under) (place-tag st p) .height ≡ d .height
-        unfolding split-at highest-full
+        split-height-said : height-found ws st p 1 ≡ d .height
         split-height-said =
-            by-test (eqb (count st) 0)
-            (λ t.
-            let flat-root : st .book .under ≡ 0 = empty-low (st .book) (sane sound-said) (sound-said .as-many ∙ eqb-true (count st) 0 t) in
-            rw flat-root (omega (arith, at-most)))
-            (λ t. let some = eqb-false (count st) 0 t in
-            ap (λ (q : Split). q .height) (split-said 1)
-            ∙ counted-one ws st says p fits (omega arith) low-enough (widths-of ws) (highs-of ws) widths-right highs-right ∙ split-inside)
+            let k = st .book in
+            highest-one (found-highest 1) (split-highest (sound-said .degrees .s-least) (sound-said .degrees .r-least) (k .root) (k .under) p (rooted k (sane sound-said) .good)) ∙ split-inside
 
         split-planned : (h : ℕ) → d .height ≡ suc h →
-            Planned st p x d (split-plan (st .book .s) (widths-of ws) (highs-of ws) (numbers-at ws (widths-of ws) (st .book .under) (place-tag st p))
-            (split-at ws (widths-of ws) (highs-of ws) (count st) 1 (st .book .under) (place-tag st p)))
+            Planned st p x d (split-plan (st .book .s) (widths-of ws) (highs-of ws) (numbers-before ws st p) (d .height)
+            (left-of (count st) (count st) ws (entry (numbers-before ws st p) (d .height)) (place-tag st p)))
         unfolding split-plan
         split-planned h e =
             let k = st .book in
             let piece : Piece (k .s) (k .r) (width st) x (suc h) (d .offset) (d .number) (d .old) (d .new) (d .shift) = rw e at (d .piece) in
             let old = ap length (piece .old-is) ∙ length-labels (piece .under) (width st) h (d .number) in
             let cuts = bound-cuts x d at-most in
-            let some : 1 ≤ count st = omega (arith, sound-said .as-many, rooted k (sane sound-said) .low (λ i. omega (arith, at-most)), some-power (k .r) (k .under) (sound-said .degrees .r-least)) in
-            let inside = at-inside (k .root) nil (width st) (height k) (d .height) p 0 size-said (λ i. omega (arith, at-most)) in
-            let span = counted-span ws st says p fits some low-enough (widths-of ws) (highs-of ws) widths-right highs-right 1 in
-            let same-height : counted ws (widths-of ws) (highs-of ws) st p 1 .height ≡ d .height = sym (ap (λ (q : Split). q .height) (split-said 1)) ∙ split-height-said in
-            let left : split-at ws (widths-of ws) (highs-of ws) (count st) 1 (k .under) (place-tag st p) .span .left ≡ place-tag st (length (d .before)) =
-            ap (λ (q : Split). q .span .left) (split-said 1 ∙ span) ∙ rw (same-height, ← inside .1, d .left-is) in
-            rw (split-height-said, left, numbers-said) (record {
+            record {
               height-is = refl;
-              left-is = refl;
+              left-is = left-said (d .height) (omega arith) at-most ∙ rw (d .left-is);
               number-is = number-right (d .height) (omega arith) (omega (arith, at-most)) ∙ rw e (d .number-is h e);
               count-is = rw (highs-right (d .height) (omega (arith, at-most)), e, ← piece .limit, old);
               by-is = λ l. rw (widths-right (d .height) (omega (arith, at-most)), e) (sym (piece .shift-is));
               low = cut-low _ _ _ (d .before) (d .old) (d .beside) (d .after) cuts;
               stop = rising-from _ _ (d .after) (cuts .1) 0;
-            })
+            }
 
       -- THE PLAN OF ONE TAG
       pub planned : Planned st p x d (plan-of ws 1 (place-tag st p))
@@ -268,11 +300,9 @@ module _ (ws : List ℕ) (st : Store) (says : Says ws st) where
           rw (plan-said 1) (by-test (root-full k) (λ t. rw (tested ∙ t) (root-planned t)) (λ t. rw (tested ∙ t) (inside t (d .height) refl)))
         where
           inside : root-full (st .book) ≡ false → (h : ℕ) → d .height ≡ h → Planned st p x d
-              (cond (eqb (split-at ws (widths-of ws) (highs-of ws) (count st) 1 (st .book .under) (place-tag st p) .height) 0)
+              (cond (eqb (height-found ws st p 1) 0)
               (plain-plan ws (widths-of ws) (st .book .under) (place-tag st p))
-              (split-plan (st .book .s) (widths-of ws) (highs-of ws) (numbers-at ws (widths-of ws) (st .book .under) (place-tag st p))
-              (split-at ws (widths-of ws) (highs-of ws) (count st) 1 (st .book .under) (place-tag st p))))
+              (split-plan (st .book .s) (widths-of ws) (highs-of ws) (numbers-at ws (widths-of ws) (st .book .under) (place-tag st p)) (height-found ws st p 1)
+              (left-of (count st) (count st) ws (entry (numbers-at ws (widths-of ws) (st .book .under) (place-tag st p)) (height-found ws st p 1)) (place-tag st p))))
           inside t zero e = rw (eq-eqb _ 0 (split-height-said t ∙ e)) (plain-planned e)
-          inside t (suc h) e =
-              let high = split-height-said t in
-              rw (ne-eqb (split-at ws (widths-of ws) (highs-of ws) (count st) 1 (st .book .under) (place-tag st p) .height) 0 (λ i. omega arith)) (split-planned t h e)
+          inside t (suc h) e = rw (split-height-said t, numbers-said, ne-eqb (d .height) 0 (λ i. omega arith)) (split-planned t h e)

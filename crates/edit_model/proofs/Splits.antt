@@ -1,32 +1,27 @@
--- The split of one tag and of two, found by counting outward: the highest ancestor that comes to its limit. Assumes nothing.
+-- The split of one tag and of two, found by the sizes of the ancestors: of the highest that comes to its limit. Assumes
+-- nothing.
 use mathlib.Core.Path.{_≡_, refl, ap, _∙_}
-use mathlib.Core.Bool.{Bool, true, false, cond}
+use mathlib.Core.Bool.{false, cond}
 use mathlib.Core.List.{List, [], _∷_}
 use Prim.Native.Nat.{ℕ, zero, suc, _+_, _*_, _-_, _^_, _≤_, _<_}
 use native.Mathlib.Omega.{arith}
 use borrow.Author.Tests.{ltb-true, ltb-false, eqb-true, eqb-false}
 use lib.Dec.{ltb, eqb}
-use lib.ListN.{length, getD, replicate}
+use lib.ListN.{length}
 use Rattle.tree.specs.Row.{insert-at}
-use Rattle.tree.specs.Forest.{Forest, nil, leaf, node, leaves, size, labels, spread, put, split-height}
-use Rattle.tree.specs.Book.{Book, height, labels-of, inserted, split-of, root-full, put-inside}
-use Rattle.tree.specs.Reach.{left-in, size-in}
-use Rattle.tree.specs.Promise.{Widths, Sane}
+use Rattle.tree.specs.Forest.{Forest, nil, leaf, node, leaves, size, spread, put, split-height}
+use Rattle.tree.specs.Book.{Book, height, inserted, split-of, root-full, put-inside}
+use Rattle.tree.specs.Reach.{size-in}
+use Rattle.tree.specs.Promise.{Sane}
 use Rattle.tree_laws.proofs.Good.{Good}
 use Rattle.tree_laws.proofs.Rows.{by-test}
 use Rattle.tree_laws.proofs.Spread.{leaves-spread, complete-spread, some-power, far-from-limit}
 use Rattle.tree_laws.proofs.Insertion.{Turn, right, split, below, turn, put-right, put-split, put-below, height-right, height-split, height-below, size-node, split-length, size-put, inserted-inside, split-of-inside, rooted}
-use Rattle.tree_laws.proofs.Labels.{power-widths}
-use Rattle.tree_laws.proofs.Ancestors.{number-in, at-right, at-here, at-inside}
+use Rattle.tree_laws.proofs.Ancestors.{at-right, at-here, at-inside}
 use Rattle.tree_laws.proofs.Flat.{split-at-most}
-use Rattle.tree_laws.proofs.Second.{unsplit-joined, end-in}
-use Rattle.calls.specs.Store.{Store, count, row, width}
-use Rattle.calls.specs.Words.{Says}
-use Rattle.calls_laws.proofs.Tests.{Sound, sane, facts-of}
+use Rattle.tree_laws.proofs.Second.{unsplit-joined}
 use Rattle.walk_model.specs.Levels.{entry}
-use Rattle.edit_model.specs.Span.{Span, Split, ancestor-numbers, widen, highest-full}
-use Rattle.edit_model.proofs.Numbers.{numbers-right}
-use Rattle.edit_model.proofs.Spans.{Chain, chain-said, span-of, left-lowest, span-at, widen-higher}
+use Rattle.edit_model.specs.Split.{highest-full}
 
 -- THE HIGHEST number from low on (without it) up to top of which P holds; 0 if there is none
 pub record Highest (P : ℕ → Type 0) (low top h : ℕ) : Type 0 where
@@ -178,89 +173,20 @@ module _ (p x : ℕ) (k : Book) (sane : Sane k) (fits : p ≤ size (k .root)) (h
       let sized : suc (size (put (k .root) (k .s) (k .r) (k .under) p x)) ≡ size (k .root) + 2 = omega (arith, size-put (k .s) (k .r) (k .root) (k .under) p x (sane .r-least) good fits) in
       rw (inserted-inside p k x t, split-of-inside p k t, sized, highest-one (second-highest (sane .s-least) (sane .r-least) (k .root) (k .under) p x good fits) (highest-from both))
 
--- COUNTING OUTWARD FROM A PLACE p, height by height. One step, where the span comes to v:
-full-step : (ws wt hi ns : List ℕ) (n k m h : ℕ) (u v : Span) (q : Split) (t : Bool) → widen n ws (entry ns h) (entry ns h + entry wt h) u ≡ v →
-    eqb (v .size + k) (entry hi h) ≡ t → highest-full ws wt hi ns n k (suc m) h u q ≡ highest-full ws wt hi ns n k m (suc h) v (cond t (record { height = h; span = v }) q)
-unfolding highest-full
-full-step ws wt hi ns n k m h u v q t e d = rw (e, d)
-
--- a split of the ancestor of height h
-abbrev pub split-at : Forest → (j h p : ℕ) → Split
-split-at f j h p = record { height = h; span = span-at f j h p }
-
-module _ {s r : ℕ} {w : ℕ → ℕ} (s-least : 2 ≤ s) (r-least : 2 ≤ r) (widths : Widths s r w)
-    (ws : List ℕ) (f : Forest) (u p : ℕ) (good : Good s r f u) (fits : p ≤ size f) (some : 1 ≤ size f)
-    (c : Chain ws (leaves f) (labels f w u 0)) (wt hi : List ℕ) (wide : (h : ℕ) → h ≤ suc u → entry wt h ≡ w h)
-    (limits : (h : ℕ) → h ≤ suc u → entry hi h ≡ s * r ^ h) where
-  -- with numbers that are right it finds the highest ancestor that comes to its limit with k leaves more, and its span
-  full-from : (ns : List ℕ) (k : ℕ) → ((h : ℕ) → 1 ≤ h → h ≤ u → entry ns h ≡ number-in f w u h p 0) → (m h g : ℕ) → m + h ≡ u →
-      Highest (Fills s r f u p k) 0 h g → (i : ℕ) × Highest (Fills s r f u p k) 0 u i
-      × (highest-full ws wt hi ns (size f) k m (suc h) (span-at f u h p) (split-at f u g p) ≡ split-at f u i p)
+-- THE HEIGHT FOUND by the sizes of the ancestors of a place p
+module _ (s r : ℕ) (f : Forest) (u p : ℕ) (hi sz : List ℕ) (limits : (h : ℕ) → h ≤ u → entry hi h ≡ s * r ^ h)
+    (sizes : (h : ℕ) → 1 ≤ h → h ≤ u → entry sz h ≡ size-in f u h p) (k : ℕ) where
+  -- from height to height, with the highest below it
+  full-from : (m h g : ℕ) → m + h ≡ u → Highest (Fills s r f u p k) 0 h g → Highest (Fills s r f u p k) 0 u (highest-full hi sz k m (suc h) g)
   unfolding highest-full
-  full-from ns k right-numbers zero h g e found = let top : h ≡ u = omega arith in (g, rw top at found, refl)
-  full-from ns k right-numbers (suc m) h g e found =
-      let number = right-numbers (suc h) (omega arith) (omega arith) in
-      let wider : widen (size f) ws (entry ns (suc h)) (entry ns (suc h) + entry wt (suc h)) (span-at f u h p) ≡ span-at f u (suc h) p =
-      rw (number, wide (suc h) (omega arith)) (widen-higher s-least r-least widths ws f u p good fits some c h (suc h) (omega arith) (omega arith) (omega arith)) in
-      let counted : end-in f u (suc h) p - left-in f u (suc h) p ≡ size-in f u (suc h) p = omega arith in
-      let tested : eqb (end-in f u (suc h) p - left-in f u (suc h) p + k) (entry hi (suc h)) ≡ eqb (size-in f u (suc h) p + k) (s * r ^ suc h) =
-      rw (counted, limits (suc h) (omega arith)) in
+  full-from zero h g e found = let top : h ≡ u = omega arith in rw top at found
+  full-from (suc m) h g e found =
+      let sized = sizes (suc h) (omega arith) (omega arith) in
+      let limit = limits (suc h) (omega arith) in
       by-test (eqb (size-in f u (suc h) p + k) (s * r ^ suc h))
-      (λ t.
-      let rest = full-from ns k right-numbers m (suc h) (suc h) (omega arith) (highest-here (omega arith) (eqb-true _ _ t)) in
-      (rest .0, rest .1, full-step ws wt hi ns (size f) k m (suc h) _ _ _ true wider (tested ∙ t) ∙ rest .2))
-      (λ t.
-      let rest = full-from ns k right-numbers m (suc h) g (omega arith) (highest-below (eqb-false _ _ t) found) in
-      (rest .0, rest .1, full-step ws wt hi ns (size f) k m (suc h) _ _ _ false wider (tested ∙ t) ∙ rest .2))
+      (λ t. rw (sized, limit, t) (full-from m (suc h) (suc h) (omega arith) (highest-here (omega arith) (eqb-true _ _ t))))
+      (λ t. rw (sized, limit, t) (full-from m (suc h) g (omega arith) (highest-below (eqb-false _ _ t) found)))
 
-  -- so it does from the place itself on, with the numbers of its ancestors
-  pub full-found : u ≤ 22 → (k : ℕ) → (i : ℕ) × Highest (Fills s r f u p k) 0 u i
-      × (highest-full ws wt hi (ancestor-numbers wt u (getD (labels f w u 0) (p - 1) 0) 0 (replicate 24 0)) (size f) k u 1 (span-of (leaves f) p p) (record { height = 0; span = span-of (leaves f) p p })
-      ≡ split-at f u i p)
-  full-found small k =
-      let lowest = left-lowest s r f u p good fits in
-      let start : span-at f u 0 p ≡ span-of (leaves f) p p = (let e : end-in f u 0 p ≡ p = omega arith in rw (e, lowest .0)) in
-      rw (← start) (full-from _ k (numbers-right s-least r-least widths wt f u p good fits some wide small) u 0 0 (omega arith) (highest-none (λ i l b t e. omega arith)))
-
--- COUNTING IN THE WORDS OF A STORE, with tables of the widths and the limits: the split of k tags behind the first p
-abbrev pub counted : (ws wt hi : List ℕ) → Store → (p k : ℕ) → Split
-counted ws wt hi st p k =
-    highest-full ws wt hi (ancestor-numbers wt (st .book .under) (getD (labels-of (width st) (st .book)) (p - 1) 0) 0 (replicate 24 0)) (count st) k (st .book .under) 1
-    (span-of (row st) p p) (record { height = 0; span = span-of (row st) p p })
-
-module _ (ws : List ℕ) (st : Store) (says : Says ws st) (p : ℕ) (fits : p ≤ count st) (some : 1 ≤ count st) (small : st .book .under ≤ 22)
-    (wt hi : List ℕ) (wide : (h : ℕ) → h ≤ height (st .book) → entry wt h ≡ width st h)
-    (limits : (h : ℕ) → h ≤ height (st .book) → entry hi h ≡ st .book .s * st .book .r ^ h) where
-  sound-said : Sound st
-  unfolding Says
-  sound-said = facts-of st (says .0)
-
-  good-said : Good (st .book .s) (st .book .r) (st .book .root) (st .book .under)
-  good-said = rooted (st .book) (sane sound-said) .good
-
-  counted-found : (k : ℕ) → (i : ℕ) × Highest (Fills (st .book .s) (st .book .r) (st .book .root) (st .book .under) p k) 0 (st .book .under) i
-      × (counted ws wt hi st p k ≡ split-at (st .book .root) (st .book .under) i p)
-  counted-found k =
-      let many = sound-said .as-many in
-      rw (← many) (full-found (sound-said .degrees .s-least) (sound-said .degrees .r-least) (power-widths (st .book .s) (st .book .r)) ws (st .book .root) (st .book .under) p good-said
-      (omega arith) (omega arith) (chain-said ws st says) wt hi wide limits small k)
-
-  -- its height is the highest whose ancestor comes to its limit with k tags more, and its span that ancestor's
-  pub counted-highest : (k : ℕ) → Highest (Fills (st .book .s) (st .book .r) (st .book .root) (st .book .under) p k) 0 (st .book .under) (counted ws wt hi st p k .height)
-  counted-highest k = let q = counted-found k in rw (q .2) (q .1)
-
-  pub counted-span : (k : ℕ) → counted ws wt hi st p k ≡ split-at (st .book .root) (st .book .under) (counted ws wt hi st p k .height) p
-  counted-span k = let q = counted-found k in rw (q .2)
-
-  -- OF ONE TAG it is the split below the root
-  pub counted-one : counted ws wt hi st p 1 .height ≡ split-height (st .book .root) (st .book .s) (st .book .r) (st .book .under) p
-  counted-one = highest-one (counted-highest 1) (split-highest (sound-said .degrees .s-least) (sound-said .degrees .r-least) (st .book .root) (st .book .under) p good-said)
-
-  -- OF TWO it tells that of the second
-  pub counted-two : (x : ℕ) → root-full (st .book) ≡ false → split-of (suc p) (inserted p x (st .book))
-      ≡ cond (eqb (count st + 2) (st .book .s * st .book .r ^ height (st .book))) (height (st .book))
-      (cond (ltb (counted ws wt hi st p 1 .height) (counted ws wt hi st p 2 .height)) (counted ws wt hi st p 2 .height) 0)
-  counted-two x t =
-      let many = sound-said .as-many in
-      second-split-of p x (st .book) (sane sound-said) (omega arith) (counted ws wt hi st p 2 .height) (counted-highest 2) t
-      ∙ rw (many, counted-one, split-of-inside p (st .book) t)
+  -- it is the highest whose ancestor comes to its limit with k leaves more
+  pub full-found : Highest (Fills s r f u p k) 0 u (highest-full hi sz k u 1 0)
+  full-found = full-from u 0 0 (omega arith) (highest-none (λ i l b t e. omega arith))

@@ -10,8 +10,9 @@ use Rattle.calls.specs.Words.{word-at, field, follow}
 use Rattle.words.specs.Fields.{with-field}
 use Rattle.walk_model.specs.Levels.{entry}
 use Rattle.walk_model.specs.Walk.{table}
+use Rattle.walk_model.specs.Watch.{ancestor-numbers, sizes-at}
 use Rattle.edit_model.specs.Relabel.{Relabelled, relabel, along, cut, shift}
-use Rattle.edit_model.specs.Span.{Span, Split, ancestor-numbers, highest-full}
+use Rattle.edit_model.specs.Split.{highest-full, left-of}
 
 -- the tag behind a place: the first where the place is the front
 unfoldable pub behind : List ℕ → (place : ℕ) → ℕ
@@ -75,30 +76,25 @@ plain-plan ws w u y =
 unfoldable pub root-plan : (height count : ℕ) → Plan
 root-plan h n = record { height = h; left = no-tag; number = 0; count = n; bound = 0; by = 0 }
 
-unfoldable pub split-plan : (s : ℕ) → (widths highs numbers : List ℕ) → Split → Plan
-split-plan s w hi ns q =
-    let h = q .height in
+-- the node of height h below the root is split; `left` is the tag left of it
+unfoldable pub split-plan : (s : ℕ) → (widths highs numbers : List ℕ) → (h left : ℕ) → Plan
+split-plan s w hi ns h x =
     record {
       height = h;
-      left = q .span .left;
+      left = x;
       number = entry ns h;
       count = entry hi h;
       bound = entry ns (suc h) + entry w (suc h);
       by = (s - 1) * entry w h;
     }
 
--- the split of k tags at a place, below the root
-unfoldable pub split-at : List ℕ → (widths highs : List ℕ) → (n k under place : ℕ) → Split
-split-at ws w hi n k u y =
-    let v : Span = record { left = y; right = behind ws y; size = 0 } in
-    highest-full ws w hi (numbers-at ws w u y) n k u 1 v (record { height = 0; span = v })
-
--- the plan of k tags at a place
-unfoldable pub plan : List ℕ → (s : ℕ) → (widths highs : List ℕ) → (n k under place : ℕ) → Plan
-plan ws s w hi n k u y =
-    let q = split-at ws w hi n k u y in
+-- the plan of k tags at a place whose ancestors have these sizes
+unfoldable pub plan : List ℕ → (s : ℕ) → (widths highs sizes : List ℕ) → (n k under place : ℕ) → Plan
+plan ws s w hi sz n k u y =
+    let h = highest-full hi sz k u 1 0 in
+    let ns = numbers-at ws w u y in
     cond (eqb (n + k) (entry hi (suc u))) (root-plan (suc u) (n + k))
-    (cond (eqb (q .height) 0) (plain-plan ws w u y) (split-plan s w hi (numbers-at ws w u y) q))
+    (cond (eqb h 0) (plain-plan ws w u y) (split-plan s w hi ns h (left-of n n ws (entry ns h) y)))
 
 -- the up of new tags: the place if it is a begin, else its up; at the front none
 unfoldable pub up-word : List ℕ → (place : ℕ) → ℕ
@@ -121,7 +117,8 @@ unfoldable pub highs-of : List ℕ → List ℕ
 highs-of ws = table (word-at ws 1) (word-at ws 2) (word-at ws 3)
 
 unfoldable pub plan-of : List ℕ → (k place : ℕ) → Plan
-plan-of ws k y = plan ws (word-at ws 1) (widths-of ws) (highs-of ws) (word-at ws 4) k (pred (word-at ws 3)) y
+plan-of ws k y =
+    plan ws (word-at ws 1) (widths-of ws) (highs-of ws) (sizes-at ws y (replicate 24 0)) (word-at ws 4) k (pred (word-at ws 3)) y
 
 -- one tag goes in behind a place by a plan made before; c of the numbered tags are new
 unfoldable pub put-words : List ℕ → (widths : List ℕ) → (r n c : ℕ) → Plan → Edited

@@ -1,4 +1,4 @@
 pub mod Image
 pub mod Relabel
-pub mod Span
+pub mod Split
 pub mod Insert

@@ -1,5 +1,4 @@
 pub mod Rows
 pub mod Parts
 pub mod Shifts
-pub mod AncestorNumbers
-pub mod Spans
+pub mod Splits

@@ -8,9 +8,6 @@ use Rattle.tree.specs.Forest.{labels, leaf-row, spread}
 use Rattle.calls.specs.Words.{follow}
 use Rattle.walk_model.specs.Levels.{entry}
 use Rattle.edit_model.specs.Relabel.{Relabelled, relabel, along, cut}
-use Rattle.edit_model.specs.Span as span
-use Rattle.renumber.specs.declared.ancestors.Span.{Span}
-use Rattle.renumber.specs.declared.ancestors.Split.{Split}
 
 -- no number, width or limit in a table passes this, so that sums of a few fit 64 bits
 abbrev pub table-limit : ℕ
@@ -53,29 +50,3 @@ pub record Row-numbered (before after : List ℕ) (q : Relabelled) (x count behi
   pub words : after ≡ q .words
   pub moved : changed ≡ q .moved
   pub next : behind ≡ along count before x
-
--- SPANS: the structs of the code as the records of the mirror
-unfoldable pub span-record : Span → span.Span
-span-record v = record { left = v .left .0; right = v .right .0; size = v .size }
-
-abbrev pub split-at : (height : ℕ) → span.Span → span.Split
-split-at h v = record { height = h; span = v }
-
-unfoldable pub split-record : Split → span.Split
-split-record q = split-at (q .height) (span-record (q .span))
-
--- widened from at most this, a span's count stays far below 32 bits
-abbrev pub count-limit : ℕ
-count-limit = 1000000000
-
--- the ancestors below the root: each has a width
-pub record Ancestors-fit (under : ℕ) (w : List ℕ) : Type 0 where
-  pub height : under ≤ 22
-  pub widths : (k : ℕ) → 1 ≤ k → k ≤ under → 1 ≤ entry w k
-
--- a climb from height to height with so much counted before it, in search of a node that is full with k leaves more
-pub record Heights-fit (under k size : ℕ) (w ns : List ℕ) : Type 0 where
-  pub height : under ≤ 22
-  pub counted : size ≤ most-tags
-  pub widths : (h : ℕ) → entry w h ≤ table-limit
-  pub numbers : (h : ℕ) → entry ns h ≤ table-limit

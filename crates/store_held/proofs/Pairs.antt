@@ -25,9 +25,9 @@ use Rattle.calls.specs.Promise.{Labels-tell}
 use Rattle.calls_laws.proofs.Marks.{accepted-section}
 use Rattle.calls_laws.proofs.Pairs.{labels-tell}
 use Rattle.calls_laws.proofs.WordSteps.{header-said}
-use Rattle.store_read.specs.Needs.{Tag-said}
+use Rattle.store_refuse.specs.Needs.{Tag-said}
 use Rattle.store_held.specs.Needs.{Pair-asked}
-use Rattle.store_read.proofs.Laws.{refused-said, accepted-says, accepted-store, words-of-tag, kind-of-tag, mate-of-tag, no-tag-from}
+use Rattle.store_refuse.proofs.Laws.{refused-said, accepted-says, accepted-store, words-of-tag, kind-of-tag, mate-of-tag, no-tag-from}
 
 -- HOLD
 hold-refuses : (k : ℕ) (p : HeldPair) → (k ≡ 0 → ⊥) → hold.Refused k ≡ hold-outcome k p

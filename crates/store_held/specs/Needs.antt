@@ -7,7 +7,7 @@ use Rattle.store_types.specs.declared.HeldPair.{HeldPair}
 use Rattle.calls.specs.Kind.{is-begin}
 use Rattle.calls.specs.Store.{fact}
 use Rattle.calls.specs.Replies.{said}
-use Rattle.store_read.specs.Needs.{Tag-said}
+use Rattle.store_refuse.specs.Needs.{Tag-said}
 
 -- words that say a store, a pair of this store's book and of a begin, and a tag
 pub record Pair-asked (ws : List ℕ) (p : HeldPair) (d : ℕ) : Type 0 where

@@ -3,7 +3,7 @@ ghost use mathlib.Core.Path.{_≡_};
 ghost use Rattle.calls.specs.Held.{current};
 ghost use Rattle.calls.specs.Store.{fact, label};
 ghost use Rattle.calls.specs.Replies.{said, hold-reply, question-reply};
-ghost use Rattle.store_read.specs.Needs.{Tag-said};
+ghost use Rattle.store_refuse.specs.Needs.{Tag-said};
 ghost use Rattle.store_held.specs.Needs.{Pair-asked};
 use store_types::Answer;
 use store_types::HeldPair;
@@ -16,7 +16,7 @@ use store_types::TagId;
 pub fn hold(tag: TagId, words: &[u32]) -> HoldReply
     ensures { λ q. ⌜ q ≡ hold-reply (tag .0) (now (words .entry)) ⌝ }
 {
-    let refusal = store_read::section_refused(tag, words);
+    let refusal = store_refuse::section_refused(tag, words);
     if refusal != 0 {
         return HoldReply::Refused(refusal);
     }
@@ -34,7 +34,7 @@ pub fn hold(tag: TagId, words: &[u32]) -> HoldReply
 pub fn question(pair: HeldPair, tag: TagId, words: &[u32]) -> QuestionReply
     ensures { λ q. ⌜ q ≡ question-reply pair (tag .0) (now (words .entry)) ⌝ }
 {
-    let first = store_read::words_refused(words);
+    let first = store_refuse::words_refused(words);
     if first != 0 {
         return QuestionReply::Refused(first);
     }

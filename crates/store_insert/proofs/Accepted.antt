@@ -9,7 +9,7 @@ use native.Mathlib.Nat.{one-mul, one-le-pow}
 use native.Mathlib.Omega.{arith}
 use borrow.Author.Tests.{ne-eqb, eqb-true}
 use lib.Dec.{eqb}
-use lib.ListN.{length, getD}
+use lib.ListN.{length, getD, replicate}
 use Rattle.store_types.specs.Limits.{no-tag, label-limit, most-tags}
 use Rattle.tree.specs.Book.{height}
 use Rattle.tree_laws.proofs.Rows.{by-test}
@@ -24,7 +24,8 @@ use Rattle.calls_laws.proofs.Steps.{insert-passed}
 use Rattle.calls_laws.proofs.WordSteps.{header-said}
 use Rattle.walk_model.specs.Levels.{entry}
 use Rattle.walk_model.specs.Walk.{table}
-use Rattle.walk.proofs.TableLaws.{table-at, table-bound}
+use Rattle.walk_model.specs.Watch.{sizes-at}
+use Rattle.walk_levels.proofs.TableLaws.{table-at, table-bound}
 use Rattle.edit_model.specs.Image.{image-of}
 use Rattle.edit_model.specs.Insert.{behind, added, widths-of, highs-of, plan-of}
 use Rattle.edit_model.proofs.Image.{proper-image}
@@ -33,11 +34,12 @@ use Rattle.edit_model.proofs.Single.{single-row}
 use Rattle.edit_model.proofs.Renumbered.{Words-in, Row-in}
 use Rattle.edit_model.proofs.Inserted.{place-said, position-said, few-said, room-said, labels-said}
 use Rattle.renumber.proofs.Rows.{cut-small}
-use Rattle.store_read.proofs.Laws.{accepted-says, accepted-store}
+use Rattle.store_refuse.proofs.Laws.{accepted-says, accepted-store}
 use Rattle.store_insert.specs.Parts.{lows-of}
-use Rattle.store_insert.specs.Needs.{Tag-or-none, Place-there, Tag-fits, Plan-reads, Applicable}
-use Rattle.store_insert.proofs.Headers.{Ranges, ranges}
-use Rattle.store_insert.proofs.Plans.{Plan-fits, plan-fits}
+use Rattle.insert_link.specs.Needs.{Tag-or-none, Place-there, Tag-fits}
+use Rattle.insert_plan.specs.Needs.{Plan-reads, Applicable}
+use Rattle.insert_refuse.proofs.Headers.{Ranges, ranges}
+use Rattle.insert_plan.proofs.Plans.{Plan-fits, plan-fits}
 use Rattle.store_insert.proofs.Rows.{records-in, place-or-none, behind-or-none, left-or-none, row-there}
 
 -- WORDS THAT SAY A STORE: the place is one of its tags or the front
@@ -71,7 +73,7 @@ module _ (ws : List ℕ) (says : Says ws (said ws)) where
   unfolding plan-of
   plan-said k y =
       let levels : suc (pred (word-at ws 3)) ≡ word-at ws 3 = omega (arith, here .low) in
-      rw levels at (plan-fits ws (word-at ws 1) (word-at ws 2) (widths-of ws) (highs-of ws) (word-at ws 4) k (pred (word-at ws 3)) y
+      rw levels at (plan-fits ws (word-at ws 1) (word-at ws 2) (widths-of ws) (highs-of ws) (sizes-at ws y (replicate 24 0)) (word-at ws 4) k (pred (word-at ws 3)) y
       (omega (arith, here .degrees .s-least)) (here .degrees .s-most) (λ h l. highs-at h (omega arith)) widths-most)
 
   -- it can be done on words where its row is

@@ -6,7 +6,9 @@ use native.Mathlib.Numerals.{add-one, sub-one}
 use native.Mathlib.Omega.{arith}
 use Rattle.calls.specs.Words.{word-at}
 use Rattle.edit_model.specs.Insert.{Plan, added, raised-words, applied, put-words, plain-plan, end-edit}
-use Rattle.store_insert.specs.Needs.{Tag-fits, Plain-reads, Applicable, Edits, End-fits}
+use Rattle.insert_link.specs.Needs.{Tag-fits}
+use Rattle.insert_plan.specs.Needs.{Plain-reads, Applicable}
+use Rattle.store_insert.specs.Needs.{Edits, End-fits}
 use Rattle.store_insert.proofs.Keeps.{plain-applicable}
 
 -- A PLAN DONE, and H raised

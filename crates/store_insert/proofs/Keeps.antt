@@ -20,8 +20,9 @@ use Rattle.edit_model.specs.Insert.{Plan, behind, with-record, linked-place, li
 use Rattle.edit_model.proofs.Fields.{field-same, field-other-word, header-kept, length-with-field}
 use Rattle.renumber.specs.Needs.{Records, table-limit}
 use Rattle.renumber.proofs.Rows.{cut-small}
-use Rattle.store_insert.specs.Needs.{Tag-fits, Applicable}
-use Rattle.store_insert.proofs.Links.{behind-front, behind-tag, linked-front, linked-tag}
+use Rattle.insert_link.specs.Needs.{Tag-fits}
+use Rattle.insert_plan.specs.Needs.{Applicable}
+use Rattle.insert_link.proofs.Links.{behind-front, behind-tag, linked-front, linked-tag}
 
 -- THE HEADER stays where labels are written
 module _ (i : ℕ) (low : i < header-words) where

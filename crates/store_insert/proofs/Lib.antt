@@ -1,7 +1,3 @@
-pub mod Links
-pub mod Headers
-pub mod Refusals
-pub mod Plans
 pub mod Keeps
 pub mod Edits
 pub mod Rows

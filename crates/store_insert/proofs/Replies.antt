@@ -20,7 +20,7 @@ use Rattle.calls_laws.proofs.WordSteps.{header-said}
 use Rattle.edit_model.specs.Insert.{stamped}
 use Rattle.edit_model.proofs.Inserted.{Edit-right, text-right}
 use Rattle.edit_model.proofs.Elements.{element-right}
-use Rattle.store_read.proofs.Laws.{sound-said}
+use Rattle.store_refuse.proofs.Laws.{sound-said}
 use Rattle.store_insert.specs.Parts.{call-edit}
 use Rattle.store_insert.specs.Needs.{Edits}
 use Rattle.store_insert.proofs.Accepted.{says-accepted, store-accepted, kind-accepted}

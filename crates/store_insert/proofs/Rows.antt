@@ -18,7 +18,7 @@ use Rattle.edit_model.proofs.Along.{along-at}
 use Rattle.edit_model.proofs.Added.{tag-before, behind-place}
 use Rattle.edit_model.proofs.Renumbered.{Words-in, Row-in}
 use Rattle.renumber.specs.Needs.{Records, Row-there}
-use Rattle.store_insert.specs.Needs.{Tag-or-none}
+use Rattle.insert_link.specs.Needs.{Tag-or-none}
 
 module _ {us : List ℕ} {n : ℕ} (g : Words-in us n) (few : n ≤ most-tags) where
   pub records-in : Records us n

@@ -12,8 +12,9 @@ use Rattle.calls.specs.Words.{Says, word-at}
 use Rattle.calls.specs.Replies.{said}
 use Rattle.calls_laws.proofs.Inserts.{Row-accepted}
 use Rattle.edit_model.specs.Insert.{Plan, added, plan, put-words, text-edit}
-use Rattle.store_insert.specs.Needs.{Tag-fits, Put-fits, Ready, Edits}
-use Rattle.store_insert.proofs.Headers.{ranges}
+use Rattle.insert_link.specs.Needs.{Tag-fits}
+use Rattle.store_insert.specs.Needs.{Put-fits, Ready, Edits}
+use Rattle.insert_refuse.proofs.Headers.{ranges}
 use Rattle.store_insert.proofs.Keeps.{added-header}
 use Rattle.store_insert.proofs.Accepted.{tag-fits, one-applicable, says-accepted, row-accepted}
 

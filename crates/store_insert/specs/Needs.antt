@@ -2,56 +2,15 @@
 use mathlib.Core.Path.{_≡_}
 use mathlib.Core.List.{List}
 use Prim.Native.Nat.{ℕ, suc, pred, _≤_, _<_}
-use Rattle.store_types.specs.Limits.{no-tag}
 use Rattle.calls.specs.Words.{word-at}
 use Rattle.calls.specs.Replies.{insert-refused}
 use Rattle.walk_model.specs.Levels.{entry}
-use Rattle.edit_model.specs.Relabel.{cut}
-use Rattle.edit_model.specs.Insert.{Plan, Edited, behind, up-word, widths-of, plan-of}
-use Rattle.renumber.specs.Needs.{Records, Row-there, Trees-fit, Ancestors-fit, table-limit}
+use Rattle.edit_model.specs.Insert.{Plan, Edited, up-word, widths-of, plan-of}
+use Rattle.walk_levels.specs.Needs.{Ancestors-fit}
+use Rattle.renumber.specs.Needs.{table-limit}
 use Rattle.store_insert.specs.Parts.{lows-of}
-
--- no tag, or one of n
-abbrev pub Tag-or-none : (n tag : ℕ) → Type 0
-Tag-or-none n x = (x ≡ no-tag → ⊥) → x < n
-
--- the records of n tags are there, and a place is one of them or the front
-pub record Place-there (ws : List ℕ) (n y : ℕ) : Type 0 where
-  pub records : Records ws n
-  pub place : Tag-or-none n y
-
--- there is room for tag n, and the tag behind its place is one of n or none
-pub record Tag-fits (ws : List ℕ) (n y : ℕ) : Type 0 where
-  pub records : Records ws (suc n)
-  pub place : Tag-or-none n y
-  pub next : Tag-or-none n (behind ws y)
-
--- A PLAN is made: a place, and widths of the heights below the root
-pub record Plain-reads (ws : List ℕ) (n under y : ℕ) (w : List ℕ) : Type 0 where
-  pub place : Place-there ws n y
-  pub ancestors : Ancestors-fit under w
-  pub widths : (h : ℕ) → entry w h ≤ table-limit
-
--- and s
-pub record Plan-reads (ws : List ℕ) (n s under y : ℕ) (w : List ℕ) : Type 0 where
-  pub plain : Plain-reads ws n under y w
-  pub least : 1 ≤ s
-  pub most : s ≤ 16
-
--- a node's height, and the numbers of the ancestors of a place
-pub record Split-fits (s h : ℕ) (w ns : List ℕ) : Type 0 where
-  pub least : 1 ≤ s
-  pub most : s ≤ 16
-  pub height : h ≤ 22
-  pub widths : (i : ℕ) → entry w i ≤ table-limit
-  pub numbers : (i : ℕ) → entry ns i ≤ table-limit
-
--- and done: the tags that it numbers are there, and its numbers fit
-pub record Applicable (ws : List ℕ) (n r : ℕ) (p : Plan) (w l : List ℕ) : Type 0 where
-  pub left : Tag-or-none n (p .left)
-  pub row : Row-there ws n (behind ws (p .left)) (p .count)
-  pub trees : Trees-fit r (p .height) (cut (p .number)) (p .count) w l
-  pub by : p .by ≤ table-limit
+use Rattle.insert_link.specs.Needs.{Tag-fits}
+use Rattle.insert_plan.specs.Needs.{Applicable}
 
 -- EDITS: what the code leaves is what the mirror says
 pub record Edits (after : List ℕ) (moved split : ℕ) (e : Edited) : Type 0 where

@@ -1,15 +1,14 @@
 // Insertion of a text or an element (document 01, "The tree", "Calls and their replies").
-mod link;
-mod plan;
-mod refuse;
-
 ghost use mathlib.Core.Path.{_≡_};
 ghost use Prim.Native.Nat.{_-_};
+ghost use lib.ListN.{replicate};
 ghost use Rattle.calls.specs.Replies.{insert-reply, insert-words, insert-refused};
+ghost use Rattle.walk_model.specs.Watch.{sizes-at};
 ghost use Rattle.edit_model.specs.Insert.{put-words, text-edit, both-edit, in-turn-edit, end-edit, element-edit};
-ghost use Rattle.store_insert.specs.Parts.{plan-record, call-edit};
+ghost use Rattle.insert_plan.specs.Parts.{plan-record};
+ghost use Rattle.store_insert.specs.Parts.{call-edit};
 ghost use Rattle.store_insert.specs.Needs.{Edits, Put-fits, End-fits, Ready, Both-ready};
-use plan::Plan;
+use insert_plan::Plan;
 use store_types::InsertReply;
 use store_types::TagId;
 
@@ -33,8 +32,8 @@ fn put(
     ensures { λ d. ⌜ Edits (now (words .exit)) (d .moved) (d .split) (put-words (now (words .entry)) (now (widths .entry)) r n new (plan-record p)) ⌝ }
 {
     let split = p.height;
-    let numbered = plan::apply(words, n, r, p, widths, lows);
-    link::raise(words, split);
+    let numbered = insert_plan::apply(words, n, r, p, widths, lows);
+    insert_link::raise(words, split);
     Done {
         moved: less(numbered, new),
         split: split as u32,
@@ -65,7 +64,7 @@ fn insert_text(
     requires { ⌜ Ready 3 1 (now words) n (place .0) (up .0) r (plan-record p) (now widths) (now lows) ⌝ }
     ensures { λ d. ⌜ Edits (now (words .exit)) (d .moved) (d .split) (text-edit (place .0) (now (words .entry))) ⌝ }
 {
-    link::add_tag(words, n, place, TagId(n), up, 3);
+    insert_link::add_tag(words, n, place, TagId(n), up, 3);
     put(words, n + 1, 1, r, p, widths, lows)
 }
 
@@ -83,8 +82,8 @@ fn insert_both(
     requires { ⌜ Both-ready (now words) n (place .0) (up .0) r (plan-record p) (now widths) (now lows) ⌝ }
     ensures { λ d. ⌜ Edits (now (words .exit)) (d .moved) (d .split) (both-edit (place .0) (now (words .entry))) ⌝ }
 {
-    link::add_tag(words, n, place, TagId(n + 1), up, 1);
-    link::add_tag(words, n + 1, TagId(n), TagId(n), up, 2);
+    insert_link::add_tag(words, n, place, TagId(n + 1), up, 1);
+    insert_link::add_tag(words, n + 1, TagId(n), TagId(n), up, 2);
     put(words, n + 2, 2, r, p, widths, lows)
 }
 
@@ -94,9 +93,9 @@ fn insert_end(words: &mut [u32], n: u32, up: TagId, r: u64, widths: &[u64; 24], 
     ensures { λ _. ⌜ now (words .exit) ≡ end-edit (now (widths .entry)) n (up .0) (now (words .entry)) ⌝ }
 {
     let under = words[3] as usize - 1;
-    let p = plan::plain_plan(words, n + 1, TagId(n), under, widths);
-    link::add_tag(words, n + 1, TagId(n), TagId(n), up, 2);
-    plan::apply(words, n + 2, r, p, widths, lows);
+    let p = insert_plan::plain_plan(words, n + 1, TagId(n), under, widths);
+    insert_link::add_tag(words, n + 1, TagId(n), TagId(n), up, 2);
+    insert_plan::apply(words, n + 2, r, p, widths, lows);
 }
 
 // The tags of an element one after the other, where the second does not split.
@@ -113,7 +112,7 @@ fn insert_in_turn(
     requires { ⌜ Ready 1 1 (now words) n (place .0) (up .0) r (plan-record p) (now widths) (now lows) ⌝ }
     ensures { λ d. ⌜ Edits (now (words .exit)) (d .moved) (d .split) (in-turn-edit (place .0) (now (words .entry))) ⌝ }
 {
-    link::add_tag(words, n, place, TagId(n + 1), up, 1);
+    insert_link::add_tag(words, n, place, TagId(n + 1), up, 1);
     let done = put(words, n + 1, 1, r, p, widths, lows);
     insert_end(words, n, up, r, widths, lows);
     done
@@ -140,24 +139,24 @@ fn insert_element(
     insert_in_turn(words, n, place, up, r, p, widths, lows)
 }
 
-// An accepted insertion, but for the stamp.
-fn change(kind: u8, place: TagId, words: &mut [u32]) -> Done
-    requires { ⌜ insert-refused kind (place .0) (now words) ≡ 0 ⌝ }
+// An accepted insertion, but for the stamp; `sizes` are those of the ancestors of its place.
+fn change(kind: u8, place: TagId, words: &mut [u32], sizes: &[u32; 24]) -> Done
+    requires { ⌜ (insert-refused kind (place .0) (now words) ≡ 0) × (now sizes ≡ sizes-at (now words) (place .0) (replicate 24 0)) ⌝ }
     ensures { λ d. ⌜ Edits (now (words .exit)) (d .moved) (d .split) (call-edit kind (place .0) (now (words .entry))) ⌝ }
 {
     let s = words[1] as u64;
     let r = words[2] as u64;
     let h = words[3] as usize;
     let n = words[4];
-    let widths = walk::levels::table(1, s * r - 1, h);
-    let lows = walk::levels::table(1, r, h);
-    let highs = walk::levels::table(s, r, h);
-    let up = link::up_at(words, n, place);
-    let p = plan::plan_at(words, n, 1, place, s, h - 1, &widths, &highs);
+    let widths = walk_levels::table(1, s * r - 1, h);
+    let lows = walk_levels::table(1, r, h);
+    let highs = walk_levels::table(s, r, h);
+    let up = insert_link::up_at(words, n, place);
+    let p = insert_plan::plan_at(words, n, 1, place, s, h - 1, &widths, &highs, sizes);
     if kind != 1 {
         return insert_text(words, n, place, up, r, p, &widths, &lows);
     }
-    let q = plan::plan_at(words, n, 2, place, s, h - 1, &widths, &highs);
+    let q = insert_plan::plan_at(words, n, 2, place, s, h - 1, &widths, &highs, sizes);
     insert_element(words, n, place, up, r, p, q, &widths, &lows)
 }
 
@@ -165,12 +164,13 @@ pub fn insert(kind: u8, place: TagId, words: &mut [u32]) -> InsertReply
     ensures reply { λ q. ⌜ q ≡ insert-reply kind (place .0) (now (words .entry)) ⌝ }
     ensures words { λ _. ⌜ now (words .exit) ≡ insert-words kind (place .0) (now (words .entry)) ⌝ }
 {
-    let refusal = refuse::insert_refused(kind, place, words);
+    let mut sizes = [0u32; 24];
+    let refusal = insert_refuse::insert_refused(kind, place, words, &mut sizes);
     if refusal != 0 {
         return InsertReply::Refused(refusal);
     }
     let n = words[4];
-    let done = change(kind, place, words);
+    let done = change(kind, place, words, &sizes);
     words[7] = words[7] + 1;
     InsertReply::Inserted {
         first: TagId(n),

@@ -14,9 +14,9 @@ use Rattle.calls.specs.Words.{Says, field}
 use Rattle.calls.specs.Replies.{said}
 use Rattle.calls_laws.proofs.Tests.{Sound}
 use Rattle.calls_laws.proofs.Sections.{distinct-row, row-below, is-tag}
-use Rattle.store_read.specs.Needs.{Tag-said}
+use Rattle.store_refuse.specs.Needs.{Tag-said}
 use Rattle.store_list.specs.Needs.{Stands, Span-said, unmarked, unmarked-between}
-use Rattle.store_read.proofs.Laws.{sound-said, words-of-tag, kind-of-tag}
+use Rattle.store_refuse.proofs.Laws.{sound-said, words-of-tag, kind-of-tag}
 
 -- PLACES: no tag stands behind the last, and of each place what stands there
 module _ {st : Store} (h : Sound st) where

@@ -13,9 +13,9 @@ use Rattle.calls.specs.Store.{Store, fact, count}
 use Rattle.calls.specs.Listing.{listed-tags, list-refusal}
 use Rattle.calls.specs.Words.{Says, word-at, field}
 use Rattle.calls.specs.Replies.{refusal-over, said}
-use Rattle.store_read.specs.Needs.{Tag-said}
+use Rattle.store_refuse.specs.Needs.{Tag-said}
 use Rattle.store_list.specs.Needs.{inside-else, inside-refusal}
-use Rattle.store_read.proofs.Laws.{refused-said, kind-of-tag, no-tag-from}
+use Rattle.store_refuse.proofs.Laws.{refused-said, kind-of-tag, no-tag-from}
 
 -- REFUSALS: those before 11
 abbrev ladder : (a b c e : Bool) → ℕ → ℕ

@@ -15,7 +15,7 @@ use Rattle.calls.specs.Listing.{listed-tags, listed-labels, list-refusal}
 use Rattle.calls.specs.Words.{in-front}
 use Rattle.calls.specs.Replies.{refusal-over, said, written, list-outcome, list-refused, list-reply, list-tags, list-labels}
 use Rattle.store_list.specs.Needs.{unmarked-between, inside-refusal, first-inside, stop-of}
-use Rattle.store_read.proofs.Laws.{refused-first, refused-said, accepted-says, accepted-store}
+use Rattle.store_refuse.proofs.Laws.{refused-first, refused-said, accepted-says, accepted-store}
 use Rattle.store_list.proofs.ListRefusals.{list-refused-first, list-refused-last}
 use Rattle.store_list.proofs.Listed.{listed-is}
 

@@ -21,9 +21,9 @@ use Rattle.calls_laws.proofs.Tests.{Sound}
 use Rattle.calls_laws.proofs.Nesting.{Begins, Step, begins, ends, stands, bottom, Closed, closed}
 use Rattle.calls_laws.proofs.Sections.{place-first-part, place-middle-part, place-last-part, distinct-row, row-below, in-row, is-tag, At, pass-at, mate-fits}
 use Rattle.calls_laws.proofs.WordSteps.{header-said}
-use Rattle.store_read.specs.Needs.{Tag-said}
+use Rattle.store_refuse.specs.Needs.{Tag-said}
 use Rattle.store_list.specs.Needs.{Span-said, unmarked, unmarked-between, inside-refusal, first-inside, stop-of}
-use Rattle.store_read.proofs.Laws.{accepted-says, accepted-store, sound-said, words-of-tag}
+use Rattle.store_refuse.proofs.Laws.{accepted-says, accepted-store, sound-said, words-of-tag}
 use Rattle.store_list.proofs.Along.{no-tag-last, place-there, stands-there}
 use Rattle.store_list.proofs.ListRefusals.{Begin-accepted, accepted-inside}
 

@@ -8,7 +8,7 @@ ghost use lib.Seq.{sets};
 ghost use Rattle.calls.specs.Store.{label};
 ghost use Rattle.calls.specs.Words.{in-front};
 ghost use Rattle.calls.specs.Replies.{refusal-over, said, list-reply, list-tags, list-labels};
-ghost use Rattle.store_read.specs.Needs.{Tag-said};
+ghost use Rattle.store_refuse.specs.Needs.{Tag-said};
 ghost use Rattle.store_list.specs.Needs.{Span-said, unmarked, unmarked-between, inside-refusal, first-inside, stop-of};
 use store_types::ListReply;
 use store_types::TagId;
@@ -37,7 +37,7 @@ pub fn list(begin: TagId, words: &[u32], tags: &mut [u32], labels: &mut [u32]) -
 fn inside_refused(begin: TagId, words: &[u32]) -> u32
     ensures { λ k. ⌜ k ≡ refusal-over (now (words .entry)) (inside-refusal (begin .0)) ⌝ }
 {
-    let first = store_read::words_refused(words);
+    let first = store_refuse::words_refused(words);
     if first != 0 || begin.is_none() {
         return first;
     }

@@ -21,7 +21,7 @@ use Rattle.calls.specs.Words.{words-of, follow}
 use Rattle.calls_laws.proofs.Steps.{Load-accepted}
 use Rattle.walk_model.specs.Levels.{entry}
 use Rattle.walk_model.specs.Walk.{table}
-use Rattle.walk.proofs.TableLaws.{table-at}
+use Rattle.walk_levels.proofs.TableLaws.{table-at}
 use Rattle.edit_model.specs.Image.{image-words, image-of, with-labels}
 use Rattle.edit_model.specs.Relabel.{along, relabel, cut}
 use Rattle.edit_model.proofs.Image.{image-is}

@@ -6,8 +6,8 @@ use native.Mathlib.Nat.{one-mul, mul-le-mul-left, pow-le-pow-right}
 use native.Mathlib.Omega.{arith}
 use Rattle.tree.specs.Book.{base, power-width}
 use Rattle.walk_model.specs.Walk.{table}
-use Rattle.walk.specs.Needs.{Table-fits}
-use Rattle.walk.proofs.TableLaws.{table-at, table-bound}
+use Rattle.walk_levels.specs.Needs.{Table-fits}
+use Rattle.walk_levels.proofs.TableLaws.{table-at, table-bound}
 use Rattle.walk.proofs.SoundLaws.{Frame, widths-fit, lows-fit}
 use Rattle.renumber.specs.Needs.{Trees-fit, trees-numbered}
 use Rattle.store_load.specs.Labels.{header-new, Labels-fit, labels-written}

@@ -50,7 +50,7 @@ pub fn mark(tag: TagId, words: &mut [u32]) -> MarkReply
     ensures reply { λ q. ⌜ q ≡ mark-reply (tag .0) (now (words .entry)) ⌝ }
     ensures words { λ _. ⌜ now (words .exit) ≡ mark-words (tag .0) (now (words .entry)) ⌝ }
 {
-    let refusal = store_read::section_refused(tag, words);
+    let refusal = store_refuse::section_refused(tag, words);
     if refusal != 0 {
         return MarkReply::Refused(refusal);
     }

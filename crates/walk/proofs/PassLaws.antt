@@ -13,14 +13,18 @@ use lib.Dec.{leb, eqb}
 use lib.ListN.{getD, replicate}
 use Rattle.store_types.specs.Limits.{no-tag}
 use Rattle.calls.specs.Words.{word-at, field}
-use Rattle.walk_model.specs.Levels.{closes, all-close}
+use Rattle.walk_model.specs.Levels.{Levels, closes, all-close}
 use Rattle.walk_model.specs.Walk.{State, end-fits, kind-fits, open-after, placed, tag-passes, passed, ends-well, walk}
-use Rattle.walk.specs.Needs.{tables-of, levels-of, Reads, Pass-fits, place-from, close-from, fits-at, marks-at, ends-from, shape-with, start-with}
+use Rattle.walk_model.specs.Watch.{place-sizes, close-sizes, walk-sizes}
+use Rattle.walk_tags.specs.Needs.{Open-reads, Reads, fits-at, marks-at}
+use Rattle.walk_tags.proofs.TagLaws.{fits-small}
+use Rattle.walk_levels.specs.Needs.{entry-limit, tables-of, levels-of, place-from, close-from}
+use Rattle.walk.specs.Needs.{Pass-fits, Behind, ends-from, shape-with, state-with, start-with}
+use Rattle.walk.specs.declared.State as code
 
 -- WHAT THE CALLS ASK
-pub reads : (ws w l h : List ℕ) (n u x o : ℕ) → Pass-fits ws n u w l h → x < n → ((o ≡ no-tag → ⊥) → o < n) → Reads ws n x o
-reads ws w l h n u x o a p q =
-    record { around = record { few = a .few; long = a .long; open-below = q }; below = p }
+pub open-reads : {ws w l h ns : List ℕ} {n u o : ℕ} → Pass-fits ws n u w l h ns → ((o ≡ no-tag → ⊥) → o < n) → Open-reads ws n o
+open-reads a q = record { few = a .few; long = a .long; open-below = q }
 
 -- BEHIND THE LAST TAG
 module _ (ws : List ℕ) (n u : ℕ) (l h f : List ℕ) (x o m : ℕ) {t : Bool} where
@@ -46,61 +50,117 @@ unfolding all-close closes tables-of levels-of
 close-same w l h e f zero j i = refl
 close-same w l h e f (suc k) j i = rw (close-same w l h e f k (suc j) i)
 
-abbrev pub state-of : (ends firsts : List ℕ) → (tag prior open-begin marks expect : ℕ) → State
-state-of e f x p o m q = record { tag = x; prior = p; open-begin = o; marks = m; expect = q; levels = levels-of e f }
-
-module _ (ws w l h e f : List ℕ) (n u x p o m q : ℕ) where
-  ends-same : ends-from ws n u l h f x o m ≡ ends-well ws (shape-with w l h u n) (state-of e f x p o m q)
-  unfolding ends-from ends-well shape-with close-from
+module _ (ws w l h e f : List ℕ) (n u : ℕ) (v : code.State) where
+  ends-same : ends-from ws n u l h f (v .tag .0) (v .parent .0) (v .marks) ≡ ends-well ws (shape-with w l h u n) (state-with v e f)
+  unfolding ends-from ends-well shape-with state-with close-from
   ends-same = rw (close-same w l h e f u 1 n)
 
--- THE WALK FROM TAG i ON: what is left comes to the whole
+-- ONE TAG, at its place
+module _ (ws w l h : List ℕ) (n u : ℕ) (v : code.State) (e f : List ℕ) where
+  abbrev pub tag-at : Bool
+  tag-at = tag-passes ws (shape-with w l h u n) (v .place) (state-with v e f)
+
+  abbrev pub levels-at : Levels
+  levels-at = placed ws (shape-with w l h u n) (v .place) (state-with v e f) .levels
+
+  pub tag-beyond : n ≤ v .tag .0 → false ≡ tag-at
+  unfolding tag-passes shape-with state-with
+  tag-beyond r = rw (le-ltb (v .tag .0) n r)
+
+  module _ {lab : ℕ} (label : lab ≡ field ws (v .tag .0) 0) where
+    pub placed-by : (e′ f′ : List ℕ) → levels-of e′ f′ ≡ place-from w l h u (v .expect) lab (v .place) e f .levels → levels-of e′ f′ ≡ levels-at
+    unfolding placed place-from shape-with state-with
+    placed-by e′ f′ c = rw (levels-at, ← label) c
+
+    module _ {t : Bool} (place : t ≡ place-from w l h u (v .expect) lab (v .place) e f .ok) where
+      pub tag-misplaced : not t ≡ true → false ≡ tag-at
+      unfolding tag-passes placed place-from shape-with state-with
+      tag-misplaced r = simp (← label, sym place ∙ not-true _ r, and-false)
+
+      pub tag-decides : {s : Bool} → v .tag .0 < n → not t ≡ false → s ≡ fits-at ws n (v .parent .0) (v .tag .0) (v .prior .0) → s ≡ tag-at
+      unfolding tag-passes placed place-from shape-with state-with fits-at
+      tag-decides below r fits = rw (lt-ltb (v .tag .0) n below, ← label, sym place ∙ not-false _ r) fits
+
+pub sizes-by : (ws : List ℕ) (x : ℕ) {lab : ℕ} → lab ≡ field ws x 0 → (w ns : List ℕ) (u q i : ℕ) (e f sz : List ℕ) {sz′ : List ℕ} →
+    sz′ ≡ place-sizes w ns u q lab i (levels-of e f) sz → sz′ ≡ place-sizes w ns u q (field ws x 0) i (levels-of e f) sz
+sizes-by ws x label w ns u q i e f sz c = rw (← label) c
+
+-- behind it
+module _ (ws w l h : List ℕ) (n u : ℕ) (v q : code.State) (e f e′ f′ : List ℕ) where
+  passed-by : levels-of e′ f′ ≡ levels-at ws w l h n u v e f → Behind ws (getD w 0 0) v q → state-with q e′ f′ ≡ passed ws (shape-with w l h u n) (v .place) (state-with v e f)
+  unfolding passed state-with shape-with tables-of marks-at
+  passed-by c b = rw (b .tag, b .prior, b .parent, b .marks, b .expect, c)
+
+-- THE WALK FROM A TAG ON: what is left comes to the whole
 module _ (ws w l h : List ℕ) (n u : ℕ) where
-  abbrev pub walk-at : (i : ℕ) → State → Bool
-  walk-at i v = walk ws (shape-with w l h u n) (n - i) i v
+  abbrev pub walk-at : code.State → (ends firsts : List ℕ) → Bool
+  walk-at v e f = walk ws (shape-with w l h u n) (n - v .place) (v .place) (state-with v e f)
 
   abbrev pub walk-whole : Bool
   walk-whole = walk ws (shape-with w l h u n) n 0 (start-with ws w)
 
-  pub walk-start : walk-at 0 (state-of w (replicate 24 0) (word-at ws 5) no-tag no-tag 0 0) ≡ walk-whole
-  unfolding start-with
+  -- and so do the sizes of the watched nodes
+  abbrev pub sizes-at-tag : (numbers : List ℕ) → code.State → (ends firsts sizes : List ℕ) → List ℕ
+  sizes-at-tag ns v e f sz = walk-sizes ws (shape-with w l h u n) ns (n - v .place) (v .place) (state-with v e f) sz
+
+  abbrev pub sizes-whole : (numbers sizes : List ℕ) → List ℕ
+  sizes-whole ns sz = walk-sizes ws (shape-with w l h u n) ns n 0 (start-with ws w) sz
+
+  abbrev first-state : code.State
+  first-state =
+      record { place = 0; tag = record { 0 = word-at ws 5 }; prior = record { 0 = no-tag }; parent = record { 0 = no-tag }; marks = 0; expect = 0 }
+
+  pub walk-start : walk-at first-state w (replicate 24 0) ≡ walk-whole
+  unfolding state-with start-with
   walk-start = rw (sub-zero n)
 
-  module _ (e f : List ℕ) (x p o m q i : ℕ) (inv : walk-at i (state-of e f x p o m q) ≡ walk-whole) where
-    pub walk-end : {t : Bool} → n ≤ i → t ≡ ends-from ws n u l h f x o m → t ≡ walk-whole
+  module _ (v : code.State) (e f : List ℕ) (inv : walk-at v e f ≡ walk-whole) where
+    pub walk-end : {t : Bool} → n ≤ v .place → t ≡ ends-from ws n u l h f (v .tag .0) (v .parent .0) (v .marks) → t ≡ walk-whole
     unfolding walk
-    walk-end r s = let z : n - i ≡ 0 = omega arith in s ∙ ends-same ws w l h e f n u x p o m q ∙ (rw z at inv)
+    walk-end r s = let z : n - v .place ≡ 0 = omega arith in s ∙ ends-same ws w l h e f n u v ∙ (rw z at inv)
 
-    module _ (more : i < n) where
-      walk-turn : (tag-passes ws (shape-with w l h u n) i (state-of e f x p o m q) && walk-at (i + 1) (passed ws (shape-with w l h u n) i (state-of e f x p o m q))) ≡ walk-whole
+    module _ {t : Bool} (more : v .place < n) (one : t ≡ tag-at ws w l h n u v e f) where
+      walk-turn : (t && walk ws (shape-with w l h u n) (n - (v .place + 1)) (v .place + 1) (passed ws (shape-with w l h u n) (v .place) (state-with v e f))) ≡ walk-whole
       unfolding walk
-      walk-turn = let z : n - i ≡ suc (n - (i + 1)) = omega arith in rw (z, ← add-one i) at inv
+      walk-turn = let z : n - v .place ≡ suc (n - (v .place + 1)) = omega arith in rw (z, ← add-one (v .place), ← one) at inv
 
-      pub walk-beyond : n ≤ x → false ≡ walk-whole
-      unfolding tag-passes shape-with
-      walk-beyond r = rw (le-ltb x n r) at walk-turn
+      pub walk-refused : not t ≡ true → false ≡ walk-whole
+      walk-refused r = rw (not-true t r) at walk-turn
 
-      pub walk-misplaced : {lab : ℕ} {t : Bool} → lab ≡ field ws x 0 → t ≡ place-from w l h u q lab i e f .ok → not t ≡ true → false ≡ walk-whole
-      unfolding tag-passes shape-with placed place-from
-      walk-misplaced a b r = simp (← a, sym b ∙ not-true _ r, and-false) at walk-turn
+      pub walk-more : (q : code.State) (e′ f′ : List ℕ) → not t ≡ false → levels-of e′ f′ ≡ levels-at ws w l h n u v e f → Behind ws (getD w 0 0) v q → walk-at q e′ f′ ≡ walk-whole
+      walk-more q e′ f′ r c b = rw (passed-by ws w l h n u v q e f e′ f′ c b, b .place) (rw (not-false t r) at walk-turn)
 
-      pub walk-unfit : {t : Bool} → t ≡ fits-at ws n o x p → not t ≡ true → false ≡ walk-whole
-      unfolding tag-passes shape-with fits-at
-      walk-unfit b r = simp (sym b ∙ not-true _ r, and-false) at walk-turn
+  -- THE SIZES
+  turn-by : (ns sz : List ℕ) (k : ℕ) (v : code.State) (e f : List ℕ) →
+      walk-sizes ws (shape-with w l h u n) ns (suc k) (v .place) (state-with v e f) sz
+      ≡ walk-sizes ws (shape-with w l h u n) ns k (suc (v .place)) (passed ws (shape-with w l h u n) (v .place) (state-with v e f)) (place-sizes w ns u (v .expect) (field ws (v .tag .0) 0) (v .place) (levels-of e f) sz)
+  unfolding walk-sizes shape-with tables-of state-with
+  turn-by ns sz k v e f = refl
 
-      pub walk-more : (e′ f′ : List ℕ) (m′ o′ y lab : ℕ) {t s : Bool} → x < n → lab ≡ field ws x 0 → t ≡ place-from w l h u q lab i e f .ok → not t ≡ false → levels-of e′ f′ ≡ place-from w l h u q lab i e f .levels → s ≡ fits-at ws n o x p → not s ≡ false → m′ ≡ marks-at ws x m → o′ ≡ open-after ws o x (field ws x 5) → y ≡ field ws x 1 → walk-at (i + 1) (state-of e′ f′ y x o′ m′ (lab + getD w 0 0)) ≡ walk-whole
-      unfolding tag-passes passed shape-with tables-of placed place-from fits-at marks-at
-      walk-more e′ f′ m′ o′ y lab below a b r c d g j k z =
-          rw (lt-ltb x n below, ← a, sym b ∙ not-false _ r, sym d ∙ not-false _ g, ← c, ← j, ← k, ← z) at walk-turn
+  module _ (ns sz : List ℕ) where
+    pub sizes-start : sizes-at-tag ns first-state w (replicate 24 0) sz ≡ sizes-whole ns sz
+    unfolding state-with start-with
+    sizes-start = rw (sub-zero n)
+
+    module _ (v : code.State) (e f : List ℕ) {whole : List ℕ} (inv : sizes-at-tag ns v e f sz ≡ whole) where
+      pub sizes-end : {sz′ : List ℕ} → n ≤ v .place → sz′ ≡ close-sizes w ns u 1 n (levels-of e f) sz → sz′ ≡ whole
+      unfolding walk-sizes shape-with tables-of state-with
+      sizes-end r s = let z : n - v .place ≡ 0 = omega arith in s ∙ (rw z at inv)
+
+      pub sizes-more : (q : code.State) (e′ f′ : List ℕ) {sz′ : List ℕ} → v .place < n → levels-of e′ f′ ≡ levels-at ws w l h n u v e f → Behind ws (getD w 0 0) v q →
+          sz′ ≡ place-sizes w ns u (v .expect) (field ws (v .tag .0) 0) (v .place) (levels-of e f) sz → sizes-at-tag ns q e′ f′ sz′ ≡ whole
+      sizes-more q e′ f′ more c b s =
+          let z : n - v .place ≡ suc (n - (v .place + 1)) = omega arith in
+          rw (passed-by ws w l h n u v q e f e′ f′ c b, s, b .place) (rw (z, turn-by, ← add-one (v .place)) at inv)
 
 -- WHAT A TURN KEEPS
 at-most-one : (t : Bool) → cond t 1 0 ≤ 1
 at-most-one true = omega arith
 at-most-one false = omega arith
 
-pub marks-kept : (ws : List ℕ) (x m i : ℕ) {m′ : ℕ} → m′ ≡ marks-at ws x m → m ≤ i → m′ ≤ i + 1
+pub marks-kept : (ws : List ℕ) (width : ℕ) {v q : code.State} → Behind ws width v q → v .marks ≤ v .place → q .marks ≤ q .place
 unfolding marks-at
-marks-kept ws x m i e p = rw e (omega (arith, at-most-one (leb 16 (field ws x 5))))
+marks-kept ws width {v} b p = rw (b .marks, b .place) (omega (arith, at-most-one (leb 16 (field ws (v .tag .0) 5))))
 
 last-test : (a b c : Bool) → cond a false (cond b c false) ≡ true → c ≡ true
 last-test true b c e = absurd (false≢true e)
@@ -123,7 +183,20 @@ module _ (ws : List ℕ) (n o x : ℕ) where
       (λ no-begin. rw (ne-eqb (c % 16) 3 no-text, ne-eqb (c % 16) 1 no-begin)
       (end-kept c (last-test (leb 32 c) (eqb (c % 16) 2) (end-fits ws n o x c) (rw (ne-eqb (c % 16) 3 no-text, ne-eqb (c % 16) 1 no-begin) at e)))))
 
-  pub open-kept : (prior o′ : ℕ) {t : Bool} → t ≡ fits-at ws n o x prior → not t ≡ false → o′ ≡ open-after ws o x (field ws x 5) → x < n → ((o ≡ no-tag → ⊥) → o < n) → (o′ ≡ no-tag → ⊥) → o′ < n
-  unfolding fits-at
-  open-kept prior o′ e r d p q =
-      let fits = simp and-eq-true-iff at (sym e ∙ not-false _ r) in rw d (open-fits (field ws x 5) p q (fits .1))
+-- what a tag that passes says of its number and its kind
+module _ (ws w l h : List ℕ) (n u : ℕ) (v : code.State) (e f : List ℕ) {t : Bool} (one : t ≡ tag-at ws w l h n u v e f) (passes : not t ≡ false) where
+  tag-tests : (v .tag .0 < n) × (kind-fits ws n (v .parent .0) (v .tag .0) (field ws (v .tag .0) 5) ≡ true)
+  unfolding tag-passes shape-with state-with
+  tag-tests =
+      let all = simp and-eq-true-iff at (sym one ∙ not-false _ passes) in (ltb-true (v .tag .0) n (all .0 .0), all .1 .1)
+
+  -- so the state behind it can be made
+  pub passed-fits : {ns : List ℕ} → Pass-fits ws n u w l h ns → ((v .parent .0 ≡ no-tag → ⊥) → v .parent .0 < n) → v .marks ≤ v .place → v .place < n →
+      (Reads ws n (v .tag .0) (v .parent .0) × (kind-fits ws n (v .parent .0) (v .tag .0) (field ws (v .tag .0) 5) ≡ true))
+      × ((field ws (v .tag .0) 5 < 32) × (v .place < 4000000000) × (v .marks < 4000000000) × (getD w 0 0 ≤ entry-limit))
+  passed-fits a o few more =
+      let kind = tag-tests .1 in
+      ((record { around = open-reads a o; below = tag-tests .0 }, kind), (fits-small _ _ _ _ _ kind, omega (arith, a .few), omega (arith, a .few), a .levels .widths 0))
+
+  pub open-kept : (width : ℕ) {q : code.State} → Behind ws width v q → ((v .parent .0 ≡ no-tag → ⊥) → v .parent .0 < n) → (q .parent .0 ≡ no-tag → ⊥) → q .parent .0 < n
+  open-kept width b o = rw (b .parent) (open-fits ws n (v .parent .0) (v .tag .0) (field ws (v .tag .0) 5) (tag-tests .0) o (tag-tests .1))

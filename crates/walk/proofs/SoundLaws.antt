@@ -4,21 +4,26 @@ use mathlib.Core.Path.{_≡_, sym, _∙_}
 use mathlib.Core.Bool.{Bool, true, false, _&&_, not, and-assoc, and-false, and-eq-true-iff}
 use mathlib.Core.Logic.{by-cases}
 use mathlib.Core.List.{List}
-use Prim.Native.Nat.{ℕ, pred, _+_, _*_, _-_, _^_, _≤_}
-use native.Mathlib.Nat.{one-mul, mul-le-mul, mul-le-mul-right, pow-le-pow-left, pow-le-pow-right}
+use Prim.Native.Nat.{ℕ, pred, _+_, _*_, _-_, _^_, _≤_, _<_}
+use native.Mathlib.Nat.{one-le-pow, one-mul, mul-le-mul, mul-le-mul-right, pow-le-pow-left, pow-le-pow-right}
 use native.Mathlib.Numerals.{sub-one}
 use native.Mathlib.Decide.{decLe}
 use native.Mathlib.Omega.{arith}
 use borrow.Author.Tests.{leb-true, not-true, not-false}
-use lib.ListN.{length, getD}
+use lib.ListN.{length, getD, replicate}
+use Rattle.store_types.specs.Limits.{word-limit}
 use Rattle.tree.specs.Book.{base, power-width}
 use Rattle.calls.specs.Sound.{degrees-fit}
 use Rattle.calls.specs.Load.{words-for}
 use Rattle.calls.specs.Words.{word-at}
 use Rattle.walk_model.specs.Walk.{table, shape-of, start, walk, header-passes, words-pass}
-use Rattle.walk.specs.Needs.{entry-limit, Table-fits, Root-fits, Pass-fits, tables-of, levels-of, shape-with, start-with, power-fits, frame-passes, root-passes}
-use Rattle.walk.proofs.TableLaws.{table-at, table-bound}
-use Rattle.walk.proofs.HeaderLaws.{degrees-product}
+use Rattle.walk_model.specs.Watch.{ancestor-numbers, watched-label, watched-numbers, walk-sizes, sizes-at}
+use Rattle.walk_levels.specs.Needs.{entry-limit, Table-fits, Ancestors-fit, tables-of, levels-of}
+use Rattle.walk_header.specs.Needs.{Root-fits, power-fits, frame-passes, root-passes}
+use Rattle.walk.specs.Needs.{Pass-fits, shape-with, start-with}
+use Rattle.walk_levels.proofs.TableLaws.{table-at, table-bound}
+use Rattle.walk_header.proofs.HeaderLaws.{degrees-product}
+use Rattle.walk_levels.proofs.AncestorNumbers.{numbers-fit}
 
 module _ (ws : List ℕ) where
   -- the numbers of the header
@@ -91,15 +96,23 @@ module _ (ws : List ℕ) (a : Frame ws) where
 entries-fit : {v b top : ℕ} → Table-fits v b top → {t : List ℕ} → t ≡ table v b top → (k : ℕ) → getD t k 0 ≤ entry-limit
 entries-fit {v} {b} {top} a e k = rw e (omega (arith, a .last, table-bound v b top (a .grows) k))
 
+pub ancestors-fit : (ws : List ℕ) → Frame ws → {w : List ℕ} → w ≡ table 1 (s-of ws * r-of ws - 1) (h-of ws) → Ancestors-fit (h-of ws - 1) w
+ancestors-fit ws a e =
+    record {
+      height = omega (arith, high ws a);
+      widths = λ k p q. rw (e, table-at 1 (s-of ws * r-of ws - 1) (h-of ws) k (omega arith), one-mul) (one-le-pow k (s-of ws * r-of ws - 1) (omega (arith, f-range ws a)));
+    }
+
 module _ (ws lo : List ℕ) (a : Frame ws) (of-lo : lo ≡ table 1 (r-of ws) (h-of ws)) where
   pub root-fits : Root-fits (h-of ws) lo
   root-fits = record { low = a .low; high = omega (arith, high ws a); lows = entries-fit (lows-fit ws a) of-lo }
 
-  pub pass-fits : {w hi : List ℕ} → w ≡ table 1 (s-of ws * r-of ws - 1) (h-of ws) → hi ≡ table (s-of ws) (r-of ws) (h-of ws) → Pass-fits ws (n-of ws) (h-of ws - 1) w lo hi
-  pass-fits of-w of-hi =
+  pub pass-fits : {w hi ns : List ℕ} {l : ℕ} → w ≡ table 1 (s-of ws * r-of ws - 1) (h-of ws) → hi ≡ table (s-of ws) (r-of ws) (h-of ws) → ns ≡ ancestor-numbers w (h-of ws - 1) l 0 (replicate 24 0) → l < word-limit → Pass-fits ws (n-of ws) (h-of ws - 1) w lo hi ns
+  pass-fits {w} of-w of-hi of-ns fits =
       record {
         few = a .few;
         long = a .long;
+        numbers = numbers-fit w (h-of ws - 1) of-ns fits;
         levels = record {
           height = omega (arith, high ws a);
           widths = entries-fit (widths-fit ws a) of-w;
@@ -132,3 +145,10 @@ module _ (ws : List ℕ) where
       pub pass-decides : {w : List ℕ} {q r : Bool} → w ≡ table 1 (s-of ws * r-of ws - 1) (h-of ws) → q ≡ frame-passes ws → not q ≡ false → r ≡ root-passes (n-of ws) (h-of ws) lo hi → not r ≡ false → t ≡ walk ws (shape-with w lo hi (h-of ws - 1) (n-of ws)) (n-of ws) 0 (start-with ws w) → t ≡ words-pass ws
       unfolding words-pass shape-of start shape-with start-with tables-of levels-of
       pass-decides of-w a b c d e = rw (header-split, sym a ∙ not-false _ b, ← of-lo, ← of-hi, ← of-w, sym c ∙ not-false _ d, ← sub-one (h-of ws)) e
+
+-- THE SIZES where they pass: l is the label at the place, and ns are the numbers of its ancestors
+module _ (ws lo hi w : List ℕ) (of-lo : lo ≡ table 1 (r-of ws) (h-of ws)) (of-hi : hi ≡ table (s-of ws) (r-of ws) (h-of ws)) (of-w : w ≡ table 1 (s-of ws * r-of ws - 1) (h-of ws)) where
+  pub sizes-taken : (y l : ℕ) (ns sz : List ℕ) {sz′ : List ℕ} → l ≡ watched-label ws y → ns ≡ ancestor-numbers w (h-of ws - 1) l 0 (replicate 24 0) →
+      sz′ ≡ walk-sizes ws (shape-with w lo hi (h-of ws - 1) (n-of ws)) ns (n-of ws) 0 (start-with ws w) sz → sz′ ≡ sizes-at ws y sz
+  unfolding sizes-at watched-numbers shape-of start shape-with start-with tables-of levels-of
+  sizes-taken y l ns sz label numbers e = rw (← label, ← of-lo, ← of-hi, ← of-w, ← sub-one (h-of ws), ← numbers) e

@@ -11,3 +11,6 @@ pub mod Rebuilt
 pub mod Found
 pub mod WalkRight
 pub mod Decides
+pub mod Numbers
+pub mod Aligned
+pub mod Sizes

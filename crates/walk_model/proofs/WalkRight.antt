@@ -68,7 +68,7 @@ passed-said levels ws number e =
 
 -- WORDS THAT SAY A STORE pass
 module _ (ws : List ℕ) (st : Store) (h : Says ws st) where
-  given : Sound st
+  pub given : Sound st
   unfolding Says
   given = facts-of st (h .0)
 
@@ -99,14 +99,14 @@ module _ (ws : List ℕ) (st : Store) (h : Says ws st) where
         least = rw (← given .as-many) (and-right below least root);
       }
 
-  good : Good (st .book .s) (st .book .r) (st .book .root) (st .book .under)
+  pub good : Good (st .book .s) (st .book .r) (st .book .root) (st .book .under)
   unfolding book-within
   good =
       let k = st .book in
       let nodes = within-limits (k .root) (k .s) (k .r) (k .under) in
       good-of (k .s) (k .r) (k .root) (k .under) (and-right (root-within k) nodes (given .within))
 
-  row-walked : Levels-right → Walked ws (shape-of ws) 0 (start ws) (row st)
+  pub row-walked : Levels-right → Walked ws (shape-of ws) 0 (start ws) (row st)
   unfolding shape-of start start-levels
   row-walked levels =
       let (once, below) = distinct-all-below (count st) (row st) (given .each) (given .as-many) in

@@ -1,3 +1,4 @@
 pub mod Levels
 pub mod Walk
+pub mod Watch
 pub mod Promise

@@ -5,7 +5,7 @@ use borrow.Author.Tests.{lt-ltb, le-ltb, not-true, not-false}
 use lib.Dec.{leb}
 use Rattle.calls.specs.Sound.{degrees-fit}
 use Rattle.calls.specs.Load.{words-for}
-use Rattle.walk.specs.Needs.{degree-fits}
+use Rattle.walk_header.specs.Needs.{degree-fits}
 use Rattle.load_refuse.specs.Refusals.{refusal-before}
 use borrow.Author.Needs.{needs}
 use Rattle.load_refuse.proofs.refused.Statement.{statement}

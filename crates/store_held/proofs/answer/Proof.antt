@@ -12,7 +12,7 @@ use Rattle.calls.specs.Held.{current}
 use Rattle.calls.specs.Replies.{said, question-reply}
 use Rattle.store_held.proofs.answer.Statement.{statement}
 use Rattle.store_held.proofs.answer.Tie as tie
-use Rattle.store_read.proofs.Laws.{room}
+use Rattle.store_refuse.proofs.Laws.{room}
 use Rattle.store_held.proofs.Pairs.{outdated, other-marked, tells}
 
 -- the pair is current; what its labels tell

@@ -3,7 +3,7 @@ use mathlib.Core.Path.{_∙_}
 use native.Mathlib.Omega.{arith}
 use Rattle.store_held.proofs.end_label.Statement.{statement}
 use Rattle.store_held.proofs.end_label.Tie as tie
-use Rattle.store_read.proofs.Laws.{room, words-of-tag, mate-of-tag}
+use Rattle.store_refuse.proofs.Laws.{room, words-of-tag, mate-of-tag}
 
 mate-of-requires : tie.Need-mate-of-requires
 mate-of-requires c κs = room (c .before .pre) 3 (omega arith)

@@ -6,7 +6,7 @@ use Rattle.calls.specs.Mark.{section-refusal}
 use Rattle.calls.specs.Replies.{refusal-over}
 use Rattle.store_held.proofs.hold.Statement.{statement}
 use Rattle.store_held.proofs.hold.Tie as tie
-use Rattle.store_read.proofs.Laws.{room, header-room}
+use Rattle.store_refuse.proofs.Laws.{room, header-room}
 use Rattle.store_held.proofs.Pairs.{section-tag, hold-refused, hold-held}
 
 accepted : (c : tie.Else1) → let a = c .before .before .before .args in refusal-over (a .words .now) (section-refusal (a .tag .0)) ≡ 0

@@ -3,7 +3,7 @@ use mathlib.Core.Path.{sym, _∙_}
 use native.Mathlib.Omega.{arith}
 use Rattle.store_held.proofs.is_current.Statement.{statement}
 use Rattle.store_held.proofs.is_current.Tie as tie
-use Rattle.store_read.proofs.Laws.{room}
+use Rattle.store_refuse.proofs.Laws.{room}
 use Rattle.store_held.proofs.Pairs.{start-moved, end-moved, unmoved}
 
 label-of-requires : tie.Need-label-of-requires

@@ -6,10 +6,10 @@ use mathlib.Core.Logic.{⊎-elim, inl, inr}
 use native.Mathlib.Omega.{arith}
 use Rattle.calls.specs.Words.{Says}
 use Rattle.calls.specs.Replies.{said}
-use Rattle.store_read.specs.Needs.{Tag-said}
+use Rattle.store_refuse.specs.Needs.{Tag-said}
 use Rattle.store_held.proofs.question.Statement.{statement}
 use Rattle.store_held.proofs.question.Tie as tie
-use Rattle.store_read.proofs.Laws.{accepted-says, header-room, tag-below, room}
+use Rattle.store_refuse.proofs.Laws.{accepted-says, header-room, tag-below, room}
 use Rattle.store_held.proofs.Pairs.{question-refused, other-book, no-such-tag, not-begin, pair-asked}
 
 -- the words say a store; the pair's tag and the other are tags of it

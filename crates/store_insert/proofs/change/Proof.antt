@@ -4,7 +4,7 @@ use Prim.Native.Nat.{_+_, _*_, _≤_}
 use native.Mathlib.Omega.{arith}
 use lib.ListN.{length}
 use Rattle.calls.specs.Words.{word-at}
-use Rattle.store_insert.proofs.Headers.{Ranges, ranges, room, widths-fit, lows-fit, highs-fit}
+use Rattle.insert_refuse.proofs.Headers.{Ranges, ranges, room, widths-fit, lows-fit, highs-fit}
 use Rattle.store_insert.proofs.Accepted.{says-accepted, place-accepted, plan-accepted}
 use Rattle.store_insert.proofs.Changes.{text-ready, element-ready, text-changes, element-changes}
 use Rattle.store_insert.proofs.change.Statement.{statement}
@@ -12,10 +12,10 @@ use Rattle.store_insert.proofs.change.Tie as tie
 
 -- the header of accepted words
 fits : (c : tie.Start) → Ranges (word-at (c .args .words .now) 1) (word-at (c .args .words .now) 2) (word-at (c .args .words .now) 3) (word-at (c .args .words .now) 4)
-fits c = ranges _ (says-accepted _ _ _ (c .pre))
+fits c = ranges _ (says-accepted _ _ _ (c .pre .0))
 
 long : (c : tie.Start) → 8 + 6 * word-at (c .args .words .now) 4 ≤ length (c .args .words .now)
-long c = room _ (says-accepted _ _ _ (c .pre))
+long c = room _ (says-accepted _ _ _ (c .pre .0))
 
 slice-read-s : tie.Need-slice-read-s
 slice-read-s c = omega (arith, long (c .before .before))
@@ -54,58 +54,46 @@ table-requires-3 : tie.Need-table-requires-3
 table-requires-3 c κs = highs-fit (fits (c .before .before .before .before .before .before .before))
 
 up-at-requires : tie.Need-up-at-requires
-up-at-requires c κs = place-accepted _ _ _ (c .before .before .before .before .before .before .before .before .before .pre)
+up-at-requires c κs = place-accepted _ _ _ (c .before .before .before .before .before .before .before .before .before .pre .0)
 
 sub-plan-at : tie.Need-sub-plan-at
-sub-plan-at c = omega (arith, fits (c .before .before .before .before .before .before .before .before .before .before .before))
+sub-plan-at c =
+    omega (arith, fits (c .before .before .before .before .before .before .before .before .before .before .before))
 
 plan-at-requires : tie.Need-plan-at-requires
 plan-at-requires c κs =
-    let first = c .before .before .before .before .before .before .before in
-    plan-accepted _ _ _ (first .before .before .before .before .before .before .pre) (first .table .ensures)
+    plan-accepted _ _ _ (c .before .before .before .before .before .before .before .before .before .before .before .before .before .pre .0) (c .before .before .before .before .before .before .before .table .ensures)
 
 insert-text-requires : tie.Need-insert-text-requires
 insert-text-requires c κs =
-    let planned = c .before .before .before .before in
-    let up = planned .before .before .before .before in
-    let highs = up .before .before in
-    let first = highs .before .before in
-    text-ready _ _ _ (first .before .before .before .before .before .before .pre) (up .up-at .ensures) (first .table .ensures) (highs .before .table2 .ensures) (highs .table3 .ensures) (c .before .before .before .if1 .taken) (planned .plan-at .ensures)
+    text-ready _ _ _ (c .before .before .before .before .before .before .before .before .before .before .before .before .before .before .before .before .before .before .pre .0) (c .before .before .before .before .before .before .before .before .up-at .ensures) (c .before .before .before .before .before .before .before .before .before .before .before .before .table .ensures) (c .before .before .before .before .before .before .before .before .before .before .before .table2 .ensures) (c .before .before .before .before .before .before .before .before .before .before .table3 .ensures) (c .before .before .before .before .before .before .before .before .before .before .before .before .before .before .before .before .before .before .pre .1) (c .before .before .before .if1 .taken) (c .before .before .before .before .plan-at .ensures)
 
 same-length : tie.Need-same-length
 same-length c = search needs
 
 returns : tie.Need-returns
 returns c =
-    let done = c .before .before in
-    text-changes _ _ _ (done .before .before .before .before .if1 .taken) (done .insert-text .ensures)
+    text-changes _ _ _ (c .before .before .before .before .before .before .if1 .taken) (c .before .before .insert-text .ensures)
 
 sub-plan-at-2 : tie.Need-sub-plan-at-2
-sub-plan-at-2 c = omega (arith, fits (c .before .before .before .before .before .before .before .before .before .before .before .before .before .before .before .before))
+sub-plan-at-2 c =
+    omega (arith, fits (c .before .before .before .before .before .before .before .before .before .before .before .before .before .before .before .before))
 
 plan-at-requires-2 : tie.Need-plan-at-requires-2
 plan-at-requires-2 c κs =
-    let first = c .before .before .before .before .before .before .before .before .before .before .before .before in
-    plan-accepted _ _ _ (first .before .before .before .before .before .before .pre) (first .table .ensures)
+    plan-accepted _ _ _ (c .before .before .before .before .before .before .before .before .before .before .before .before .before .before .before .before .before .before .pre .0) (c .before .before .before .before .before .before .before .before .before .before .before .before .table .ensures)
 
 insert-element-requires : tie.Need-insert-element-requires
 insert-element-requires c κs =
-    let second = c .before .before .before in
-    let test = second .before .before .before .before in
-    let planned = test .before in
-    let up = planned .before .before .before .before in
-    let highs = up .before .before in
-    let first = highs .before .before in
-    let ready = element-ready _ _ _ (first .before .before .before .before .before .before .pre) (up .up-at .ensures) (first .table .ensures) (highs .before .table2 .ensures) (highs .table3 .ensures) (test .if1 .left) in
-    (ready 1 _ (planned .plan-at .ensures), ready 2 _ (second .plan-at2 .ensures))
+    let ready = element-ready _ _ _ (c .before .before .before .before .before .before .before .before .before .before .before .before .before .before .before .before .before .before .before .before .before .before .pre .0) (c .before .before .before .before .before .before .before .before .before .before .before .before .up-at .ensures) (c .before .before .before .before .before .before .before .before .before .before .before .before .before .before .before .before .table .ensures) (c .before .before .before .before .before .before .before .before .before .before .before .before .before .before .before .table2 .ensures) (c .before .before .before .before .before .before .before .before .before .before .before .before .before .before .table3 .ensures) (c .before .before .before .before .before .before .before .before .before .before .before .before .before .before .before .before .before .before .before .before .before .before .pre .1) (c .before .before .before .before .before .before .before .if1 .left) in
+    (ready 1 _ (c .before .before .before .before .before .before .before .before .plan-at .ensures), ready 2 _ (c .before .before .before .plan-at2 .ensures))
 
 same-length-2 : tie.Need-same-length-2
 same-length-2 c = search needs
 
 returns-2 : tie.Need-returns-2
 returns-2 c =
-    let done = c .before .before in
-    element-changes _ _ _ (done .before .before .before .before .before .before .before .before .if1 .left) (done .insert-element .ensures)
+    element-changes _ _ _ (c .before .before .before .before .before .before .before .before .before .before .if1 .left) (c .before .before .insert-element .ensures)
 
 pub change-spec : {M : Type 1} → statement M
 change-spec =

@@ -1,6 +1,6 @@
 -- `store_insert::insert_element` meets its contract. Assumes nothing.
 use borrow.Author.Needs.{needs}
-use Rattle.store_insert.specs.Parts.{plan-record}
+use Rattle.insert_plan.specs.Parts.{plan-record}
 use Rattle.store_insert.proofs.Changes.{second-higher, both-is, turn-is}
 use Rattle.store_insert.proofs.insert_element.Statement.{statement}
 use Rattle.store_insert.proofs.insert_element.Tie as tie

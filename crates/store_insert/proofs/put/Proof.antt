@@ -1,7 +1,7 @@
 -- `store_insert::put` meets its contract. Assumes nothing.
 use borrow.Author.Needs.{needs}
 use native.Mathlib.Omega.{arith}
-use Rattle.store_insert.specs.Parts.{plan-record}
+use Rattle.insert_plan.specs.Parts.{plan-record}
 use Rattle.store_insert.proofs.Keeps.{applied-header}
 use Rattle.store_insert.proofs.Edits.{put-edits}
 use Rattle.store_insert.proofs.put.Statement.{statement}

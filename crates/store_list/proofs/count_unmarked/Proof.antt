@@ -2,7 +2,7 @@
 use native.Mathlib.Omega.{arith}
 use Rattle.store_list.proofs.count_unmarked.Statement.{statement}
 use Rattle.store_list.proofs.count_unmarked.Tie as tie
-use Rattle.store_read.proofs.Laws.{room}
+use Rattle.store_refuse.proofs.Laws.{room}
 use Rattle.store_list.proofs.Along.{one-marked, one-unmarked}
 
 kind-of-requires : tie.Need-kind-of-requires

@@ -4,7 +4,7 @@ use mathlib.Core.Path.{sym, _∙_}
 use native.Mathlib.Omega.{arith}
 use Rattle.store_list.proofs.first_inside.Statement.{statement}
 use Rattle.store_list.proofs.first_inside.Tie as tie
-use Rattle.store_read.proofs.Laws.{accepted-says, header-room, room}
+use Rattle.store_refuse.proofs.Laws.{accepted-says, header-room, room}
 use Rattle.store_list.proofs.Listed.{begin-tag, first-front, first-behind}
 
 is-none-requires : tie.Need-is-none-requires

@@ -8,10 +8,10 @@ use lib.Dec.{eqb}
 use Rattle.store_types.specs.Limits.{no-tag}
 use Rattle.calls.specs.Words.{Says}
 use Rattle.calls.specs.Replies.{said}
-use Rattle.store_read.specs.Needs.{Tag-said}
+use Rattle.store_refuse.specs.Needs.{Tag-said}
 use Rattle.store_list.proofs.inside_refused.Statement.{statement}
 use Rattle.store_list.proofs.inside_refused.Tie as tie
-use Rattle.store_read.proofs.Laws.{accepted-says, words-first, header-room, tag-below, room}
+use Rattle.store_refuse.proofs.Laws.{accepted-says, words-first, header-room, tag-below, room}
 use Rattle.store_list.proofs.ListRefusals.{inside-front, inside-unknown, inside-marked, inside-no-begin, inside-accepted}
 
 -- the words say a store; the section is not the front, and a tag of it

@@ -4,7 +4,7 @@ use mathlib.Core.Path.{sym, _∙_}
 use native.Mathlib.Omega.{arith}
 use Rattle.store_list.proofs.stop_of.Statement.{statement}
 use Rattle.store_list.proofs.stop_of.Tie as tie
-use Rattle.store_read.proofs.Laws.{room}
+use Rattle.store_refuse.proofs.Laws.{room}
 use Rattle.store_list.proofs.Listed.{begin-tag, stop-behind, stop-mate}
 
 is-none-requires : tie.Need-is-none-requires

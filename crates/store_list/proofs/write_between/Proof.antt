@@ -6,7 +6,7 @@ use Rattle.calls.specs.Store.{place-of}
 use Rattle.calls.specs.Replies.{said}
 use Rattle.store_list.proofs.write_between.Statement.{statement}
 use Rattle.store_list.proofs.write_between.Tie as tie
-use Rattle.store_read.proofs.Laws.{room}
+use Rattle.store_refuse.proofs.Laws.{room}
 use Rattle.store_list.proofs.Along.{tag-on}
 use Rattle.store_list.proofs.Passes.{pass-falls, Writing, writing-start, tags-room, labels-room, writing-turn, tags-end, labels-end}
 

@@ -8,7 +8,7 @@ use Rattle.calls.specs.Replies.{said}
 use Rattle.store_list.specs.Needs.{unmarked}
 use Rattle.store_list.proofs.write_unmarked.Statement.{statement}
 use Rattle.store_list.proofs.write_unmarked.Tie as tie
-use Rattle.store_read.proofs.Laws.{room, words-of-tag}
+use Rattle.store_refuse.proofs.Laws.{room, words-of-tag}
 use Rattle.store_list.proofs.Along.{one-marked, one-unmarked}
 
 -- the tag is listed

@@ -1,5 +1,7 @@
 -- `walk::ends_well` meets its contract. Assumes nothing.
 use borrow.Author.Needs.{needs}
+use borrow.Author.Tests.{not-false}
+use Rattle.walk_levels.proofs.SizeLaws.{never}
 use Rattle.walk.proofs.PassLaws.{ends-next, ends-open, ends-node, ends-stamp}
 use Rattle.walk.proofs.ends_well.Statement.{statement}
 use Rattle.walk.proofs.ends_well.Tie as tie
@@ -8,19 +10,19 @@ is-none-requires : tie.Need-is-none-requires
 is-none-requires c κs = search needs
 
 returns : tie.Need-returns
-returns c = ends-next _ _ _ _ _ _ _ _ _ (c .before .is-none .ensures) (c .if1 .taken)
+returns c = (ends-next _ _ _ _ _ _ _ _ _ (c .before .is-none .ensures) (c .if1 .taken), never)
 
 is-none-requires-2 : tie.Need-is-none-requires-2
 is-none-requires-2 c κs = search needs
 
 returns-2 : tie.Need-returns-2
-returns-2 c = ends-open _ _ _ _ _ _ _ _ _ (c .before .is-none2 .ensures) (c .if2 .taken)
+returns-2 c = (ends-open _ _ _ _ _ _ _ _ _ (c .before .is-none2 .ensures) (c .if2 .taken), never)
 
 all-close-requires : tie.Need-all-close-requires
 all-close-requires c κs = search needs
 
 returns-3 : tie.Need-returns-3
-returns-3 c = ends-node _ _ _ _ _ _ _ _ _ (c .before .all-close .ensures) (c .if3 .taken)
+returns-3 c = (ends-node _ _ _ _ _ _ _ _ _ (c .before .all-close .ensures .0) (c .if3 .taken), never)
 
 shared-slice-read-result : tie.Need-shared-slice-read-result
 shared-slice-read-result c = search needs
@@ -29,9 +31,10 @@ add-result : tie.Need-add-result
 add-result c = search needs
 
 returns-4 : tie.Need-returns-4
-returns-4 c =
-    let a = c .before .before in
-    ends-stamp _ _ _ _ _ _ _ _ _ (a .before .before .before .before .is-none .ensures) (a .before .before .before .if1 .left) (a .before .before .is-none2 .ensures) (a .before .if2 .left) (a .all-close .ensures) (c .before .if3 .left)
+returns-4 c = (
+  ends-stamp _ _ _ _ _ _ _ _ _ (c .before .before .before .before .before .before .before .before .is-none .ensures) (c .before .before .before .before .before .before .before .if1 .left) (c .before .before .before .before .before .before .is-none2 .ensures) (c .before .before .before .before .before .if2 .left) (c .before .before .before .all-close .ensures .0) (c .before .before .if3 .left),
+  λ _. c .before .before .before .all-close .ensures .1 (not-false _ (c .before .before .if3 .left)),
+)
 
 pub ends-well-spec : {M : Type 1} → statement M
 ends-well-spec =

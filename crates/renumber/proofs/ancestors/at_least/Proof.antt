@@ -1,7 +1,7 @@
 -- `renumber::ancestors::at_least` meets its contract. Assumes nothing.
 use lib.Dec.{ltb}
 use Rattle.calls.specs.Words.{field}
-use Rattle.renumber.proofs.Spans.{inside-least, outside}
+use Rattle.renumber.proofs.Splits.{inside, outside}
 use borrow.Author.Needs.{needs}
 use Rattle.renumber.proofs.ancestors.at_least.Statement.{statement}
 use Rattle.renumber.proofs.ancestors.at_least.Tie as tie
@@ -15,7 +15,7 @@ cast-result c = search needs
 returns : tie.Need-returns
 returns c =
     let args = c .before .before .before .before .before .args in
-    rw (c .before .label-of .ensures) (inside-least (args .n) (args .x .0) (field (args .words .now) (args .x .0) 0) (args .low) (c .before .before .if1 .taken))
+    rw (c .before .label-of .ensures) (inside (args .n) (args .x .0) (field (args .words .now) (args .x .0) 0) (args .low) (c .before .before .if1 .taken))
 
 returns-2 : tie.Need-returns-2
 returns-2 c =

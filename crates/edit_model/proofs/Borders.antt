@@ -1,0 +1,86 @@
+-- Walking left from a place along the row of a sound store, down to a label: it ends left of an ancestor of that place.
+-- Assumes nothing.
+use mathlib.Core.Path.{_≡_, _∙_}
+use mathlib.Core.Bool.{true, _||_, or-true}
+use mathlib.Core.List.{List, _++_}
+use Prim.Native.Nat.{ℕ, zero, suc, _+_, _-_, _≤_, _<_}
+use native.Mathlib.Omega.{arith}
+use borrow.Author.Tests.{lt-ltb, le-ltb, le-leb, lt-leb, eqb-true, eqb-false}
+use lib.Dec.{leb, ltb, eqb}
+use lib.ListN.{length, getD, List·getD-append}
+use Rattle.store_types.specs.Limits.{no-tag}
+use Rattle.tree.specs.Forest.{Forest, size, labels}
+use Rattle.tree.specs.Reach.{left-in}
+use Rattle.tree.specs.Promise.{Widths}
+use Rattle.tree_laws.proofs.Good.{Good}
+use Rattle.tree_laws.proofs.Rows.{by-test}
+use Rattle.tree_laws.proofs.Labels.{length-labels, rising-from, rising-below, node-rising}
+use Rattle.tree_laws.proofs.Ancestors.{number-in, getD-middle, Found, found}
+use Rattle.calls.specs.Words.{field}
+use Rattle.edit_model.specs.Image.{Image, image-words}
+use Rattle.edit_model.specs.Split.{left-of}
+use Rattle.edit_model.proofs.Image.{Proper, tag-below}
+use Rattle.edit_model.proofs.Along.{label-at, prior-at}
+use Rattle.edit_model.proofs.Added.{tag-before}
+
+-- the equations of the walk: it stops at no tag or at a lower label, and else goes on
+module _ (k n : ℕ) (ws : List ℕ) (low x : ℕ) where
+  left-stops : (leb n x || ltb (field ws x 0) low) ≡ true → left-of (suc k) n ws low x ≡ x
+  unfolding left-of
+  left-stops e = rw e
+
+  left-goes : x < n → low ≤ field ws x 0 → left-of (suc k) n ws low x ≡ left-of k n ws low (field ws x 2)
+  unfolding left-of
+  left-goes tag inside = rw (lt-leb n x tag, le-ltb (field ws x 0) low inside)
+
+-- ALONG THE ROW OF AN IMAGE, from the place behind its first i tags down to the least place with labels of at least low
+-- from there up to i
+module _ {v : Image} (h : Proper v) (few : length (v .facts) ≤ no-tag) (rest : List ℕ) where
+  pub left-along : (low k i to : ℕ) → i ≤ k → i ≤ length (v .tags) → to ≤ i → ((q : ℕ) → to ≤ q → q < i → low ≤ getD (v .labels) q 0) →
+      ((q : ℕ) → to ≡ suc q → getD (v .labels) q 0 < low) → left-of k (length (v .facts)) (image-words v ++ rest) low (tag-before v i) ≡ tag-before v to
+  unfolding left-of
+  left-along low zero i to steps fits order inside outside = let e : i ≡ to = omega arith in rw e
+  left-along low (suc k) zero to steps fits order inside outside =
+      let e : to ≡ 0 = omega arith in
+      left-stops k (length (v .facts)) (image-words v ++ rest) low no-tag (rw (le-leb (length (v .facts)) no-tag few)) ∙ rw e
+  left-along low (suc k) (suc i) to steps fits order inside outside =
+      let n = length (v .facts) in
+      let ws = image-words v ++ rest in
+      let x = getD (v .tags) i no-tag in
+      let label = label-at h rest i no-tag fits in
+      by-test (eqb to (suc i))
+      (λ t.
+      let e = eqb-true to (suc i) t in
+      left-stops k n ws low x (rw (label, lt-ltb (getD (v .labels) i 0) low (outside i e)) (or-true (leb n x))) ∙ rw e)
+      (λ t.
+      let further : to ≤ i = omega (arith, eqb-false to (suc i) t) in
+      left-goes k n ws low x (tag-below h i no-tag fits) (rw label (inside i further (omega arith)))
+      ∙ rw (prior-at h rest i no-tag fits) (left-along low k i to (omega arith) (omega arith) further (λ q l b. inside q l (omega arith)) outside))
+
+module _ {s r : ℕ} {w : ℕ → ℕ} (s-least : 2 ≤ s) (r-least : 2 ≤ r) (widths : Widths s r w) where
+  -- the labels left of an ancestor and under it, by its number
+  module _ {f : Forest} {j h p a : ℕ} (d : Found s r w f j h p a) where
+    label-left : (q : ℕ) → q < left-in f j (suc h) p → getD (labels f w j a) q 0 < number-in f w j (suc h) p a
+    label-left q l =
+        let short : q < length (d .before) = omega (arith, d .left-is) in
+        rw (d .whole, d .number-is, List·getD-append (d .before) (labels (d .under) w h (d .number) ++ d .after) 0 q short) (rising-below a (d .number) (d .before) (d .low) q short)
+
+    label-under : (q : ℕ) → left-in f j (suc h) p ≤ q → q < p → number-in f w j (suc h) p a ≤ getD (labels f w j a) q 0
+    label-under q l u =
+        let n = d .number in
+        let mine = labels (d .under) w h n in
+        let i = q - length (d .before) in
+        let short : i < length mine = omega (arith, length-labels (d .under) w h n, d .left-is, d .to) in
+        rw (d .whole, d .number-is, getD-middle (d .before) mine (d .after) i q (omega (arith, d .left-is)) short)
+        (rising-from n (n + w (suc h)) mine (node-rising s-least r-least widths (d .under) h n (d .good) (d .most)) i short)
+
+  -- TO THE TAG LEFT OF AN ANCESTOR, down to its number
+  pub left-ancestor : {v : Image} → Proper v → length (v .facts) ≤ no-tag → (rest : List ℕ) (f : Forest) (u p h : ℕ) → Good s r f u → p ≤ size f → 1 ≤ size f →
+      length (v .tags) ≡ size f → v .labels ≡ labels f w u 0 → 1 ≤ h → h ≤ u →
+      left-of (length (v .facts)) (length (v .facts)) (image-words v ++ rest) (number-in f w u h p 0) (tag-before v p) ≡ tag-before v (left-in f u h p)
+  left-ancestor proper few rest f u p zero good fits some many labels-are least most = absurd (omega arith)
+  left-ancestor {v} proper few rest f u p (suc h) good fits some many labels-are least most =
+      let d = found s-least r-least widths f u h p 0 good most fits some in
+      left-along proper few rest (number-in f w u (suc h) p 0) (length (v .facts)) p (left-in f u (suc h) p)
+      (omega (arith, proper .as-many)) (omega arith) (omega (arith, d .left-is, d .from))
+      (λ q l b. rw labels-are (label-under d q l b)) (λ q e. rw labels-are (label-left d q (omega arith)))

@@ -1,0 +1,21 @@
+-- The split of an insertion by the sizes of the ancestors of a place. Follows the code of crate renumber.
+-- Assumes nothing: these are definitions.
+use mathlib.Core.Bool.{_||_, cond}
+use mathlib.Core.List.{List}
+use Prim.Native.Nat.{ℕ, zero, suc, _+_}
+use lib.Dec.{leb, ltb, eqb}
+use Rattle.calls.specs.Words.{field}
+use Rattle.walk_model.specs.Levels.{entry}
+
+-- the highest height from h on whose ancestor comes to its limit with k leaves more; `left` heights are left below the
+-- root, and `found` is the one below h
+unfoldable pub highest-full : (highs sizes : List ℕ) → (k left h found : ℕ) → ℕ
+highest-full hi sz k zero h q = q
+highest-full hi sz k (suc m) h q = highest-full hi sz k m (suc h) (cond (eqb (entry sz h + k) (entry hi h)) h q)
+
+-- the tag left of a node: from x on along prior as long as it is a tag of n with a label of at least low; `most` bounds
+-- the steps
+unfoldable pub left-of : (most n : ℕ) → List ℕ → (low : ℕ) → (tag : ℕ) → ℕ
+left-of zero n ws low x = x
+left-of (suc k) n ws low x =
+    let further = left-of k n ws low (field ws x 2) in cond (leb n x || ltb (field ws x 0) low) x further

@@ -1,0 +1,44 @@
+-- `insert_link::link_place` meets its contract. Assumes nothing.
+use borrow.Author.Needs.{needs}
+use native.Mathlib.Omega.{arith}
+use Rattle.insert_link.proofs.Links.{place-room, linked-front, linked-tag}
+use Rattle.insert_link.proofs.link_place.Statement.{statement}
+use Rattle.insert_link.proofs.link_place.Tie as tie
+
+is-none-requires : tie.Need-is-none-requires
+is-none-requires c κs = search needs
+
+slice-write-words : tie.Need-slice-write-words
+slice-write-words c = search needs
+
+set-next-requires : tie.Need-set-next-requires
+set-next-requires c κs =
+    let known = c .before .before in
+    place-room _ _ (known .is-none .ensures) (known .before .before .pre) (c .before .if1 .left) 1 (omega arith)
+
+same-length : tie.Need-same-length
+same-length c = search needs
+
+returns : tie.Need-returns
+returns c = linked-front _ _ (c .before .is-none .ensures) _ (c .if1 .taken)
+
+same-length-2 : tie.Need-same-length-2
+same-length-2 c = search needs
+
+returns-2 : tie.Need-returns-2
+returns-2 c =
+    let call = c .before .before in
+    let test = call .before .before in
+    linked-tag _ _ (test .before .is-none .ensures) _ (test .if1 .left) (call .set-next .ensures)
+
+pub link-place-spec : {M : Type 1} → statement M
+link-place-spec =
+    tie.close
+    (tie.spec
+    is-none-requires
+    slice-write-words
+    set-next-requires
+    same-length
+    returns
+    same-length-2
+    returns-2)

@@ -1,0 +1,98 @@
+// A new tag's record, and its place along next.
+ghost use mathlib.Core.Path.{_≡_};
+ghost use Prim.Native.Nat.{suc, _+_, _*_, _≤_, _<_};
+ghost use lib.ListN.{length};
+ghost use Rattle.edit_model.specs.Insert.{behind as tag-behind, with-record, linked-place, linked-next, added, up-word, raised-words};
+ghost use Rattle.calls.specs.Words.{word-at};
+ghost use Rattle.insert_link.specs.Needs.{Place-there, Tag-fits};
+use store_types::Label;
+use store_types::TagId;
+
+// The tag behind a place: the first where the place is the front.
+pub fn behind(words: &[u32], n: u32, place: TagId) -> TagId
+    requires { ⌜ Place-there (now words) n (place .0) ⌝ }
+    ensures { λ x. ⌜ x .0 ≡ tag-behind (now (words .entry)) (place .0) ⌝ }
+{
+    if place.is_none() {
+        return TagId(words[5]);
+    }
+    words::next_of(words, place)
+}
+
+// The up of new tags: the place if it is a begin, else its up; at the front none.
+pub fn up_at(words: &[u32], n: u32, place: TagId) -> TagId
+    requires { ⌜ Place-there (now words) n (place .0) ⌝ }
+    ensures { λ x. ⌜ x .0 ≡ up-word (now (words .entry)) (place .0) ⌝ }
+{
+    if place.is_none() {
+        return TagId::NONE;
+    }
+    if words::kind_of(words, place) == 1 {
+        return place;
+    }
+    words::up_of(words, place)
+}
+
+// The record of a new tag. Its label is none that a tag can have, so that it counts as moved where it is numbered.
+fn write_record(
+    words: &mut [u32],
+    x: TagId,
+    next: TagId,
+    prior: TagId,
+    mate: TagId,
+    up: TagId,
+    kind: u32,
+)
+    requires { ⌜ 8 + 6 * suc (x .0) ≤ length (now words) ⌝ }
+    ensures { λ _. ⌜ now (words .exit) ≡ with-record (now (words .entry)) (x .0) (next .0) (prior .0) (mate .0) (up .0) kind ⌝ }
+{
+    words::set_label(words, x, Label(4294967295));
+    words::set_next(words, x, next);
+    words::set_prior(words, x, prior);
+    words::set_mate(words, x, mate);
+    words::set_up(words, x, up);
+    words::set_kind(words, x, kind);
+}
+
+fn link_place(words: &mut [u32], n: u32, place: TagId)
+    requires { ⌜ Place-there (now words) n (place .0) ⌝ }
+    ensures { λ _. ⌜ now (words .exit) ≡ linked-place (now (words .entry)) (place .0) n ⌝ }
+{
+    if place.is_none() {
+        words[5] = n;
+    } else {
+        words::set_next(words, place, TagId(n));
+    }
+}
+
+fn link_next(words: &mut [u32], n: u32, next: TagId)
+    requires { ⌜ Place-there (now words) n (next .0) ⌝ }
+    ensures { λ _. ⌜ now (words .exit) ≡ linked-next (now (words .entry)) (next .0) n ⌝ }
+{
+    if next.is_none() {
+        return;
+    }
+    words::set_prior(words, next, TagId(n));
+}
+
+// Tag n goes in behind a place.
+pub fn add_tag(words: &mut [u32], n: u32, place: TagId, mate: TagId, up: TagId, kind: u32)
+    requires { ⌜ Tag-fits (now words) n (place .0) ⌝ }
+    ensures { λ _. ⌜ now (words .exit) ≡ added (now (words .entry)) n (place .0) (mate .0) (up .0) kind ⌝ }
+{
+    let next = behind(words, n, place);
+    write_record(words, TagId(n), next, place, mate, up, kind);
+    link_place(words, n, place);
+    link_next(words, n, next);
+    words[4] = n + 1;
+}
+
+// H is one higher where the root was split.
+pub fn raise(words: &mut [u32], split: usize)
+    requires { ⌜ (8 ≤ length (now words)) × (word-at (now words) 3 < 4294967295) ⌝ }
+    ensures { λ _. ⌜ now (words .exit) ≡ raised-words (now (words .entry)) split ⌝ }
+{
+    if split == words[3] as usize {
+        words[3] = words[3] + 1;
+    }
+}

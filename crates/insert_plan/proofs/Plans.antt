@@ -1,0 +1,142 @@
+-- Plans as the code makes them: what it reads is what edit_model's Insert reads, and numbers and heights fit.
+-- Assumes nothing.
+use mathlib.Core.Path.{_≡_, ap, _∙_}
+use mathlib.Core.Bool.{Bool, true, false, _||_, cond}
+use mathlib.Core.List.{List}
+use Prim.Native.Nat.{ℕ, zero, suc, _+_, _*_, _-_, _^_, _≤_}
+use native.Mathlib.Nat.{mul-le-mul, mul-le-mul-right, pow-zero}
+use native.Mathlib.Numerals.{add-one}
+use native.Mathlib.Omega.{arith}
+use borrow.Author.Tests.{eq-eqb, ne-eqb, eqb-true}
+use lib.Dec.{leb, eqb}
+use lib.ListN.{replicate}
+use Rattle.store_types.specs.Limits.{no-tag, label-limit}
+use Rattle.tree_laws.proofs.Rows.{by-test}
+use Rattle.tree.specs.Forest.{spread}
+use Rattle.calls.specs.Words.{field, follow}
+use Rattle.words.specs.Fields.{with-field}
+use Rattle.walk_model.specs.Levels.{entry}
+use Rattle.edit_model.specs.Relabel.{Relabelled, cut, shift}
+use Rattle.walk_model.specs.Watch.{ancestor-numbers}
+use Rattle.edit_model.specs.Split.{highest-full, left-of}
+use Rattle.edit_model.specs.Insert.{Plan, place-label, numbers-at, plain-plan, root-plan, split-plan, plan, behind, applied}
+use Rattle.edit_model.proofs.Relabels.{labels-cut}
+use Rattle.renumber.specs.Needs.{table-limit, trees-numbered, Row-numbered}
+use Rattle.renumber.proofs.Parts.{trees-moved}
+use Rattle.insert_plan.specs.Parts.{next-label, inner-plan}
+
+-- THE LABEL of a place y, and the number behind it: t says whether it is the front
+module _ (ws : List ℕ) (y : ℕ) {t : Bool} (e : t ≡ eqb y no-tag) where
+  pub label-front : t ≡ true → 0 ≡ place-label ws y
+  unfolding place-label
+  label-front p = rw (← e, p)
+
+  pub label-tag : {l : ℕ} → t ≡ false → l ≡ field ws y 0 → l ≡ place-label ws y
+  unfolding place-label
+  label-tag p q = rw (← e, p) q
+
+  pub next-front : (v : ℕ) → t ≡ true → 0 ≡ next-label ws y v
+  unfolding next-label
+  next-front v p = rw (← e, p)
+
+  pub next-tag : {l : ℕ} (v : ℕ) → t ≡ false → l ≡ field ws y 0 → l + v ≡ next-label ws y v
+  unfolding next-label
+  next-tag v p q = rw (← e, p, q)
+
+-- THE HEIGHT of a split is below the root
+height-under : (hi sz : List ℕ) (k m h q t : ℕ) → q ≤ t → m + h ≤ suc t → highest-full hi sz k m h q ≤ t
+unfolding highest-full
+height-under hi sz k zero h q t l e = l
+height-under hi sz k (suc m) h q t l e =
+    let full = eqb (entry sz h + k) (entry hi h) in
+    let low : cond full h q ≤ t = by-test full (λ f. rw f (let m : h ≤ t = omega arith in m)) (λ f. rw f l) in
+    height-under hi sz k m (suc h) (cond full h q) t low (omega arith)
+
+pub split-under : (hi sz : List ℕ) (k u : ℕ) → highest-full hi sz k u 1 0 ≤ u
+split-under hi sz k u = height-under hi sz k u 1 0 u (omega arith) (omega arith)
+
+-- EACH PLAN. l is the label of the place, and ns are the numbers of its ancestors
+module _ (ws w : List ℕ) (u y : ℕ) {l : ℕ} {ns : List ℕ} (label : l ≡ place-label ws y) (numbers : ns ≡ ancestor-numbers w u l 0 (replicate 24 0)) where
+  numbers-are : ns ≡ numbers-at ws w u y
+  unfolding numbers-at
+  numbers-are = numbers ∙ rw label
+
+  pub plain-made : {v : ℕ} → v ≡ next-label ws y (entry w 0) →
+      _≡_ {A = Plan} (record { height = 0; left = y; number = v; count = 1; bound = entry ns 1 + entry w 1; by = entry w 0 }) (plain-plan ws w u y)
+  unfolding plain-plan next-label
+  plain-made e = rw (e, numbers-are)
+
+  -- the node of height h is split: x is the tag left of it
+  pub inner-split : (s n h : ℕ) (hi : List ℕ) {x : ℕ} {p : Plan} → (h ≡ 0 → ⊥) → x ≡ left-of n n ws (entry ns h) y → p ≡ split-plan s w hi ns h x → p ≡ inner-plan ws s w hi n u h y
+  unfolding inner-plan
+  inner-split s n h hi z e f = f ∙ rw (e, ne-eqb h 0 z, numbers-are)
+
+pub inner-plain : (ws : List ℕ) (s : ℕ) (w hi : List ℕ) (n u h y : ℕ) {p : Plan} → h ≡ 0 → p ≡ plain-plan ws w u y → p ≡ inner-plan ws s w hi n u h y
+unfolding inner-plan
+inner-plain ws s w hi n u h y z e = rw z e
+
+pub split-made : (s : ℕ) (w hi ns : List ℕ) (h x : ℕ) →
+    _≡_ {A = Plan} (record { height = h; left = x; number = entry ns h; count = entry hi h; bound = entry ns (h + 1) + entry w (h + 1); by = (s - 1) * entry w h }) (split-plan s w hi ns h x)
+unfolding split-plan
+split-made s w hi ns h x = rw add-one
+
+module _ (ws : List ℕ) (s : ℕ) (w hi sz : List ℕ) (n k u y : ℕ) where
+  pub plan-root : n + k ≡ entry hi (u + 1) → root-plan (u + 1) (n + k) ≡ plan ws s w hi sz n k u y
+  unfolding plan
+  plan-root e = rw (← add-one u, eq-eqb (n + k) (entry hi (u + 1)) e)
+
+  pub plan-inner : {h : ℕ} {p : Plan} → (n + k ≡ entry hi (u + 1) → ⊥) → h ≡ highest-full hi sz k u 1 0 → p ≡ inner-plan ws s w hi n u h y → p ≡ plan ws s w hi sz n k u y
+  unfolding plan inner-plan
+  plan-inner z f e = rw (← add-one u, ne-eqb (n + k) (entry hi (u + 1)) z, ← f) e
+
+-- a shift moves no more than its steps
+shift-few : (k n : ℕ) (ws : List ℕ) (x b d : ℕ) → shift k n ws x b d .moved ≤ k
+unfolding shift
+shift-few zero n ws x b d = omega arith
+shift-few (suc k) n ws x b d =
+    by-test (leb n x || leb b (field ws x 0)) (λ e. rw e (omega arith)) (λ e. rw e (omega (arith, shift-few k n (with-field ws x 0 (cut (field ws x 0 + d))) (field ws x 1) b d)))
+
+-- A PLAN DONE: the row is numbered from x on, and the tags from `next` on are shifted
+module _ (ws w : List ℕ) (r n : ℕ) (p : Plan) {x next m : ℕ} {vs : List ℕ} (start : x ≡ behind ws (p .left))
+    (numbered : Row-numbered ws vs (trees-numbered ws w r (p .height) (cut (p .number)) x (p .count)) x (p .count) next m) where
+  cut-number : trees-numbered ws w r (p .height) (cut (p .number)) x (p .count) ≡ trees-numbered ws w r (p .height) (p .number) x (p .count)
+  unfolding trees-numbered
+  cut-number = rw (labels-cut (spread (p .height) r (follow (p .count) ws x)) (entry w) (p .height) (p .number))
+
+  pub applied-by : {us : List ℕ} {d : ℕ} → us ≡ shift n n vs next (p .bound) (p .by) .words → d ≡ shift n n vs next (p .bound) (p .by) .moved →
+      (us ≡ applied ws w r n p .words) × (m + d ≡ applied ws w r n p .moved)
+  unfolding applied trees-numbered
+  applied-by e f =
+      let q : vs ≡ trees-numbered ws w r (p .height) (p .number) x (p .count) .words = numbered .words ∙ ap (λ (t : Relabelled). t .words) cut-number in
+      let moved : m ≡ trees-numbered ws w r (p .height) (p .number) x (p .count) .moved = numbered .moved ∙ ap (λ (t : Relabelled). t .moved) cut-number in
+      (e ∙ rw (q, numbered .next, start), rw (f, moved, q, numbered .next, start))
+
+  pub moved-few : {d : ℕ} → d ≡ shift n n vs next (p .bound) (p .by) .moved → m + d ≤ p .count + n
+  moved-few e =
+      omega (arith, numbered .moved, trees-moved ws w r (p .height) (cut (p .number)) x (p .count), shift-few n n vs next (p .bound) (p .by))
+
+-- THE NUMBERS OF A PLAN FIT, where the tables are right up to the root
+pub record Plan-fits (r top : ℕ) (p : Plan) : Type 0 where
+  pub height : p .height ≤ top
+  pub least : r ^ p .height ≤ p .count
+  pub by : p .by ≤ table-limit
+
+module _ (ws : List ℕ) (s r : ℕ) (w hi sz : List ℕ) (n k u y : ℕ) (s-least : 1 ≤ s) (s-most : s ≤ 16)
+    (limits : (h : ℕ) → h ≤ suc u → entry hi h ≡ s * r ^ h) (widths : (h : ℕ) → entry w h ≤ label-limit) where
+  limit-least : (h : ℕ) → h ≤ suc u → r ^ h ≤ entry hi h
+  limit-least h l = rw (limits h l) (omega (arith, mul-le-mul-right (r ^ h) s-least))
+
+  pub plan-fits : Plan-fits r (suc u) (plan ws s w hi sz n k u y)
+  unfolding plan root-plan plain-plan split-plan
+  plan-fits =
+      let h = highest-full hi sz k u 1 0 in
+      let low = split-under hi sz k u in
+      by-test (eqb (n + k) (entry hi (suc u)))
+      (λ t. rw t (record { height = omega arith; least = omega (arith, eqb-true (n + k) (entry hi (suc u)) t, limit-least (suc u) (omega arith)); by = omega arith }))
+      (λ t. rw t (by-test (eqb h 0)
+      (λ z. rw z (record { height = omega arith; least = rw pow-zero (omega arith); by = omega (arith, widths 0) }))
+      (λ z. rw z (record {
+        height = omega arith;
+        least = limit-least h (omega arith);
+        by = (let few : s - 1 ≤ 15 = omega arith in omega (arith, mul-le-mul few (widths h)));
+      }))))

@@ -1,0 +1,97 @@
+-- The header of words that say a store: each number in its range, and tables of its powers fit. Assumes nothing.
+use mathlib.Core.Path.{_≡_}
+use mathlib.Core.List.{List}
+use Prim.Native.Nat.{ℕ, pred, _+_, _*_, _-_, _^_, _≤_, _<_}
+use native.Mathlib.Nat.{mul-le-mul, mul-le-mul-right, pow-le-pow-left, pow-le-pow-right, one-mul, lt-of-not-le}
+use native.Mathlib.Omega.{arith}
+use lib.ListN.{length}
+use Rattle.store_types.specs.Limits.{word-limit, label-limit}
+use Rattle.tree.specs.Book.{base, power-width}
+use Rattle.tree_laws.proofs.Good.{and-left}
+use Rattle.calls.specs.Load.{words-for}
+use Rattle.calls.specs.Words.{Says, word-at}
+use Rattle.calls.specs.Replies.{said}
+use Rattle.calls_laws.proofs.Tests.{Degrees, facts-of}
+use Rattle.calls_laws.proofs.WordSteps.{header-said}
+use Rattle.walk_model.specs.Levels.{entry}
+use Rattle.walk_model.specs.Walk.{table, header-passes, walk, shape-of, start, words-pass}
+use Rattle.walk_model.specs.Promise.{Walk-right}
+use Rattle.walk_model.proofs.Shapes.{Header, header-facts}
+use Rattle.walk_model.proofs.WalkRight.{walk-right}
+use Rattle.walk_levels.specs.Needs.{Table-fits}
+use Rattle.walk_levels.proofs.TableLaws.{table-at}
+
+-- f is 4 to 256
+product-range : {s r : ℕ} → Degrees s r → (4 ≤ s * r) × (s * r ≤ 256)
+product-range d = (mul-le-mul (d .s-least) (d .r-least), mul-le-mul (d .s-most) (d .r-most))
+
+-- three to the 21st passes the limit of labels
+pub height-range : (b h : ℕ) → 3 ≤ b → b ^ h ≤ label-limit → h ≤ 20
+height-range b h l fits =
+    let low : h < 21 = lt-of-not-le λ high.
+    let three : 3 ^ 21 ≤ 3 ^ h = pow-le-pow-right (omega arith) high in
+    let more : 3 ^ h ≤ b ^ h = pow-le-pow-left l h in
+    omega arith in
+    omega arith
+
+-- THE NUMBERS OF A HEADER
+pub record Ranges (s r h n : ℕ) : Type 0 where
+  pub degrees : Degrees s r
+  pub product : (4 ≤ s * r) × (s * r ≤ 256)
+  pub low : 1 ≤ h
+  pub high : h ≤ 20
+  pub power : (s * r - 1) ^ h ≤ label-limit
+  pub few : n ≤ 200000
+  pub below : n < s * r ^ h
+
+module _ (ws : List ℕ) (h : Says ws (said ws)) where
+  pub header-of : Header ws (word-at ws 1) (word-at ws 2) (pred (word-at ws 3)) (word-at ws 4)
+  unfolding Says words-pass Walk-right
+  header-of =
+      let fits : word-at ws 6 < word-limit = omega (arith, header-said ws (said ws) h .number, facts-of (said ws) (h .0) .number-fits) in
+      header-facts ws (and-left (header-passes ws) (walk ws (shape-of ws) (word-at ws 4) 0 (start ws)) (walk-right ws fits .1 (said ws, h)))
+
+  pub ranges : Ranges (word-at ws 1) (word-at ws 2) (word-at ws 3) (word-at ws 4)
+  unfolding power-width base
+  ranges =
+      let f = header-of in
+      let fits = rw (← f .levels) at (f .labels-fit) in
+      record {
+        degrees = f .degrees;
+        product = product-range (f .degrees);
+        low = omega (arith, f .levels);
+        high = height-range _ (word-at ws 3) (omega (arith, product-range (f .degrees))) fits;
+        power = fits;
+        few = f .few;
+        below = rw (f .levels) (f .below);
+      }
+
+  pub room : 8 + 6 * word-at ws 4 ≤ length ws
+  unfolding words-for
+  room = header-of .room
+
+-- TABLES of its powers
+module _ {s r h n : ℕ} (f : Ranges s r h n) where
+  pub widths-fit : Table-fits 1 (s * r - 1) h
+  widths-fit =
+      record { height = omega (arith, f .high); grows = omega (arith, f .product); last = rw (one-mul ((s * r - 1) ^ h)) (omega (arith, f .power)) }
+
+  -- r is below b
+  pub lows-below : r ^ h ≤ label-limit
+  lows-below =
+      let less : r ≤ s * r - 1 = omega (arith, mul-le-mul-right r (f .degrees .s-least), f .degrees .r-least) in
+      omega (arith, pow-le-pow-left less h, f .power)
+
+  pub lows-fit : Table-fits 1 r h
+  lows-fit = record { height = omega (arith, f .high); grows = omega (arith, f .degrees .r-least); last = rw (one-mul (r ^ h)) (omega (arith, lows-below)) }
+
+  pub highs-fit : Table-fits s r h
+  highs-fit =
+      record { height = omega (arith, f .high); grows = omega (arith, f .degrees .r-least); last = omega (arith, mul-le-mul (f .degrees .s-most) lows-below) }
+
+-- what stands in them
+pub power-at : (v b top : ℕ) {t : List ℕ} → t ≡ table v b top → (k : ℕ) → k ≤ top → entry t k ≡ v * b ^ k
+power-at v b top e k l = rw e (table-at v b top k l)
+
+pub last-power : (v b top : ℕ) {t : List ℕ} → t ≡ table v b top → entry t top ≡ v * b ^ top
+last-power v b top e = power-at v b top e top (omega arith)

@@ -1,0 +1,50 @@
+-- `insert_refuse::place_refused` meets its contract. Assumes nothing.
+use borrow.Author.Needs.{needs}
+use native.Mathlib.Omega.{arith}
+use Rattle.insert_refuse.proofs.Headers.{room}
+use Rattle.insert_refuse.proofs.Refusals.{place-front, place-beyond, place-marked, place-fine}
+use Rattle.insert_refuse.proofs.place_refused.Statement.{statement}
+use Rattle.insert_refuse.proofs.place_refused.Tie as tie
+
+is-none-requires : tie.Need-is-none-requires
+is-none-requires c κs = search needs
+
+returns : tie.Need-returns
+returns c = place-front _ _ (c .before .is-none .ensures) (c .if1 .taken)
+
+shared-slice-read-if2 : tie.Need-shared-slice-read-if2
+shared-slice-read-if2 c = let start = c .before .before .before .before in omega (arith, room (start .args .words .now) (start .pre))
+
+returns-2 : tie.Need-returns-2
+returns-2 c =
+    let test = c .before .before .before in
+    place-beyond _ _ (test .before .is-none .ensures) (test .before .before .before .pre) (test .if1 .left) (c .if2 .taken)
+
+kind-of-requires : tie.Need-kind-of-requires
+kind-of-requires c κs =
+    let start = c .before .before .before .before .before .before in
+    omega (arith, room (start .args .words .now) (start .pre))
+
+returns-3 : tie.Need-returns-3
+returns-3 c =
+    let second = c .before .before in
+    let test = second .before .before .before in
+    place-marked _ _ (test .before .is-none .ensures) (test .before .before .before .pre) (test .if1 .left) (second .if2 .left) (c .before .kind-of .ensures) (c .if3 .taken)
+
+returns-4 : tie.Need-returns-4
+returns-4 c =
+    let second = c .before .before in
+    let test = second .before .before .before in
+    place-fine _ _ (test .before .is-none .ensures) (test .before .before .before .pre) (test .if1 .left) (second .if2 .left) (c .before .kind-of .ensures) (c .if3 .left)
+
+pub place-refused-spec : {M : Type 1} → statement M
+place-refused-spec =
+    tie.close
+    (tie.spec
+    is-none-requires
+    returns
+    shared-slice-read-if2
+    returns-2
+    kind-of-requires
+    returns-3
+    returns-4)

@@ -1,0 +1,81 @@
+// The refusals of an insertion: 1, 2, 4, 8, 9, 6, 7 in this order.
+ghost use mathlib.Core.Path.{_≡_};
+ghost use Prim.Native.Nat.{_≤_};
+ghost use lib.ListN.{length};
+ghost use Rattle.calls.specs.Words.{Says};
+ghost use Rattle.calls.specs.Replies.{said, insert-refused};
+ghost use Rattle.walk_model.specs.Watch.{sizes-at};
+ghost use Rattle.insert_refuse.specs.Parts.{place-refusal, room-refusal, tags-refusal};
+use store_types::TagId;
+
+// 8 and 9: the place is the front or an unmarked tag.
+fn place_refused(place: TagId, words: &[u32]) -> u32
+    requires { ⌜ Says (now words) (said (now words)) ⌝ }
+    ensures { λ k. ⌜ k ≡ place-refusal (place .0) (said (now (words .entry))) ⌝ }
+{
+    if place.is_none() {
+        return 0;
+    }
+    if words[4] <= place.0 {
+        return 8;
+    }
+    if 16 <= words::kind_of(words, place) {
+        return 9;
+    }
+    0
+}
+
+// 6 and 7 for k tags: words and labels remain.
+fn room_refused(k: u32, words: &[u32]) -> u32
+    requires { ⌜ Says (now words) (said (now words)) × (k ≤ 2) ⌝ }
+    ensures { λ v. ⌜ v ≡ room-refusal (length (now (words .entry))) k (said (now (words .entry))) ⌝ }
+{
+    let all = words[4] + k;
+    if 200000 < all {
+        return 6;
+    }
+    if words.len() < 8 + 6 * (all as usize) {
+        return 6;
+    }
+    let s = words[1] as u64;
+    let r = words[2] as u64;
+    let h = words[3];
+    let highs = walk_levels::table(s, r, h as usize);
+    if (all as u64) < highs[h as usize] {
+        return 0;
+    }
+    if walk_header::power_fits(s * r - 1, h + 1) {
+        return 0;
+    }
+    7
+}
+
+// 8, 9, 6, 7 for k tags.
+fn tags_refused(k: u32, place: TagId, words: &[u32]) -> u32
+    requires { ⌜ Says (now words) (said (now words)) × (k ≤ 2) ⌝ }
+    ensures { λ v. ⌜ v ≡ tags-refusal (length (now (words .entry))) k (place .0) (said (now (words .entry))) ⌝ }
+{
+    let first = place_refused(place, words);
+    if first != 0 {
+        return first;
+    }
+    room_refused(k, words)
+}
+
+// Where there is none, `sizes` has then the number of leaves of each ancestor of the place below the root, by height.
+pub fn insert_refused(kind: u8, place: TagId, words: &[u32], sizes: &mut [u32; 24]) -> u32
+    ensures refusal { λ k. ⌜ k ≡ insert-refused kind (place .0) (now (words .entry)) ⌝ }
+    ensures sizes { λ k. ⌜ (k ≡ 0 → now (sizes .exit) ≡ sizes-at (now (words .entry)) (place .0) (now (sizes .entry))) ⌝ }
+{
+    let first = store_refuse::words_refused_at(words, place, sizes);
+    if first != 0 {
+        return first;
+    }
+    if kind == 1 {
+        return tags_refused(2, place, words);
+    }
+    if kind == 3 {
+        return tags_refused(1, place, words);
+    }
+    4
+}

@@ -1,0 +1,5 @@
+pub mod Answer
+pub mod Room
+pub mod Session
+pub mod Promise
+pub mod Specimens

@@ -1,0 +1,4 @@
+pub mod Lines
+pub mod Gather
+pub mod Reads
+pub mod Promise

@@ -1,0 +1,50 @@
+// The refusals that every call but load begins with (document 01, "Calls and their replies").
+ghost use mathlib.Core.Path.{_≡_};
+ghost use Rattle.calls.specs.Mark.{section-refusal};
+ghost use Rattle.calls.specs.Replies.{refusal-over};
+ghost use Rattle.walk_model.specs.Watch.{sizes-at};
+use store_types::TagId;
+
+// 1 and 2, which come first on every call but load; 0 where the words say a store, and then `sizes` has the number of
+// leaves of each ancestor of a place below the root, by height.
+pub fn words_refused_at(words: &[u32], place: TagId, sizes: &mut [u32; 24]) -> u32
+    ensures refusal { λ k. ⌜ k ≡ refusal-over (now (words .entry)) (λ st. 0) ⌝ }
+    ensures sizes { λ k. ⌜ (k ≡ 0 → now (sizes .exit) ≡ sizes-at (now (words .entry)) (place .0) (now (sizes .entry))) ⌝ }
+{
+    if words.len() < 8 {
+        return 1;
+    }
+    if !walk::sound_at(words, place, sizes) {
+        return 2;
+    }
+    0
+}
+
+// The same of no place.
+pub fn words_refused(words: &[u32]) -> u32
+    ensures { λ k. ⌜ k ≡ refusal-over (now (words .entry)) (λ st. 0) ⌝ }
+{
+    let mut sizes = [0u32; 24];
+    words_refused_at(words, TagId::NONE, &mut sizes)
+}
+
+// The refusals of mark and hold.
+pub fn section_refused(tag: TagId, words: &[u32]) -> u32
+    ensures { λ k. ⌜ k ≡ refusal-over (now (words .entry)) (section-refusal (tag .0)) ⌝ }
+{
+    let first = words_refused(words);
+    if first != 0 {
+        return first;
+    }
+    if words[4] <= tag.0 {
+        return 8;
+    }
+    let kind = words::kind_of(words, tag);
+    if 16 <= kind {
+        return 9;
+    }
+    if kind == 2 {
+        return 10;
+    }
+    0
+}

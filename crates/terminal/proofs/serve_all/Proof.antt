@@ -1,0 +1,83 @@
+-- `terminal::serve_all` is safe and ends. The measure is the number of pieces left. Assumes nothing.
+use mathlib.Core.Path.{_≡_}
+use lib.ListN.{length}
+use borrow.Author.Needs.{needs}
+use Rattle.terminal.proofs.serve_all.Statement.{statement}
+use Rattle.terminal.proofs.serve_all.Tie as tie
+
+abbrev Inv-loop : tie.InvT-loop
+Inv-loop line₀ words₀ out₀ buffer₀ held₀ pieces₀ line words out buffer held pieces = (length words ≡ length words₀) × (65536 ≡ length buffer)
+
+abbrev μ-loop : tie.MeasureT-loop
+μ-loop line₀ words₀ out₀ buffer₀ held₀ pieces₀ line words out buffer held pieces = pieces
+
+large-buffer-requires : tie.Need-large-buffer-requires Inv-loop μ-loop
+large-buffer-requires c κs = search needs
+
+loop-holds : tie.Need-loop-holds Inv-loop μ-loop
+loop-holds c = search needs
+
+slice-aggregate-read-piece : tie.Need-slice-aggregate-read-piece Inv-loop μ-loop
+slice-aggregate-read-piece c = search needs
+
+read-piece-requires : tie.Need-read-piece-requires Inv-loop μ-loop
+read-piece-requires c κs = search needs
+
+same-length : tie.Need-same-length Inv-loop μ-loop
+same-length c = search needs
+
+returns : tie.Need-returns Inv-loop μ-loop
+returns c = search needs
+
+array-share-prefix-buffer : tie.Need-array-share-prefix-buffer Inv-loop μ-loop
+array-share-prefix-buffer c = search needs
+
+slice-aggregate-serve : tie.Need-slice-aggregate-serve Inv-loop μ-loop
+slice-aggregate-serve c = search needs
+
+serve-requires : tie.Need-serve-requires Inv-loop μ-loop
+serve-requires c κs = search needs
+
+same-length-2 : tie.Need-same-length-2 Inv-loop μ-loop
+same-length-2 c = search needs
+
+returns-2 : tie.Need-returns-2 Inv-loop μ-loop
+returns-2 c = search needs
+
+sub-pieces : tie.Need-sub-pieces Inv-loop μ-loop
+sub-pieces c = search needs
+
+loop-less : tie.Need-loop-less Inv-loop μ-loop
+loop-less c = search needs
+
+loop-again : tie.Need-loop-again Inv-loop μ-loop
+loop-again c = search needs
+
+same-length-3 : tie.Need-same-length-3 Inv-loop μ-loop
+same-length-3 c = search needs
+
+returns-3 : tie.Need-returns-3 Inv-loop μ-loop
+returns-3 c = search needs
+
+pub serve-all-spec : {M : Type 1} → statement M
+serve-all-spec =
+    tie.close
+    (tie.spec
+    Inv-loop
+    μ-loop
+    large-buffer-requires
+    loop-holds
+    slice-aggregate-read-piece
+    read-piece-requires
+    same-length
+    returns
+    array-share-prefix-buffer
+    slice-aggregate-serve
+    serve-requires
+    same-length-2
+    returns-2
+    sub-pieces
+    loop-less
+    loop-again
+    same-length-3
+    returns-3)

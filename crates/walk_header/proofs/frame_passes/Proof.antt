@@ -1,0 +1,117 @@
+-- `walk_header::frame_passes` meets its contract. Assumes nothing.
+use Prim.Native.Nat.{_*_, _≤_}
+use native.Mathlib.Omega.{arith}
+use borrow.Author.Needs.{needs}
+use Rattle.calls.specs.Words.{word-at}
+use Rattle.walk_header.proofs.HeaderLaws.{degree-range, degrees-product, frame-short, frame-version, frame-s, frame-r, frame-height, frame-count, frame-words, frame-power}
+use Rattle.walk_header.proofs.frame_passes.Statement.{statement}
+use Rattle.walk_header.proofs.frame_passes.Tie as tie
+
+returns : tie.Need-returns
+returns c = frame-short _ (c .if1 .taken)
+
+shared-slice-read-if2 : tie.Need-shared-slice-read-if2
+shared-slice-read-if2 c = search needs
+
+returns-2 : tie.Need-returns-2
+returns-2 c = frame-version _ (c .if2 .taken)
+
+shared-slice-read-s : tie.Need-shared-slice-read-s
+shared-slice-read-s c = search needs
+
+degree-fits-requires : tie.Need-degree-fits-requires
+degree-fits-requires c κs = search needs
+
+returns-3 : tie.Need-returns-3
+returns-3 c = frame-s _ (c .before .degree-fits .ensures) (c .if3 .taken)
+
+shared-slice-read-r : tie.Need-shared-slice-read-r
+shared-slice-read-r c = search needs
+
+degree-fits-requires-2 : tie.Need-degree-fits-requires-2
+degree-fits-requires-2 c κs = search needs
+
+returns-4 : tie.Need-returns-4
+returns-4 c = frame-r _ (c .before .degree-fits2 .ensures) (c .if4 .taken)
+
+shared-slice-read-h : tie.Need-shared-slice-read-h
+shared-slice-read-h c = search needs
+
+returns-5 : tie.Need-returns-5
+returns-5 c = frame-height _ (c .if5 .taken)
+
+shared-slice-read-n : tie.Need-shared-slice-read-n
+shared-slice-read-n c = search needs
+
+returns-6 : tie.Need-returns-6
+returns-6 c = frame-count _ (c .if6 .taken)
+
+cast-if7 : tie.Need-cast-if7
+cast-if7 c = search needs
+
+mul-if7 : tie.Need-mul-if7
+mul-if7 c = search needs
+
+add-if7 : tie.Need-add-if7
+add-if7 c = search needs
+
+returns-7 : tie.Need-returns-7
+returns-7 c = frame-words _ (c .if7 .taken)
+
+-- what the tests say of s, r and f
+degrees : (c : tie.Else7) → let ws = c .before .before .before .before .before .before .before .before .before .before .before .before .before .before .before .args .words .now in (word-at ws 1 ≤ 16) × (word-at ws 2 ≤ 16) × (4 ≤ word-at ws 1 * word-at ws 2) × (word-at ws 1 * word-at ws 2 ≤ 256)
+degrees c =
+    let second = c .before .before .before .before .before .before in
+    let s = degree-range _ (second .before .before .before .degree-fits .ensures) (second .before .before .if3 .left) in
+    let r = degree-range _ (second .degree-fits2 .ensures) (c .before .before .before .before .before .if4 .left) in
+    let f = degrees-product (s .0) (s .1) (r .0) (r .1) in
+    (s .1, r .1, f .0, f .1)
+
+cast-power-fits : tie.Need-cast-power-fits
+cast-power-fits c = omega (arith, degrees c)
+
+cast-power-fits-2 : tie.Need-cast-power-fits-2
+cast-power-fits-2 c = omega (arith, degrees c)
+
+mul-power-fits : tie.Need-mul-power-fits
+mul-power-fits c = omega (arith, degrees c)
+
+sub-power-fits : tie.Need-sub-power-fits
+sub-power-fits c = omega (arith, degrees c)
+
+power-fits-requires : tie.Need-power-fits-requires
+power-fits-requires c κs = omega (arith, degrees c)
+
+returns-8 : tie.Need-returns-8
+returns-8 c =
+    let d = c .before .before .before .before .before .before .before in
+    let e = d .before .before .before in
+    frame-power _ (e .before .before .before .before .if1 .left) (e .before .before .if2 .left) (e .degree-fits .ensures) (d .before .before .if3 .left) (d .degree-fits2 .ensures) (c .before .before .before .before .before .before .if4 .left) (c .before .before .before .before .if5 .left) (c .before .before .if6 .left) (c .before .if7 .left) (c .power-fits .ensures)
+
+pub frame-passes-spec : {M : Type 1} → statement M
+frame-passes-spec =
+    tie.close
+    (tie.spec
+    returns
+    shared-slice-read-if2
+    returns-2
+    shared-slice-read-s
+    degree-fits-requires
+    returns-3
+    shared-slice-read-r
+    degree-fits-requires-2
+    returns-4
+    shared-slice-read-h
+    returns-5
+    shared-slice-read-n
+    returns-6
+    cast-if7
+    mul-if7
+    add-if7
+    returns-7
+    cast-power-fits
+    cast-power-fits-2
+    mul-power-fits
+    sub-power-fits
+    power-fits-requires
+    returns-8)

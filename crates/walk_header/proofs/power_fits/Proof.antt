@@ -1,0 +1,45 @@
+-- `walk_header::power_fits` meets its contract. The loop's invariant: p is b^i, and fits. The measure is what is left of the height.
+-- Assumes nothing.
+use mathlib.Core.Path.{_≡_, sym}
+use Prim.Native.Nat.{_-_, _^_, _≤_}
+use native.Mathlib.Nat.{pow-zero}
+use native.Mathlib.Omega.{arith}
+use Rattle.walk_header.proofs.HeaderLaws.{power-more, product-fits, power-over, power-within}
+use Rattle.walk_header.proofs.power_fits.Statement.{statement}
+use Rattle.walk_header.proofs.power_fits.Tie as tie
+
+abbrev Inv-loop : tie.InvT-loop
+Inv-loop b h p₀ i₀ p i = (i ≤ h) × (p ≡ b ^ i) × (p ≤ 4294967296)
+
+abbrev μ-loop : tie.MeasureT-loop
+μ-loop b h p₀ i₀ p i = h - i
+
+loop-holds : tie.Need-loop-holds Inv-loop μ-loop
+loop-holds c = (omega arith, sym (pow-zero (c .args .b)), omega arith)
+
+mul-p : tie.Need-mul-p Inv-loop μ-loop
+mul-p c =
+    let start = c .before .before in
+    omega (arith, product-fits (start .args .b) (c .before .loop .p) (start .pre .1) (c .before .loop .inv .2))
+
+returns : tie.Need-returns Inv-loop μ-loop
+returns c =
+    let at = c .before .before in
+    power-over _ _ _ _ (at .loop .inv .1) (at .before .pre .0) (c .before .loop-test .taken) (c .if1 .taken)
+
+add-i : tie.Need-add-i Inv-loop μ-loop
+add-i c = omega arith
+
+loop-less : tie.Need-loop-less Inv-loop μ-loop
+loop-less c = omega arith
+
+loop-again : tie.Need-loop-again Inv-loop μ-loop
+loop-again c = (omega arith, power-more _ _ _ (c .before .before .loop .inv .1), omega arith)
+
+returns-2 : tie.Need-returns-2 Inv-loop μ-loop
+returns-2 c = power-within _ _ _ _ (c .before .loop .inv .1) (c .before .loop .inv .2) (omega arith)
+
+pub power-fits-spec : {M : Type 1} → statement M
+power-fits-spec =
+    tie.close
+    (tie.spec Inv-loop μ-loop loop-holds mul-p returns add-i loop-less loop-again returns-2)

@@ -1,0 +1,36 @@
+-- What the tests of the header ask, and the parts of the walk that each decides.
+-- Assumes nothing: these are definitions.
+use mathlib.Core.Bool.{Bool, _&&_, _||_}
+use mathlib.Core.List.{List}
+use Prim.Native.Nat.{ℕ, pred, _*_, _-_, _^_, _≤_}
+use lib.Dec.{ltb, leb, eqb}
+use lib.ListN.{length, getD}
+use Rattle.store_types.specs.Limits.{header-words, most-tags, label-limit}
+use Rattle.calls.specs.Sound.{degrees-fit}
+use Rattle.calls.specs.Load.{words-for}
+use Rattle.calls.specs.Words.{word-at}
+use Rattle.walk_model.specs.Levels.{entry}
+use Rattle.walk_levels.specs.Needs.{entry-limit}
+
+unfoldable pub power-fits : (b h : ℕ) → Bool
+power-fits b h = leb (b ^ h) label-limit
+
+-- one half of degrees-fit
+unfoldable pub degree-fits : (d : ℕ) → Bool
+degree-fits d = leb 2 d && leb d 16
+
+unfoldable pub frame-passes : List ℕ → Bool
+frame-passes ws =
+    let s = word-at ws 1 in
+    let r = word-at ws 2 in
+    let n = word-at ws 4 in
+    ((leb header-words (length ws) && eqb (word-at ws 0) 1) && (degrees-fit s r && leb 1 (word-at ws 3)))
+    && ((leb n most-tags && leb (words-for n) (length ws)) && power-fits (s * r - 1) (word-at ws 3))
+
+pub record Root-fits (h : ℕ) (l : List ℕ) : Type 0 where
+  pub low : 1 ≤ h
+  pub high : h ≤ 23
+  pub lows : (k : ℕ) → getD l k 0 ≤ entry-limit
+
+unfoldable pub root-passes : (n h : ℕ) → (lows highs : List ℕ) → Bool
+root-passes n h l u = ltb n (entry u h) && (eqb h 1 || leb (2 * entry l (pred h)) n)

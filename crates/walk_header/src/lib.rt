@@ -1,0 +1,72 @@
+// The header of a store (document 01, "The book in words"): its own limits and the root's.
+ghost use mathlib.Core.Path.{_≡_};
+ghost use Prim.Native.Nat.{_≤_};
+ghost use Rattle.walk_header.specs.Needs.{Root-fits, frame-passes, root-passes, power-fits, degree-fits};
+
+// Whether b^h is at most 2^32.
+pub fn power_fits(b: u64, h: u32) -> bool
+    requires { ⌜ (3 ≤ b) × (b ≤ 255) ⌝ }
+    ensures { λ t. ⌜ t ≡ power-fits b h ⌝ }
+{
+    let mut p: u64 = 1;
+    let mut i: u32 = 0;
+    while i < h {
+        p = p * b;
+        if 4294967296 < p {
+            return false;
+        }
+        i += 1;
+    }
+    true
+}
+
+// Whether a degree, s or r, is in its range.
+pub fn degree_fits(d: u32) -> bool
+    ensures { λ t. ⌜ t ≡ degree-fits d ⌝ }
+{
+    2 <= d && d <= 16
+}
+
+// The header by itself: enough words, every number in its range, b^H at most 2^32.
+pub fn frame_passes(words: &[u32]) -> bool
+    ensures { λ t. ⌜ t ≡ frame-passes (now (words .entry)) ⌝ }
+{
+    if words.len() < 8 {
+        return false;
+    }
+    if words[0] != 1 {
+        return false;
+    }
+    let s = words[1];
+    if !degree_fits(s) {
+        return false;
+    }
+    let r = words[2];
+    if !degree_fits(r) {
+        return false;
+    }
+    let h = words[3];
+    if h < 1 {
+        return false;
+    }
+    let n = words[4];
+    if 200000 < n {
+        return false;
+    }
+    if words.len() < 8 + 6 * (n as usize) {
+        return false;
+    }
+    power_fits((s as u64) * (r as u64) - 1, h)
+}
+
+// The root's limits.
+pub fn root_passes(n: u32, h: usize, lows: &[u64; 24], highs: &[u64; 24]) -> bool
+    requires { ⌜ Root-fits h (now lows) ⌝ }
+    ensures { λ t. ⌜ t ≡ root-passes n h (now (lows .entry)) (now (highs .entry)) ⌝ }
+{
+    let count = n as u64;
+    if highs[h] <= count {
+        return false;
+    }
+    h == 1 || 2 * lows[h - 1] <= count
+}

@@ -1,0 +1,4 @@
+pub mod TableLaws
+pub mod LevelLaws
+pub mod SizeLaws
+pub mod AncestorNumbers

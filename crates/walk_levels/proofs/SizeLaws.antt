@@ -1,0 +1,81 @@
+-- The sizes that a pass takes on its way (walk_model's Watch): what each way through the loops that close nodes says of them.
+-- Assumes nothing.
+use mathlib.Core.Path.{_≡_, refl}
+use mathlib.Core.Bool.{Bool, true, false, cond, false≢true, and-false}
+use mathlib.Core.List.{List}
+use Prim.Native.Nat.{ℕ, suc, _+_, _-_, _≤_, _<_}
+use native.Mathlib.Numerals.{add-one}
+use native.Mathlib.Omega.{arith}
+use borrow.Author.Tests.{lt-ltb, le-ltb, eq-eqb, ne-eqb}
+use lib.Dec.{eqb, ltb}
+use lib.ListN.{getD, set}
+use Rattle.walk_model.specs.Watch.{taken, settle-sizes, place-sizes, close-sizes}
+use Rattle.walk_levels.specs.Needs.{levels-of}
+use Rattle.walk_levels.proofs.LevelLaws.{left-more}
+
+-- of what does not pass nothing is said
+pub never : {A : Type 0} → false ≡ true → A
+never e = absurd (false≢true e)
+
+-- THE SIZE of the node that closes at height h, as the code takes it: q is what stands there afterwards
+module _ (w ns : List ℕ) (h i : ℕ) (e f sz : List ℕ) where
+  taken-by : {q : ℕ} → q ≡ cond (eqb (getD e h 0) (getD ns h 0 + getD w h 0)) (i - getD f h 0) (getD sz h 0) → set sz h q ≡ taken w ns h i (levels-of e f) sz
+  unfolding taken levels-of
+  taken-by p = rw p
+
+-- SIZES AT A LABEL, height by height
+module _ (w ns : List ℕ) (under l i : ℕ) where
+  abbrev pub settle-sizes-at : (h : ℕ) → (ends firsts sizes : List ℕ) → List ℕ
+  settle-sizes-at h e f sz = settle-sizes w ns (under + 1 - h) h l i (levels-of e f) sz
+
+  pub sizes-start : (e f sz : List ℕ) → settle-sizes-at 1 e f sz ≡ settle-sizes w ns under 1 l i (levels-of e f) sz
+  sizes-start e f sz = let q : under + 1 - 1 ≡ under = omega arith in rw q
+
+  module _ (h : ℕ) (e f sz : List ℕ) {whole : List ℕ} (inv : settle-sizes-at h e f sz ≡ whole) where
+    pub sizes-stay : h ≤ under → l < getD e h 0 → sz ≡ whole
+    unfolding settle-sizes levels-of
+    sizes-stay p q = rw (left-more under h p, lt-ltb l (getD e h 0) q) at inv
+
+    pub sizes-more : {q : ℕ} → h ≤ under → getD e h 0 ≤ l → q ≡ cond (eqb (getD e h 0) (getD ns h 0 + getD w h 0)) (i - getD f h 0) (getD sz h 0) →
+        settle-sizes-at (h + 1) (set e h (l + getD w h 0)) (set f h i) (set sz h q) ≡ whole
+    unfolding settle-sizes levels-of
+    sizes-more p r s = rw (taken-by w ns h i e f sz s) (rw (left-more under h p, le-ltb l (getD e h 0) r, ← add-one h) at inv)
+
+    pub sizes-end : under < h → sz ≡ whole
+    unfolding settle-sizes
+    sizes-end p = let q : under + 1 - h ≡ 0 = omega arith in rw q at inv
+
+-- and beside place-label
+module _ (w ns : List ℕ) (u q l i : ℕ) (e f sz : List ℕ) where
+  pub place-sizes-next : l ≡ q → ltb l (getD e 1 0) ≡ true → sz ≡ place-sizes w ns u q l i (levels-of e f) sz
+  unfolding place-sizes levels-of
+  place-sizes-next p t = rw (eq-eqb l q p, t)
+
+  module _ {v : List ℕ} (closing : v ≡ settle-sizes w ns u 1 l i (levels-of e f) sz) where
+    pub place-sizes-other : (l ≡ q → ⊥) → v ≡ place-sizes w ns u q l i (levels-of e f) sz
+    unfolding place-sizes
+    place-sizes-other p = rw (ne-eqb l q p) closing
+
+    pub place-sizes-behind : ltb l (getD e 1 0) ≡ false → v ≡ place-sizes w ns u q l i (levels-of e f) sz
+    unfolding place-sizes levels-of
+    place-sizes-behind t = rw (t, and-false (eqb l q)) closing
+
+-- SIZES AT THE END
+module _ (w ns : List ℕ) (under i : ℕ) (e f : List ℕ) where
+  abbrev pub close-sizes-at : (h : ℕ) → (sizes : List ℕ) → List ℕ
+  close-sizes-at h sz = close-sizes w ns (under + 1 - h) h i (levels-of e f) sz
+
+  close-turn : (k h : ℕ) (sz : List ℕ) → close-sizes w ns (suc k) h i (levels-of e f) sz ≡ close-sizes w ns k (suc h) i (levels-of e f) (taken w ns h i (levels-of e f) sz)
+  unfolding close-sizes
+  close-turn k h sz = refl
+
+  pub close-sizes-start : (sz : List ℕ) → close-sizes-at 1 sz ≡ close-sizes w ns under 1 i (levels-of e f) sz
+  close-sizes-start sz = let q : under + 1 - 1 ≡ under = omega arith in rw q
+
+  module _ (h : ℕ) (sz : List ℕ) {whole : List ℕ} (inv : close-sizes-at h sz ≡ whole) where
+    pub close-sizes-more : {q : ℕ} → h ≤ under → q ≡ cond (eqb (getD e h 0) (getD ns h 0 + getD w h 0)) (i - getD f h 0) (getD sz h 0) → close-sizes-at (h + 1) (set sz h q) ≡ whole
+    close-sizes-more p s = rw (taken-by w ns h i e f sz s) (rw (left-more under h p, close-turn, ← add-one h) at inv)
+
+    pub close-sizes-end : under < h → sz ≡ whole
+    unfolding close-sizes
+    close-sizes-end p = let q : under + 1 - h ≡ 0 = omega arith in rw q at inv

@@ -1,0 +1,52 @@
+-- What the tests of labels ask of their callers, and the parts of the walk that each decides.
+-- Assumes nothing: these are definitions.
+use mathlib.Core.Bool.{Bool, false}
+use mathlib.Core.List.{List}
+use Prim.Native.Nat.{ℕ, _*_, _^_, _≤_}
+use lib.ListN.{getD}
+use Rattle.walk_model.specs.Levels.{Tables, Levels, Settled, entry, closes, settle, place-label, all-close}
+
+-- TABLES: no entry passes 2^40, so that a sum or a double of entries fits 64 bits
+abbrev pub entry-limit : ℕ
+entry-limit = 1099511627776
+
+pub record Table-fits (v b top : ℕ) : Type 0 where
+  pub height : top ≤ 23
+  pub grows : 1 ≤ b
+  pub last : v * b ^ top ≤ entry-limit
+
+unfoldable pub tables-of : (widths lows highs : List ℕ) → Tables
+tables-of w l h = record { widths = w; lows = l; highs = h }
+
+unfoldable pub levels-of : (ends firsts : List ℕ) → Levels
+levels-of e f = record { ends = e; firsts = f }
+
+pub record Levels-fit (under : ℕ) (w l h : List ℕ) : Type 0 where
+  pub height : under ≤ 22
+  pub widths : (k : ℕ) → getD w k 0 ≤ entry-limit
+  pub lows : (k : ℕ) → getD l k 0 ≤ entry-limit
+  pub highs : (k : ℕ) → getD h k 0 ≤ entry-limit
+
+-- the numbers of the watched nodes by height
+abbrev pub Numbers-fit : List ℕ → Type 0
+Numbers-fit ns = (k : ℕ) → getD ns k 0 ≤ entry-limit
+
+-- the ancestors below the root: each has a width
+pub record Ancestors-fit (under : ℕ) (w : List ℕ) : Type 0 where
+  pub height : under ≤ 22
+  pub widths : (k : ℕ) → 1 ≤ k → k ≤ under → 1 ≤ entry w k
+
+-- one node's limits: its widths do not matter
+unfoldable pub closes-from : (lows highs : List ℕ) → (h first place : ℕ) → Bool
+closes-from l u h f i = closes (tables-of l l u) h f i
+
+-- one label at a place, closing nodes from height 1 on
+unfoldable pub settle-from : (widths lows highs : List ℕ) → (under label place : ℕ) → (ends firsts : List ℕ) → Settled
+settle-from w l h u x i e f = settle (tables-of w l h) u 1 false x i (levels-of e f)
+
+unfoldable pub place-from : (widths lows highs : List ℕ) → (under expect label place : ℕ) → (ends firsts : List ℕ) → Settled
+place-from w l h u q x i e f = place-label (tables-of w l h) u q x i (levels-of e f)
+
+-- neither the widths nor the ends matter where all open nodes close
+unfoldable pub close-from : (lows highs : List ℕ) → (under place : ℕ) → (firsts : List ℕ) → Bool
+close-from l h u i f = all-close (tables-of l l h) u 1 i (levels-of f f)

@@ -1,0 +1,55 @@
+-- How many leaves the ancestors of a place have, found in the pass that decides soundness: of each height below the root
+-- the node of a given number is watched, and its size is taken where it closes. Follows the code of crate walk.
+-- Assumes nothing: these are definitions.
+use mathlib.Core.Bool.{_&&_, cond}
+use mathlib.Core.List.{List}
+use Prim.Native.Nat.{ℕ, zero, suc, pred, _+_, _*_, _-_, _/_}
+use lib.Dec.{ltb, eqb}
+use lib.ListN.{set, replicate}
+use Rattle.calls.specs.Words.{word-at, field}
+use Rattle.walk_model.specs.Levels.{Tables, Levels, entry}
+use Rattle.walk_model.specs.Walk.{Shape, State, passed, shape-of, start}
+
+-- the number of the ancestor of each height, from the top down: that of height `left` from that of the one above it
+unfoldable pub ancestor-numbers : (widths : List ℕ) → (left label above : ℕ) → (numbers : List ℕ) → List ℕ
+ancestor-numbers w zero l a ns = ns
+ancestor-numbers w (suc h) l a ns =
+    let b = a + (l - a) / entry w (suc h) * entry w (suc h) in ancestor-numbers w h l b (set ns (suc h) b)
+
+-- the node of height h closes before place i: if it is the watched one, its size is taken
+unfoldable pub taken : (widths numbers : List ℕ) → (h i : ℕ) → Levels → (sizes : List ℕ) → List ℕ
+taken w ns h i v sz =
+    set sz h (cond (eqb (entry (v .ends) h) (entry ns h + entry w h)) (i - entry (v .firsts) h) (entry sz h))
+
+-- the sizes beside settle, place-label and all-close, where these pass
+unfoldable pub settle-sizes : (widths numbers : List ℕ) → (left h label i : ℕ) → Levels → (sizes : List ℕ) → List ℕ
+settle-sizes w ns zero h l i v sz = sz
+settle-sizes w ns (suc k) h l i v sz =
+    let opened : Levels = record { ends = set (v .ends) h (l + entry w h); firsts = set (v .firsts) h i } in
+    let higher = settle-sizes w ns k (suc h) l i opened (taken w ns h i v sz) in
+    cond (ltb l (entry (v .ends) h)) sz higher
+
+unfoldable pub place-sizes : (widths numbers : List ℕ) → (under expect label i : ℕ) → Levels → (sizes : List ℕ) → List ℕ
+place-sizes w ns u e l i v sz =
+    let closing = settle-sizes w ns u 1 l i v sz in cond (eqb l e && ltb l (entry (v .ends) 1)) sz closing
+
+unfoldable pub close-sizes : (widths numbers : List ℕ) → (left h i : ℕ) → Levels → (sizes : List ℕ) → List ℕ
+close-sizes w ns zero h i v sz = sz
+close-sizes w ns (suc k) h i v sz = close-sizes w ns k (suc h) i v (taken w ns h i v sz)
+
+unfoldable pub walk-sizes : List ℕ → Shape → (numbers : List ℕ) → (left i : ℕ) → State → (sizes : List ℕ) → List ℕ
+walk-sizes ws k ns zero i v sz = close-sizes (k .tables .widths) ns (k .under) 1 (k .n) (v .levels) sz
+walk-sizes ws k ns (suc m) i v sz =
+    let placed = place-sizes (k .tables .widths) ns (k .under) (v .expect) (field ws (v .tag) 0) i (v .levels) sz in
+    walk-sizes ws k ns m (suc i) (passed ws k i v) placed
+
+-- the label at a place; 0, that of the first leaf, where the place is no tag of the book
+unfoldable pub watched-label : List ℕ → (place : ℕ) → ℕ
+watched-label ws y = cond (ltb y (word-at ws 4)) (field ws y 0) 0
+
+unfoldable pub watched-numbers : List ℕ → (place : ℕ) → List ℕ
+watched-numbers ws y = ancestor-numbers (shape-of ws .tables .widths) (pred (word-at ws 3)) (watched-label ws y) 0 (replicate 24 0)
+
+-- the sizes of the ancestors of a place, over sizes from before
+unfoldable pub sizes-at : List ℕ → (place : ℕ) → (sizes : List ℕ) → List ℕ
+sizes-at ws y sz = walk-sizes ws (shape-of ws) (watched-numbers ws y) (word-at ws 4) 0 (start ws) sz
