@@ -162,7 +162,7 @@ module _ {st : Store} (h : Sound st) (x : ℕ) (l : x < count st) where
       }
 
   -- a begin's mate closes it
-  closed-at : (a : At st x) → Begins (st .facts) (a .before) x (a .behind) → Closed (st .facts) x x (drop (suc (place-of st x)) (row st))
+  pub closed-at : (a : At st x) → Begins (st .facts) (a .before) x (a .behind) → Closed (st .facts) x x (drop (suc (place-of st x)) (row st))
   closed-at a s =
       let j = suc (place-of st x) in
       closed (st .facts) x (is-tag h x l) (drop j (row st)) x (λ y m. is-tag h y (row-below h y (member-of-drop y j (row st) m))) (bottom refl) (rw (s .next) at (a .back))

@@ -5,5 +5,3 @@ pub mod LetterKinds
 pub mod Words
 pub mod Loads
 pub mod Parses
-pub mod Digits
-pub mod Writes

@@ -1,9 +1,9 @@
 -- What the functions of this crate ensure and require, by parts that have names. Assumes nothing: these are definitions.
 use mathlib.Core.Path.{_≡_}
 use mathlib.Core.Bool.{Bool, true}
-use mathlib.Core.List.{List, _++_, map}
-use Prim.Native.Nat.{ℕ, _+_, _≤_}
-use lib.ListN.{length, take, drop}
+use mathlib.Core.List.{List, map}
+use Prim.Native.Nat.{ℕ}
+use lib.ListN.{length, take}
 use Rattle.console.specs.Line.{Parsed, all-letters, letter-kind}
 use Rattle.console.specs.declared.Command.{Command}
 
@@ -16,12 +16,3 @@ pub record Lettered (field kinds : List ℕ) (t : Bool) : Type 0 where
 pub record Gives (p : Parsed) (c : Command) (kinds : List ℕ) : Type 0 where
   pub command : c ≡ p .command
   pub written : take (length (p .kinds)) kinds ≡ p .kinds
-
--- bytes written at a place, all else as it was, and the place behind them
-pub record Written (out : List ℕ) (at : ℕ) (bytes after : List ℕ) (e : ℕ) : Type 0 where
-  pub text : after ≡ take at out ++ (bytes ++ drop (at + length bytes) out)
-  pub behind : e ≡ at + length bytes
-
--- room for any line of a reply
-pub record Room (at : ℕ) (out : List ℕ) : Type 0 where
-  pub fits : at + 64 ≤ length out

@@ -18,8 +18,9 @@ use Rattle.calls.specs.Words.{read, in-front}
 use Rattle.calls.specs.Replies.{on-store, refusal-over, store-or, said, written, list-outcome, load-words, list-refused, list-reply, list-tags, list-labels}
 use Rattle.tree.specs.Specimens.{same}
 use Rattle.console.specs.Line.{Parsed, unknown, plain, parsed, fields, number-of, place-of, all-letters, letter-kind, load-of, insert-of, mark-of, command-of, line-limit, load-word, list-word, element-word, text-word, mark-word}
-use Rattle.console.specs.Text.{reply-line, tag-lines, end-line}
-use Rattle.console.specs.Post.{Gives, Written}
+use Rattle.reply_text.specs.Text.{reply-line, tag-lines, end-line}
+use Rattle.console.specs.Post.{Gives}
+use Rattle.reply_text.specs.Post.{Written}
 use Rattle.console.specs.declared.Command.{Command}
 use Rattle.console.specs.declared.Command.the-variants.{Load, List as List-all}
 use Rattle.interpreter.specs.Room.{out-size, Listing-room}

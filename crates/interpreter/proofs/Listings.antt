@@ -6,10 +6,10 @@ use native.Mathlib.Numerals.{add-one}
 use native.Mathlib.Omega.{arith}
 use lib.ListN.{length, getD, take, length-append}
 use Rattle.store_types.specs.Limits.{word-limit}
-use Rattle.console.specs.Text.{decimal, spaced, tag-line, tag-lines}
-use Rattle.console.specs.Post.{Written, Room}
-use Rattle.console.proofs.Digits.{decimal-short}
-use Rattle.console.proofs.Writes.{writes-both}
+use Rattle.reply_text.specs.Text.{decimal, spaced, tag-line, tag-lines}
+use Rattle.reply_text.specs.Post.{Written, Room}
+use Rattle.reply_text.proofs.Digits.{decimal-short}
+use Rattle.reply_text.proofs.Writes.{writes-both}
 use Rattle.interpreter.specs.Room.{Listing-room}
 
 pub tag-line-short : (x l : ℕ) → x < word-limit → l < word-limit → length (tag-line x l) ≤ 22

@@ -18,8 +18,8 @@ use Rattle.calls.specs.Listing.{is-listed, listed-of, listed-tags, listed-label
 use Rattle.calls.specs.Words.{header, tag-record, tag-records, words-of, field, follow, read-fact, label-field, read-book, read-store, starts-with, read, in-front}
 use Rattle.calls.specs.Replies.{on-store, refusal-over, store-or, said, written, load-outcome, load-reply, load-words, insert-outcome, insert-refused, insert-reply, insert-words, mark-outcome, mark-reply, mark-words, load-numbers, insert-numbers, mark-numbers}
 use Rattle.console.specs.Line.{with-first, fields, is-digit, all-digits, value-from, well-begun, number-of, place-of, is-letter, all-letters, letter-kind, load-of, insert-of, mark-of, command-of, parsed}
-use Rattle.console.specs.Text.{decimal-from, decimal, spaced, reply-line, tag-line, tag-lines, end-line, unknown-line}
-use Rattle.console.specs.Specimens.{bytes}
+use Rattle.reply_text.specs.Text.{decimal-from, decimal, spaced, reply-line, tag-line, tag-lines, end-line, unknown-line}
+use Rattle.reply_text.specs.Specimens.{bytes}
 use Rattle.line_reader.specs.Lines.{lines}
 use Rattle.interpreter.specs.Answer.{load-text, insert-text, mark-text, listing, list-text, command-text, command-words, line-text, line-words}
 use Rattle.interpreter.specs.Session.{texts}

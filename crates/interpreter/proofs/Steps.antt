@@ -7,7 +7,7 @@ use native.Mathlib.Omega.{arith}
 use lib.Dec.{eqb}
 use lib.ListN.{length, take, drop, length-append, length-drop, length-take}
 use lib.Seq.{drop-drop}
-use Rattle.console.specs.Post.{Written}
+use Rattle.reply_text.specs.Post.{Written}
 use Rattle.line_reader.specs.Gather.{stretch, has-feed, Gathers}
 use Rattle.line_reader.specs.Reads.{last-line, in-hand}
 use Rattle.line_reader.proofs.Gathering.{take-within}

@@ -8,7 +8,7 @@ use Rattle.store_types.specs.Limits.{no-tag}
 use Rattle.calls.specs.Listing.{list-refusal, listed-tags, listed-labels}
 use Rattle.calls.specs.Replies.{refusal-over, said, load-reply, load-numbers, load-words, insert-reply, insert-numbers, insert-words, mark-reply, mark-numbers, mark-words}
 use Rattle.console.specs.Line.{parsed}
-use Rattle.console.specs.Text.{reply-line, tag-lines, end-line, unknown-line}
+use Rattle.reply_text.specs.Text.{reply-line, tag-lines, end-line, unknown-line}
 use Rattle.console.specs.declared.Command.{Command}
 use Rattle.console.specs.declared.Command.the-variants.{Load, Insert, Mark, List as List-all, Unknown}
 

@@ -5,7 +5,7 @@ use mathlib.Core.Bool.{cond}
 use mathlib.Core.List.{List, [], _∷_, _++_}
 use Prim.Native.Nat.{ℕ, suc, _+_}
 use lib.ListN.{length, take, drop}
-use Rattle.console.specs.Post.{Written}
+use Rattle.reply_text.specs.Post.{Written}
 use Rattle.line_reader.specs.Gather.{stretch, has-feed}
 use Rattle.line_reader.specs.Reads.{last-line, in-hand}
 use Rattle.interpreter.specs.Answer.{line-text, line-words}

@@ -2,7 +2,7 @@
 ghost use mathlib.Core.Path.{_≡_};
 ghost use Prim.Native.Nat.{_≤_};
 ghost use lib.ListN.{length};
-ghost use Rattle.console.specs.Post.{Written, Room};
+ghost use Rattle.reply_text.specs.Post.{Written, Room};
 ghost use Rattle.calls.specs.Replies.{load-words, insert-words, mark-words};
 ghost use Rattle.interpreter.specs.Answer.{load-text, insert-text, mark-text, list-text, line-text, line-words};
 ghost use Rattle.interpreter.specs.Room.{out-size};
@@ -48,7 +48,7 @@ fn list(words: &[u32], out: &mut [u8]) -> usize
     let front = TagId::NONE;
     match store::list(front, words, &mut tags, &mut labels) {
         ListReply::Listed(n) => say::listed(&tags, &labels, n, out),
-        ListReply::Refused(k) => console::no_line(out, 0, k),
+        ListReply::Refused(k) => reply_text::no_line(out, 0, k),
     }
 }
 
@@ -69,6 +69,6 @@ pub fn answer(line: &[u8], words: &mut [u32], out: &mut [u8; 44064]) -> usize
         Command::Insert { kind, place } => insert(kind, place, words, out),
         Command::Mark(tag) => mark(tag, words, out),
         Command::List => list(words, out),
-        Command::Unknown => console::unknown_line(out, 0),
+        Command::Unknown => reply_text::unknown_line(out, 0),
     }
 }

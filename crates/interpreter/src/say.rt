@@ -1,8 +1,8 @@
 // What the calls reply, as text at the front of a lent buffer.
 ghost use mathlib.Core.List.{_++_};
 ghost use lib.ListN.{take};
-ghost use Rattle.console.specs.Text.{reply-line, tag-lines, end-line};
-ghost use Rattle.console.specs.Post.{Written, Room};
+ghost use Rattle.reply_text.specs.Text.{reply-line, tag-lines, end-line};
+ghost use Rattle.reply_text.specs.Post.{Written, Room};
 ghost use Rattle.calls.specs.Replies.{load-numbers, insert-numbers, mark-numbers};
 ghost use Rattle.interpreter.specs.Room.{Listing-room};
 use store_types::InsertReply;
@@ -14,8 +14,8 @@ pub fn loaded(reply: LoadReply, out: &mut [u8]) -> usize
     ensures { λ e. ⌜ Written (now (out .entry)) 0 (reply-line (load-numbers reply)) (now (out .exit)) e ⌝ }
 {
     match reply {
-        LoadReply::Loaded { tags, height } => console::ok_two(out, 0, tags, height),
-        LoadReply::Refused(k) => console::no_line(out, 0, k),
+        LoadReply::Loaded { tags, height } => reply_text::ok_two(out, 0, tags, height),
+        LoadReply::Refused(k) => reply_text::no_line(out, 0, k),
     }
 }
 
@@ -28,8 +28,8 @@ pub fn inserted(reply: InsertReply, out: &mut [u8]) -> usize
             first,
             moved,
             split,
-        } => console::ok_three(out, 0, first.0, moved, split),
-        InsertReply::Refused(k) => console::no_line(out, 0, k),
+        } => reply_text::ok_three(out, 0, first.0, moved, split),
+        InsertReply::Refused(k) => reply_text::no_line(out, 0, k),
     }
 }
 
@@ -38,8 +38,8 @@ pub fn marked(reply: MarkReply, out: &mut [u8]) -> usize
     ensures { λ e. ⌜ Written (now (out .entry)) 0 (reply-line (mark-numbers reply)) (now (out .exit)) e ⌝ }
 {
     match reply {
-        MarkReply::Marked(n) => console::ok_one(out, 0, n),
-        MarkReply::Refused(k) => console::no_line(out, 0, k),
+        MarkReply::Marked(n) => reply_text::ok_one(out, 0, n),
+        MarkReply::Refused(k) => reply_text::no_line(out, 0, k),
     }
 }
 
@@ -52,7 +52,7 @@ fn tag_lines(tags: &[u32], labels: &[u32], count: usize, out: &mut [u8]) -> usiz
     let mut at: usize = 0;
     let mut i: usize = 0;
     while i < count {
-        at = console::tag_line(out, at, tags[i], labels[i]);
+        at = reply_text::tag_line(out, at, tags[i], labels[i]);
         i += 1;
     }
     at
@@ -64,5 +64,5 @@ pub fn listed(found: &[u32], labels: &[u32], count: u32, out: &mut [u8]) -> usiz
     ensures { λ e. ⌜ Written (now (out .entry)) 0 (tag-lines (take count (now (found .entry))) (take count (now (labels .entry))) ++ end-line count) (now (out .exit)) e ⌝ }
 {
     let at = tag_lines(found, labels, count as usize, out);
-    console::end_line(out, at, count)
+    reply_text::end_line(out, at, count)
 }

@@ -2,7 +2,7 @@
 ghost use mathlib.Core.Path.{_≡_};
 ghost use Prim.Native.Nat.{_≤_};
 ghost use lib.ListN.{length, take, drop};
-ghost use Rattle.console.specs.Post.{Written};
+ghost use Rattle.reply_text.specs.Post.{Written};
 ghost use Rattle.line_reader.specs.Reads.{last-line};
 ghost use Rattle.interpreter.specs.Answer.{line-text, line-words};
 ghost use Rattle.interpreter.specs.Session.{texts, words-behind, Steps};

@@ -10,7 +10,7 @@ use lib.ListN.{length, take, drop, take-append-drop, List·getD-eq-default}
 use lib.Seq.{slice, take-length, take-take, length-take-le, length-slice}
 use Rattle.store_types.specs.Limits.{no-tag}
 use Rattle.tree.specs.Row.{member}
-use Rattle.tree_laws.proofs.Rows.{by-test, member-first, member-later, member-append, place-le, place-of-member, getD-place, member-of-drop}
+use Rattle.tree_laws.proofs.Rows.{by-test, member-first, member-later, member-append, place-le, place-of-member, getD-place}
 use Rattle.calls.specs.Kind.{is-begin}
 use Rattle.calls.specs.Store.{Store, fact, row, place-of, next-in}
 use Rattle.calls.specs.Held.{encloses}
@@ -18,8 +18,8 @@ use Rattle.calls.specs.Listing.{is-listed, listed-of, listed-tags}
 use Rattle.calls.specs.Words.{Says, word-at, field}
 use Rattle.calls.specs.Replies.{refusal-over, said}
 use Rattle.calls_laws.proofs.Tests.{Sound}
-use Rattle.calls_laws.proofs.Nesting.{Begins, Step, begins, ends, stands, bottom, Closed, closed}
-use Rattle.calls_laws.proofs.Sections.{place-first-part, place-middle-part, place-last-part, distinct-row, row-below, in-row, is-tag, At, pass-at, mate-fits}
+use Rattle.calls_laws.proofs.Nesting.{Step, begins, ends, stands}
+use Rattle.calls_laws.proofs.Sections.{place-first-part, place-middle-part, place-last-part, distinct-row, in-row, At, pass-at, closed-at, mate-fits}
 use Rattle.calls_laws.proofs.WordSteps.{header-said}
 use Rattle.store_refuse.specs.Needs.{Tag-said}
 use Rattle.store_list.specs.Needs.{Span-said, unmarked, unmarked-between, inside-refusal, first-inside, stop-of}
@@ -59,17 +59,11 @@ parts p q l o =
 
 -- A BEGIN: its mate stands behind it, and what it encloses stands between them
 module _ {st : Store} (h : Sound st) (x : ℕ) (ok : Begin-accepted x st) where
-  all-closed : (a : At st x) → Begins (st .facts) (a .before) x (a .behind) → Closed (st .facts) x x (drop (suc (place-of st x)) (row st))
-  all-closed a s =
-      let j = suc (place-of st x) in
-      closed (st .facts) x (is-tag h x (ok .tag)) (drop j (row st)) x (λ y m. is-tag h y (row-below h y (member-of-drop y j (row st) m))) (bottom refl)
-      (rw (s .next) at (a .back))
-
   by-step : (a : At st x) → Step (st .facts) no-tag (a .before) x (a .behind) → place-of st x < place-of st (fact st x .mate)
   unfolding is-begin
   by-step a (begins s) =
       let m = fact st x .mate in
-      let c = all-closed a s in
+      let c = closed-at h x (ok .tag) a s in
       let j = suc (place-of st x) in
       let there : member m (drop j (row st)) ≡ true =
       rw (c .whole, member-append m (c .inside) (m ∷ c .behind), member-first m (c .behind)) (or-true (member m (c .inside))) in

@@ -1,7 +1,7 @@
 -- The labels of a load, written along the row of its blank image, make the words of the loaded store. Assumes nothing.
 use mathlib.Core.Path.{_≡_, refl, ap, sym, _∙_}
 use mathlib.Core.List.{List, [], _++_, map, append-nil}
-use Prim.Native.Nat.{ℕ, suc, pred, _+_, _^_, _≤_, _<_}
+use Prim.Native.Nat.{ℕ, suc, _+_, _^_, _≤_, _<_}
 use native.Mathlib.Nat.{zero-add, one-mul, le-of-eq}
 use native.Mathlib.Omega.{arith}
 use borrow.Author.Tests.{ltb-true, ltb-false}
@@ -10,7 +10,7 @@ use lib.ListN.{length, getD, take, drop, replicate, length-replicate, drop-of-le
 use lib.Seq.{take-all}
 use Rattle.store_types.specs.Limits.{no-tag, word-limit, most-tags, label-limit}
 use Rattle.tree.specs.Row.{numbers}
-use Rattle.tree.specs.Forest.{Forest, nil, leaf, node, labels, spread}
+use Rattle.tree.specs.Forest.{labels, spread}
 use Rattle.tree.specs.Book.{base, power-width, load-under, loaded}
 use Rattle.tree.specs.Promise.{Labels-rise}
 use Rattle.tree_laws.proofs.Rows.{by-test, length-numbers, getD-numbers}
@@ -26,18 +26,11 @@ use Rattle.edit_model.specs.Image.{image-words, image-of, with-labels}
 use Rattle.edit_model.specs.Relabel.{along, relabel, cut}
 use Rattle.edit_model.proofs.Image.{image-is}
 use Rattle.edit_model.proofs.Along.{follow-at, along-at}
+use Rattle.edit_model.proofs.Applied.{labels-widths}
 use Rattle.edit_model.proofs.Relabels.{relabel-words, cut-all}
 use Rattle.renumber.specs.Needs.{Row-there, trees-numbered}
 use Rattle.store_load.specs.Labels.{labels-written}
 use Rattle.store_load.proofs.Blank.{blank, proper-blank}
-
--- labels go by the widths up to their trees' height alone
-pub labels-by : (f : Forest) (w v : ℕ → ℕ) (j a : ℕ) → ((k : ℕ) → k ≤ j → w k ≡ v k) → labels f w j a ≡ labels f v j a
-unfolding labels
-labels-by nil w v j a same = refl
-labels-by (leaf x f) w v j a same = rw (same j (omega arith), labels-by f w v j (a + v j) same)
-labels-by (node g f) w v j a same =
-    rw (same j (omega arith), labels-by f w v j (a + v j) same, labels-by g w v (pred j) a (λ k l. same k (omega arith)))
 
 -- THE ROW of a blank image is 0, 1, ..
 module _ (s r h b : ℕ) (cs rest : List ℕ) where
@@ -88,7 +81,7 @@ module _ (s r n : ℕ) (s-least : 2 ≤ s) (r-least : 2 ≤ r) where
   unfolding power-width
   labels-cut fits =
       let u = load-under r n in
-      ap (map cut) (labels-by (spread u r (numbers 0 n)) _ (power-width s r) u 0 (λ k l. table-at 1 (base s r) u k l ∙ one-mul (base s r ^ k)))
+      ap (map cut) (labels-widths (spread u r (numbers 0 n)) _ (power-width s r) u 0 (λ k l. table-at 1 (base s r) u k l ∙ one-mul (base s r ^ k)))
       ∙ cut-all own-labels (below-limit fits)
 
 -- WRITTEN along the row

@@ -16,13 +16,11 @@ use Rattle.calls.specs.Store.{Store, fact, count}
 use Rattle.calls.specs.Mark.{section-refusal}
 use Rattle.calls.specs.Load.{words-for}
 use Rattle.calls.specs.Words.{Says, word-at, field, read}
-use Rattle.calls.specs.Replies.{on-store, refusal-over, store-or, said}
-use Rattle.calls.specs.Promise.{Reader-right}
+use Rattle.calls.specs.Replies.{on-store, refusal-over, said}
 use Rattle.calls_laws.proofs.Tests.{Sound, facts-of}
 use Rattle.calls_laws.proofs.Fields.{Tag-says, tag-says}
 use Rattle.calls_laws.proofs.Sections.{mate-fits}
-use Rattle.calls_laws.proofs.Reader.{reader-right}
-use Rattle.calls_laws.proofs.WordSteps.{words-fit, refusal-said, header-said}
+use Rattle.calls_laws.proofs.WordSteps.{words-fit, refusal-said, refusal-passed, header-said}
 use Rattle.walk_model.specs.Walk.{words-pass}
 use Rattle.walk_model.proofs.Decides.{passes-says, fails-none}
 use Rattle.words.specs.Fields.{Room}
@@ -44,20 +42,12 @@ module _ (ws : List ℕ) (f : Store → ℕ) where
   pub refused-passing : word-at ws 6 < word-limit → words-pass ws ≡ true → refusal-over ws f ≡ f (said ws)
   refused-passing fits e = refused-said (passes-says ws fits e)
 
-  -- words that are not refused say their store
+  -- words that are not refused say their store, and its own tests pass
   pub accepted-says : refusal-over ws f ≡ 0 → Says ws (said ws)
-  unfolding refusal-over on-store Reader-right said store-or
-  accepted-says e = by-test (ltb (length ws) header-words) (λ t. absurd (short t)) (λ t. go (read ws) refl (rw t at e))
-    where
-      short : ltb (length ws) header-words ≡ true → ⊥
-      short t = let z : _≡_ {A = ℕ} 1 0 = rw t at e in omega arith
-
-      go : (o : Option Store) → read ws ≡ o → on-store o f ≡ 0 → Says ws (store-or (read ws))
-      go none q z = absurd (omega arith)
-      go (some st) q z = rw q (reader-right ws st .0 q)
+  accepted-says e = refusal-passed ws f e .0
 
   pub accepted-store : refusal-over ws f ≡ 0 → f (said ws) ≡ 0
-  accepted-store e = sym (refused-said (accepted-says e)) ∙ e
+  accepted-store e = refusal-passed ws f e .1
 
 -- and that is sound
 pub sound-said : (ws : List ℕ) → Says ws (said ws) → Sound (said ws)

@@ -14,18 +14,18 @@ use Rattle.tree_laws.proofs.Rows.{fails}
 use Rattle.calls.specs.Words.{field}
 use Rattle.walk_model.specs.Walk.{marked-word, inner-fits, end-fits, kind-fits, open-after}
 use Rattle.walk_tags.proofs.PickLaws.{test-same}
-use Rattle.walk_tags.specs.Needs.{Reads, Beside, Kind-word, is-kind, up-fits, mate-fits, mark-fits, record-fits, marks-at}
+use Rattle.walk_tags.specs.Needs.{Reads, Beside, Kind-word, is-kind-word, up-fits, mate-fits, mark-fits, record-fits, marks-at}
 
 -- THE KIND WORD
 module _ (c : ℕ) where
-  pub kind-given : {t : Bool} → t ≡ is-kind c → not t ≡ false → Kind-word c
-  unfolding is-kind
+  pub kind-given : {t : Bool} → t ≡ is-kind-word c → not t ≡ false → Kind-word c
+  unfolding is-kind-word
   kind-given e p =
       let all = simp and-eq-true-iff at (sym e ∙ not-false _ p) in
       record { small = ltb-true c 32 (all .0); low = leb-true 1 (c % 16) (all .1 .0); high = leb-true (c % 16) 3 (all .1 .1) }
 
-  kind-said : Kind-word c → is-kind c ≡ true
-  unfolding is-kind
+  kind-said : Kind-word c → is-kind-word c ≡ true
+  unfolding is-kind-word
   kind-said k = rw (lt-ltb c 32 (k .small), le-leb 1 (c % 16) (k .low), le-leb (c % 16) 3 (k .high))
 
   kind-of-plain : c < 32 → (k : ℕ) → c % 16 ≡ k → 1 ≤ k → k ≤ 3 → Kind-word c
@@ -42,7 +42,7 @@ module _ (ws : List ℕ) (n o x c : ℕ) where
       (λ no-begin. by-cases (ℕ-discrete (c % 16) 2) (λ end. kind-of-plain c (omega arith) 2 end (omega arith) (omega arith))
       (λ no-end. absurd (false≢true (rw (lt-leb 32 c (omega arith), ne-eqb (c % 16) 3 no-text, ne-eqb (c % 16) 1 no-begin, ne-eqb (c % 16) 2 no-end) at e))))))
 
-  pub kind-unfit : {t : Bool} → t ≡ is-kind c → not t ≡ true → false ≡ kind-fits ws n o x c
+  pub kind-unfit : {t : Bool} → t ≡ is-kind-word c → not t ≡ true → false ≡ kind-fits ws n o x c
   kind-unfit e p =
       sym (fails (kind-fits ws n o x c) (λ fits. true≢false (sym (kind-said c (kind-fitting fits)) ∙ sym e ∙ not-true _ p)))
 

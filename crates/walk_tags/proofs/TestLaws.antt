@@ -8,21 +8,21 @@ use lib.Dec.{leb, eqb}
 use Rattle.store_types.specs.Limits.{word-limit}
 use Rattle.calls.specs.Words.{field}
 use Rattle.walk_model.specs.Walk.{kind-fits}
-use Rattle.walk_tags.specs.Needs.{Kind-word, is-kind, up-fits, mate-fits, mark-fits, record-fits, fits-at}
+use Rattle.walk_tags.specs.Needs.{Kind-word, is-kind-word, up-fits, mate-fits, mark-fits, record-fits, fits-at}
 use Rattle.walk_tags.proofs.PickLaws.{mark-bit, tag-bit}
 
 -- THE KIND WORD
 module _ (c : ℕ) where
-  pub kind-large : 32 ≤ c → false ≡ is-kind c
-  unfolding is-kind
+  pub kind-large : 32 ≤ c → false ≡ is-kind-word c
+  unfolding is-kind-word
   kind-large p = rw (le-ltb c 32 p)
 
-  pub kind-high : c < 32 → 1 ≤ c % 16 → leb (c % 16) 3 ≡ is-kind c
-  unfolding is-kind
+  pub kind-high : c < 32 → 1 ≤ c % 16 → leb (c % 16) 3 ≡ is-kind-word c
+  unfolding is-kind-word
   kind-high p q = rw (lt-ltb c 32 p, le-leb 1 (c % 16) q)
 
-  pub kind-low : c < 32 → c % 16 < 1 → leb 1 (c % 16) ≡ is-kind c
-  unfolding is-kind
+  pub kind-low : c < 32 → c % 16 < 1 → leb 1 (c % 16) ≡ is-kind-word c
+  unfolding is-kind-word
   kind-low p q = rw (lt-ltb c 32 p, lt-leb 1 (c % 16) q)
 
 -- THE UP: u is it, v is that of p, a is what u is to be, and m says whether it is

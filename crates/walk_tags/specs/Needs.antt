@@ -27,8 +27,8 @@ pub record Beside (ws : List ℕ) (n x p : ℕ) : Type 0 where
   pub beside : p < n
 
 -- THE KIND WORD of a begin, end or text, with or without the mark
-unfoldable pub is-kind : (c : ℕ) → Bool
-is-kind c = ltb c 32 && (leb 1 (c % 16) && leb (c % 16) 3)
+unfoldable pub is-kind-word : (c : ℕ) → Bool
+is-kind-word c = ltb c 32 && (leb 1 (c % 16) && leb (c % 16) 3)
 
 pub record Kind-word (c : ℕ) : Type 0 where
   pub small : c < 32

@@ -7,7 +7,7 @@ ghost use lib.Dec.{eqb};
 ghost use Rattle.store_types.specs.Limits.{no-tag};
 ghost use Rattle.calls.specs.Words.{field};
 ghost use Rattle.walk_model.specs.Walk.{kind-fits, open-after as open-behind};
-ghost use Rattle.walk_tags.specs.Needs.{Reads, Kind-word, Beside, is-kind, up-fits, mate-fits, mark-fits, record-fits, fits-at, marks-at};
+ghost use Rattle.walk_tags.specs.Needs.{Reads, Kind-word, Beside, is-kind-word, up-fits, mate-fits, mark-fits, record-fits, fits-at, marks-at};
 use store_types::TagId;
 
 fn same(a: TagId, b: TagId) -> bool
@@ -50,7 +50,7 @@ fn beside(x: TagId, parent: TagId) -> TagId
 
 // Whether a word is the kind of a begin, end or text, with or without the mark.
 fn is_kind(kind: u32) -> bool
-    ensures { λ t. ⌜ t ≡ is-kind kind ⌝ }
+    ensures { λ t. ⌜ t ≡ is-kind-word kind ⌝ }
 {
     if 32 <= kind {
         return false;

@@ -1,7 +1,7 @@
 -- `interpreter::say::listed` meets its contract. Assumes nothing.
 use native.Mathlib.Omega.{arith}
 use borrow.Author.Needs.{needs}
-use Rattle.console.proofs.Writes.{writes-both}
+use Rattle.reply_text.proofs.Writes.{writes-both}
 use Rattle.interpreter.proofs.say.listed.Statement.{statement}
 use Rattle.interpreter.proofs.say.listed.Tie as tie
 
