@@ -130,24 +130,66 @@ fn list(begin: TagId, words: &[u32], tags: &mut [u32], labels: &mut [u32]) {
     }
 }
 
-// The printed case of document 01, with the pairs of specimens H, I and J held before it.
+// Specimens H, I and J: pairs held before the printed case of document 01.
+fn holds(words: &mut [u32]) {
+    load(2, 2, b"\x01\x01\x02\x01\x02\x02", words);
+    hold(TagId(3), words);
+    hold(TagId(1), words);
+    hold(TagId(0), words);
+}
+
+// Its two insertions, and what the pairs then get.
+fn insertions(words: &mut [u32]) {
+    insert(3, TagId(2), words);
+    ask(7, 3, 4, 6, 6, words);
+    ask(7, 0, 0, 7, 6, words);
+    insert(3, TagId(2), words);
+    ask(7, 1, 1, 3, 6, words);
+    ask(7, 0, 0, 7, 6, words);
+}
+
+// The printed case of document 01.
 fn printed() {
     let mut words = [0u32; 56];
     let mut tags = [0u32; 8];
     let mut labels = [0u32; 8];
-    load(2, 2, b"\x01\x01\x02\x01\x02\x02", &mut words);
-    hold(TagId(3), &words);
-    hold(TagId(1), &words);
-    hold(TagId(0), &words);
-    insert(3, TagId(2), &mut words);
-    ask(7, 3, 4, 6, 6, &words);
-    ask(7, 0, 0, 7, 6, &words);
-    insert(3, TagId(2), &mut words);
-    ask(7, 1, 1, 3, 6, &words);
-    ask(7, 0, 0, 7, 6, &words);
+    holds(&mut words);
+    insertions(&mut words);
     list(TagId::NONE, &words, &mut tags, &mut labels);
     list(TagId(0), &words, &mut tags, &mut labels);
     insert(3, TagId::NONE, &mut words);
+}
+
+// Refusals of words that say no store, and of loads; the last load is accepted.
+fn loads(words: &mut [u32]) {
+    mark(TagId::NONE, words);
+    load(1, 2, b"", words);
+    load(2, 2, b"\x03\x03\x03\x03", words);
+    load(2, 2, b"\x01\x04", words);
+    load(2, 2, b"\x01\x03", words);
+    load(2, 2, b"\x01\x02", words);
+}
+
+// Of insertions, mark and hold, on one element.
+fn tags_refused(words: &mut [u32]) {
+    insert(2, TagId(9), words);
+    insert(3, TagId(2), words);
+    insert(1, TagId(0), words);
+    mark(TagId(1), words);
+    hold(TagId(1), words);
+    insert(3, TagId(0), words);
+}
+
+// Of pairs, and of tags that are marked.
+fn marks(words: &mut [u32]) {
+    ask(8, 0, 0, 2, 2, words);
+    ask(7, 0, 0, 2, 2, words);
+    mark(TagId(2), words);
+    ask(7, 0, 0, 2, 2, words);
+    mark(TagId(2), words);
+    mark(TagId(0), words);
+    ask(7, 0, 0, 2, 1, words);
+    hold(TagId(1), words);
 }
 
 // Refusals, each at least once, in a store for 3 tags.
@@ -156,28 +198,11 @@ fn refusals() {
     let mut tags = [0u32; 2];
     let mut labels = [0u32; 3];
     hold(TagId(0), &words[..7]);
-    mark(TagId::NONE, &mut words);
-    load(1, 2, b"", &mut words);
-    load(2, 2, b"\x03\x03\x03\x03", &mut words);
-    load(2, 2, b"\x01\x04", &mut words);
-    load(2, 2, b"\x01\x03", &mut words);
-    load(2, 2, b"\x01\x02", &mut words);
-    insert(2, TagId(9), &mut words);
-    insert(3, TagId(2), &mut words);
-    insert(1, TagId(0), &mut words);
-    mark(TagId(1), &mut words);
-    hold(TagId(1), &words);
-    insert(3, TagId(0), &mut words);
+    loads(&mut words);
+    tags_refused(&mut words);
     list(TagId(2), &words, &mut tags, &mut labels);
     list(TagId::NONE, &words, &mut tags, &mut labels);
-    ask(8, 0, 0, 2, 2, &words);
-    ask(7, 0, 0, 2, 2, &words);
-    mark(TagId(2), &mut words);
-    ask(7, 0, 0, 2, 2, &words);
-    mark(TagId(2), &mut words);
-    mark(TagId(0), &mut words);
-    ask(7, 0, 0, 2, 1, &words);
-    hold(TagId(1), &words);
+    marks(&mut words);
 }
 
 // Specimens K and L: labels run out.
