@@ -1,2 +1,3 @@
+pub mod KindBits
 pub mod KindsSeen
 pub mod Height

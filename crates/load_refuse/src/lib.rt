@@ -1,6 +1,8 @@
 // What load refuses before it writes (document 01, "Calls and their replies"), and the height that it takes.
 ghost use mathlib.Core.Path.{_≡_};
+ghost use mathlib.Core.Bool.{true, cond};
 ghost use Prim.Native.Nat.{_<_, _≤_};
+ghost use lib.Dec.{eqb};
 ghost use lib.ListN.{length, drop};
 ghost use Rattle.tree.specs.Book.{load-under as least-under};
 ghost use Rattle.calls.specs.Kind.{is-kind};
@@ -28,18 +30,21 @@ fn rest_refused(kinds: &[u8], from: usize) -> u32
     5
 }
 
+// 1 for an end, 0 for a begin or text: a number to reckon with, since no processor can foretell the kinds of a book.
+fn ends(kind: u8) -> usize
+    requires { ⌜ is-kind kind ≡ true ⌝ }
+    ensures { λ e. ⌜ e ≡ cond (eqb kind 2) 1 0 ⌝ }
+{
+    kind_pick::at_end(kind as u32, 1, 0) as usize
+}
+
 // How many begins are open behind a kind.
 fn depth_after(depth: usize, kind: u8) -> usize
-    requires { ⌜ (depth < 9223372036854775808) × (kind ≡ 2 → 1 ≤ depth) ⌝ }
+    requires { ⌜ (depth < 9223372036854775808) × (is-kind kind ≡ true) × (cond (eqb kind 2) 1 0 ≤ depth) ⌝ }
     ensures { λ d. ⌜ d ≡ depth-behind depth kind ⌝ }
 {
-    if kind == 1 {
-        return depth + 1;
-    }
-    if kind == 2 {
-        return depth - 1;
-    }
-    depth
+    let begins = kind_pick::at_begin(kind as u32, 1, 0) as usize;
+    depth + begins - ends(kind)
 }
 
 // 4 and 5: a kind that is none, kinds that do not nest; 0 where there is neither.
@@ -53,8 +58,8 @@ fn kinds_refused(kinds: &[u8]) -> u32
         if !is_a_kind(kind) {
             return 4;
         }
-        if kind == 2 && depth == 0 {
-            // 4 comes before 5, so the kinds that are left decide.
+        if depth < ends(kind) {
+            // An end that closes none. 4 comes before 5, so the kinds that are left decide.
             return rest_refused(kinds, i + 1);
         }
         depth = depth_after(depth, kind);

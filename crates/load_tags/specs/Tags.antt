@@ -1,4 +1,4 @@
--- The records of new tags before they have labels. Follows the code of src/tags.rt. Assumes nothing: these are definitions.
+-- The records of new tags before they have labels. Follows the code of src/lib.rt. Assumes nothing: these are definitions.
 use mathlib.Core.Path.{_≡_}
 use mathlib.Core.Bool.{true, cond}
 use mathlib.Core.List.{List, [], map}

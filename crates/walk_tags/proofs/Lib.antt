@@ -1,3 +1,3 @@
-pub mod PickLaws
+pub mod BitLaws
 pub mod TagLaws
 pub mod TestLaws

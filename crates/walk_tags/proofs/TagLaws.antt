@@ -13,8 +13,9 @@ use Rattle.store_types.specs.Limits.{no-tag}
 use Rattle.tree_laws.proofs.Rows.{fails}
 use Rattle.calls.specs.Words.{field}
 use Rattle.walk_model.specs.Walk.{marked-word, inner-fits, end-fits, kind-fits, open-after}
-use Rattle.walk_tags.proofs.PickLaws.{test-same}
-use Rattle.walk_tags.specs.Needs.{Reads, Beside, Kind-word, is-kind-word, up-fits, mate-fits, mark-fits, record-fits, marks-at}
+use Rattle.kind_pick.proofs.PickLaws.{test-same}
+use Rattle.kind_pick.specs.Needs.{Kind-word}
+use Rattle.walk_tags.specs.Needs.{Reads, Beside, is-kind-word, up-fits, mate-fits, mark-fits, record-fits, marks-at}
 
 -- THE KIND WORD
 module _ (c : ℕ) where

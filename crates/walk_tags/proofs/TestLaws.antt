@@ -8,8 +8,9 @@ use lib.Dec.{leb, eqb}
 use Rattle.store_types.specs.Limits.{word-limit}
 use Rattle.calls.specs.Words.{field}
 use Rattle.walk_model.specs.Walk.{kind-fits}
-use Rattle.walk_tags.specs.Needs.{Kind-word, is-kind-word, up-fits, mate-fits, mark-fits, record-fits, fits-at}
-use Rattle.walk_tags.proofs.PickLaws.{mark-bit, tag-bit}
+use Rattle.kind_pick.specs.Needs.{Kind-word}
+use Rattle.walk_tags.specs.Needs.{is-kind-word, up-fits, mate-fits, mark-fits, record-fits, fits-at}
+use Rattle.walk_tags.proofs.BitLaws.{mark-bit, tag-bit}
 
 -- THE KIND WORD
 module _ (c : ℕ) where

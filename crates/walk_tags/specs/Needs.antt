@@ -30,11 +30,6 @@ pub record Beside (ws : List ℕ) (n x p : ℕ) : Type 0 where
 unfoldable pub is-kind-word : (c : ℕ) → Bool
 is-kind-word c = ltb c 32 && (leb 1 (c % 16) && leb (c % 16) 3)
 
-pub record Kind-word (c : ℕ) : Type 0 where
-  pub small : c < 32
-  pub low : 1 ≤ c % 16
-  pub high : c % 16 ≤ 3
-
 -- ONE TAG x of kind word c, where o is the open begin or no tag, and p is o, or x where that is no tag
 unfoldable pub up-fits : List ℕ → (n o x p c : ℕ) → Bool
 up-fits ws n o x p c =

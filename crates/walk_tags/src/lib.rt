@@ -7,7 +7,8 @@ ghost use lib.Dec.{eqb};
 ghost use Rattle.store_types.specs.Limits.{no-tag};
 ghost use Rattle.calls.specs.Words.{field};
 ghost use Rattle.walk_model.specs.Walk.{kind-fits, open-after as open-behind};
-ghost use Rattle.walk_tags.specs.Needs.{Reads, Kind-word, Beside, is-kind-word, up-fits, mate-fits, mark-fits, record-fits, fits-at, marks-at};
+ghost use Rattle.kind_pick.specs.Needs.{Kind-word};
+ghost use Rattle.walk_tags.specs.Needs.{Reads, Beside, is-kind-word, up-fits, mate-fits, mark-fits, record-fits, fits-at, marks-at};
 use store_types::TagId;
 
 fn same(a: TagId, b: TagId) -> bool
@@ -16,36 +17,12 @@ fn same(a: TagId, b: TagId) -> bool
     a.0 == b.0
 }
 
-// a where t is 1, b where it is 0: a sum of products, since an `if` becomes a branch.
-fn pick(t: u32, a: u32, b: u32) -> u32
-    requires { ⌜ t ≤ 1 ⌝ }
-    ensures { λ v. ⌜ v ≡ cond (eqb t 1) a b ⌝ }
-{
-    t * a + (1 - t) * b
-}
-
-// a for an end, b for a begin or text.
-fn at_end(kind: u32, a: u32, b: u32) -> u32
-    requires { ⌜ Kind-word kind ⌝ }
-    ensures { λ v. ⌜ v ≡ cond (eqb (kind % 16) 2) a b ⌝ }
-{
-    pick(1 - kind % 2, a, b)
-}
-
-// a for a begin, b for an end or text.
-fn at_begin(kind: u32, a: u32, b: u32) -> u32
-    requires { ⌜ Kind-word kind ⌝ }
-    ensures { λ v. ⌜ v ≡ cond (eqb (kind % 16) 1) a b ⌝ }
-{
-    pick(1 - kind / 2 % 2, a, b)
-}
-
 // The tag whose record is looked at beside x: the open begin, or x itself where none is open.
 fn beside(x: TagId, parent: TagId) -> TagId
     ensures { λ p. ⌜ p .0 ≡ cond (eqb (parent .0) no-tag) (x .0) (parent .0) ⌝ }
 {
     let none = (parent.0 as u64 + 1) / 4294967296;
-    TagId(pick(none as u32, x.0, parent.0))
+    TagId(kind_pick::pick(none as u32, x.0, parent.0))
 }
 
 // Whether a word is the kind of a begin, end or text, with or without the mark.
@@ -66,7 +43,7 @@ fn up_fits(words: &[u32], n: u32, x: TagId, parent: TagId, p: TagId, kind: u32) 
 {
     let up = words::up_of(words, x);
     let outer = words::up_of(words, p);
-    let above = TagId(at_end(kind, outer.0, parent.0));
+    let above = TagId(kind_pick::at_end(kind, outer.0, parent.0));
     same(up, above) && (up.0 as u64 + 1) % 4294967296 <= n as u64
 }
 
@@ -77,9 +54,9 @@ fn mate_fits(words: &[u32], n: u32, x: TagId, parent: TagId, p: TagId, kind: u32
 {
     let mate = words::mate_of(words, x);
     let back = words::mate_of(words, p);
-    let first = at_end(kind, parent.0, x.0);
-    let other = TagId(at_begin(kind, mate.0, first));
-    let last = TagId(at_end(kind, back.0, x.0));
+    let first = kind_pick::at_end(kind, parent.0, x.0);
+    let other = TagId(kind_pick::at_begin(kind, mate.0, first));
+    let last = TagId(kind_pick::at_end(kind, back.0, x.0));
     same(mate, other) && same(last, x)
 }
 
@@ -90,7 +67,7 @@ fn mark_fits(kind: u32, around: u32) -> bool
     ensures { λ t. ⌜ t ≡ mark-fits kind around ⌝ }
 {
     let begin = kind - 1;
-    at_end(kind, around, begin) == begin && (1 - kind / 16) * (around / 16) == 0
+    kind_pick::at_end(kind, around, begin) == begin && (1 - kind / 16) * (around / 16) == 0
 }
 
 // A tag's record, of kind word kind, and that of the tag p beside it.
@@ -137,5 +114,5 @@ pub fn open_after(words: &[u32], n: u32, x: TagId, parent: TagId) -> TagId
 {
     let kind = words::kind_of(words, x);
     let up = words::up_of(words, x);
-    TagId(at_begin(kind, x.0, up.0))
+    TagId(kind_pick::at_begin(kind, x.0, up.0))
 }

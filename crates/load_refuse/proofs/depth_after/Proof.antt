@@ -1,27 +1,28 @@
 -- `load_refuse::depth_after` meets its contract. Assumes nothing.
-use borrow.Author.Tests.{eq-eqb, ne-eqb}
-use Rattle.load_refuse.specs.Refusals.{depth-behind}
+use native.Mathlib.Omega.{arith}
 use borrow.Author.Needs.{needs}
+use Rattle.load_refuse.proofs.KindBits.{unmarked, no-mark, depth-sum}
 use Rattle.load_refuse.proofs.depth_after.Statement.{statement}
 use Rattle.load_refuse.proofs.depth_after.Tie as tie
+
+at-begin-requires : tie.Need-at-begin-requires
+at-begin-requires c κs = unmarked _ (c .pre .1)
+
+cast-begins : tie.Need-cast-begins
+cast-begins c = search needs
 
 add-result : tie.Need-add-result
 add-result c = search needs
 
-returns : tie.Need-returns
-unfolding depth-behind
-returns c = rw (eq-eqb _ _ (c .if1 .taken))
+ends-requires : tie.Need-ends-requires
+ends-requires c κs = c .before .pre .1
 
 sub-result : tie.Need-sub-result
-sub-result c = c .before .before .pre .1 (c .if2 .taken)
+sub-result c = rw (c .ends .ensures) (omega arith)
 
-returns-2 : tie.Need-returns-2
-unfolding depth-behind
-returns-2 c = rw (ne-eqb _ _ (c .before .if1 .left), eq-eqb _ _ (c .if2 .taken))
-
-returns-3 : tie.Need-returns-3
-unfolding depth-behind
-returns-3 c = rw (ne-eqb _ _ (c .before .if1 .left), ne-eqb _ _ (c .if2 .left))
+returns : tie.Need-returns
+returns c =
+    rw (c .ends .ensures, c .before .at-begin .ensures, no-mark _ (c .before .before .pre .1)) (depth-sum _ _)
 
 pub depth-after-spec : {M : Type 1} → statement M
-depth-after-spec = tie.close (tie.spec add-result returns sub-result returns-2 returns-3)
+depth-after-spec = tie.close (tie.spec at-begin-requires cast-begins add-result ends-requires sub-result returns)

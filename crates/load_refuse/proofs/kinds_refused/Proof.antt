@@ -2,12 +2,12 @@
 -- begins are open as are counted. Assumes nothing.
 use mathlib.Core.Path.{_≡_, refl, sym, _∙_}
 use mathlib.Core.Bool.{true}
-use mathlib.Core.Logic.{⊎-elim}
 use Prim.Native.Nat.{_-_, _≤_}
-use borrow.Author.Tests.{eq-eqb, ne-eqb, eqb-true, eqb-false, not-true, not-false}
+use borrow.Author.Tests.{eq-eqb, ne-eqb, not-true, not-false}
 use lib.ListN.{length, getD, drop}
 use Rattle.calls.specs.Kind.{is-kind}
 use Rattle.load_refuse.specs.Refusals.{kinds-refusal}
+use Rattle.load_refuse.proofs.KindBits.{end-first, end-closes}
 use Rattle.load_refuse.proofs.KindsSeen.{kinds-stop, kinds-break, kinds-go, kinds-end, depth-most}
 use native.Mathlib.Omega.{arith}
 use Rattle.load_refuse.proofs.kinds_refused.Statement.{statement}
@@ -33,6 +33,13 @@ returns c =
     let l = c .before .before .before .before .loop in
     sym (kinds-stop _ (l .i) (c .before .before .before .loop-test .taken) (l .depth) (sym (c .before .is-a-kind .ensures) ∙ not-true _ (c .if1 .taken))) ∙ l .inv .2
 
+-- the kind is one
+is-one : (c : tie.Else1 Inv-loop μ-loop) → is-kind (getD (c .before .before .before .before .before .before .args .kinds .now) (c .before .before .before .before .loop .i) 0) ≡ true
+is-one c = sym (c .before .is-a-kind .ensures) ∙ not-false _ (c .if1 .left)
+
+ends-requires : tie.Need-ends-requires Inv-loop μ-loop
+ends-requires c κs = is-one c
+
 add-rest-refused : tie.Need-add-rest-refused Inv-loop μ-loop
 add-rest-refused c = omega arith
 
@@ -42,20 +49,11 @@ rest-refused-requires c κs = omega arith
 returns-2 : tie.Need-returns-2 Inv-loop μ-loop
 returns-2 c =
     let l = c .before .before .before .before .before .before .before .loop in
-    let none : l .depth ≡ 0 = eqb-true _ _ (c .before .if3 .taken) in
-    c .rest-refused .ensures ∙ sym (kinds-break _ (l .i) (c .before .before .before .before .before .before .loop-test .taken) (c .before .before .if2 .taken)) ∙ (rw none at (l .inv .2))
-
--- the kind is one, and an end closes a begin
-is-one : (c : tie.Else1 Inv-loop μ-loop) → is-kind (getD (c .before .before .before .before .before .before .args .kinds .now) (c .before .before .before .before .loop .i) 0) ≡ true
-is-one c = sym (c .before .is-a-kind .ensures) ∙ not-false _ (c .if1 .left)
-
-some : (c : tie.Joined2 Inv-loop μ-loop) →
-    getD (c .before .before .before .before .before .before .before .args .kinds .now) (c .before .before .before .before .before .loop .i) 0 ≡ 2 →
-    1 ≤ c .before .before .before .before .before .loop .depth
-some c e = ⊎-elim (λ w. let other : c .before .before .before .before .before .loop .depth ≡ 0 → ⊥ = eqb-false _ _ (w .1 .left) in omega arith) (λ w. absurd (w .left e)) (c .if2 .came)
+    let first = end-first (l .depth) _ (rw (c .before .before .ends .ensures) at (c .before .if2 .taken)) in
+    c .rest-refused .ensures ∙ sym (kinds-break _ (l .i) (c .before .before .before .before .before .before .loop-test .taken) (first .0)) ∙ (rw (first .1) at (l .inv .2))
 
 depth-after-requires : tie.Need-depth-after-requires Inv-loop μ-loop
-depth-after-requires c κs = (omega arith, some c)
+depth-after-requires c κs = (omega arith, is-one (c .before .before), rw (← c .before .ends .ensures) (c .if2 .left))
 
 add-i : tie.Need-add-i Inv-loop μ-loop
 add-i c = omega arith
@@ -65,20 +63,20 @@ loop-less c = omega arith
 
 loop-again : tie.Need-loop-again Inv-loop μ-loop
 loop-again c =
-    let l = c .before .before .before .before .before .before .loop in
-    let kind = is-one (c .before .before) in (
+    let l = c .before .before .before .before .before .before .before .loop in
+    let kind = is-one (c .before .before .before) in (
       omega arith,
-      rw (c .depth-after .ensures) omega (arith, depth-most (l .depth) (getD (c .before .before .before .before .before .before .before .before .args .kinds .now) (l .i) 0)),
-      rw (c .depth-after .ensures) (sym (kinds-go _ (l .i) (c .before .before .before .before .before .loop-test .taken) (l .depth) kind (some (c .before))) ∙ l .inv .2),
+      rw (c .depth-after .ensures) omega (arith, depth-most (l .depth) (getD (c .before .before .before .before .before .before .before .before .before .args .kinds .now) (l .i) 0)),
+      rw (c .depth-after .ensures) (sym (kinds-go _ (l .i) (c .before .before .before .before .before .before .loop-test .taken) (l .depth) kind (end-closes _ _ (rw (c .before .before .ends .ensures) at (c .before .if2 .left)))) ∙ l .inv .2),
     )
 
 returns-3 : tie.Need-returns-3 Inv-loop μ-loop
 returns-3 c =
-    sym (kinds-end (c .before .before .loop .depth) _ _ (c .before .loop-test .left) ∙ rw (ne-eqb _ _ (c .if4 .taken))) ∙ c .before .before .loop .inv .2
+    sym (kinds-end (c .before .before .loop .depth) _ _ (c .before .loop-test .left) ∙ rw (ne-eqb _ _ (c .if3 .taken))) ∙ c .before .before .loop .inv .2
 
 returns-4 : tie.Need-returns-4 Inv-loop μ-loop
 returns-4 c =
-    sym (kinds-end (c .before .before .loop .depth) _ _ (c .before .loop-test .left) ∙ rw (eq-eqb _ _ (c .if4 .left))) ∙ c .before .before .loop .inv .2
+    sym (kinds-end (c .before .before .loop .depth) _ _ (c .before .loop-test .left) ∙ rw (eq-eqb _ _ (c .if3 .left))) ∙ c .before .before .loop .inv .2
 
 pub kinds-refused-spec : {M : Type 1} → statement M
 kinds-refused-spec =
@@ -90,6 +88,7 @@ kinds-refused-spec =
     shared-slice-read-kind
     is-a-kind-requires
     returns
+    ends-requires
     add-rest-refused
     rest-refused-requires
     returns-2

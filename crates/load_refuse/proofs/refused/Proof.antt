@@ -37,7 +37,7 @@ returns-2 c = rw (s-fits (c .before .before), sym (c .before .degree-fits2 .ensu
 
 returns-3 : tie.Need-returns-3
 unfolding refusal-before degrees-fit degree-fits words-for
-returns-3 c = rw (s-fits (c .before .before .before), r-fits (c .before), lt-ltb _ _ (c .if3 .taken))
+returns-3 c = rw (s-fits (c .before .before .before), r-fits (c .before), lt-ltb 200000 _ (c .if3 .taken))
 
 mul-if4 : tie.Need-mul-if4
 mul-if4 c = search needs

@@ -1,7 +1,7 @@
 -- `walk_tags::beside` meets its contract. Assumes nothing.
 use borrow.Author.Needs.{needs}
 use native.Mathlib.Omega.{arith}
-use Rattle.walk_tags.proofs.PickLaws.{none-bit}
+use Rattle.walk_tags.proofs.BitLaws.{none-bit}
 use Rattle.walk_tags.proofs.beside.Statement.{statement}
 use Rattle.walk_tags.proofs.beside.Tie as tie
 

@@ -2,7 +2,7 @@
 use Prim.Native.Nat.{_-_, _/_}
 use borrow.Author.Needs.{needs}
 use native.Mathlib.Omega.{arith}
-use Rattle.walk_tags.proofs.PickLaws.{at-most-once}
+use Rattle.kind_pick.proofs.PickLaws.{at-most-once}
 use Rattle.walk_tags.proofs.TestLaws.{mark-not, mark-around}
 use Rattle.walk_tags.proofs.mark_fits.Statement.{statement}
 use Rattle.walk_tags.proofs.mark_fits.Tie as tie

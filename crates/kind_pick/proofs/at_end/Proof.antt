@@ -1,8 +1,8 @@
--- `walk_tags::at_end` meets its contract. Assumes nothing.
+-- `kind_pick::at_end` meets its contract. Assumes nothing.
 use borrow.Author.Needs.{needs}
-use Rattle.walk_tags.proofs.PickLaws.{end-bit}
-use Rattle.walk_tags.proofs.at_end.Statement.{statement}
-use Rattle.walk_tags.proofs.at_end.Tie as tie
+use Rattle.kind_pick.proofs.PickLaws.{end-bit}
+use Rattle.kind_pick.proofs.at_end.Statement.{statement}
+use Rattle.kind_pick.proofs.at_end.Tie as tie
 
 sub-pick : tie.Need-sub-pick
 sub-pick c = search needs

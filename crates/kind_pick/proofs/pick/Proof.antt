@@ -1,11 +1,11 @@
--- `walk_tags::pick` meets its contract. Assumes nothing.
+-- `kind_pick::pick` meets its contract. Assumes nothing.
 use native.Mathlib.Omega.{arith}
 use Prim.Native.Nat.{_-_}
 use borrow.Author.Needs.{needs}
 use Rattle.store_types.specs.Limits.{word-limit}
-use Rattle.walk_tags.proofs.PickLaws.{at-most-once, picks, pick-below}
-use Rattle.walk_tags.proofs.pick.Statement.{statement}
-use Rattle.walk_tags.proofs.pick.Tie as tie
+use Rattle.kind_pick.proofs.PickLaws.{at-most-once, picks, pick-below}
+use Rattle.kind_pick.proofs.pick.Statement.{statement}
+use Rattle.kind_pick.proofs.pick.Tie as tie
 
 mul-result : tie.Need-mul-result
 mul-result c = omega (arith, at-most-once (c .args .t) (c .pre) (c .args .a))
