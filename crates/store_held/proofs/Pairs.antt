@@ -1,10 +1,10 @@
 -- Hold and the held-pair question, by what the words say. Assumes nothing.
 use mathlib.Core.Path.{_≡_, refl, sym, _∙_}
-use mathlib.Core.Bool.{Bool, true, false, _&&_, not, cond, and-false, or-true}
+use mathlib.Core.Bool.{Bool, true, false, _&&_, not, cond, true≢false, and-false, or-true}
 use mathlib.Core.List.{List}
 use mathlib.Core.Logic.{_⊎_, inl, inr}
 use Prim.Native.Nat.{ℕ, zero, suc, _%_, _≤_, _<_}
-use borrow.Author.Tests.{eq-eqb, ne-eqb, lt-leb, le-leb, lt-ltb, le-ltb, leb-true, leb-false, eqb-true}
+use borrow.Author.Tests.{eq-eqb, ne-eqb, lt-leb, le-leb, lt-ltb, le-ltb, leb-true, leb-false, eqb-true, not-true, not-false}
 use lib.Dec.{ltb, leb, eqb}
 use Rattle.store_types.specs.declared.TagId.{TagId}
 use Rattle.store_types.specs.declared.Label.{Label}
@@ -28,6 +28,13 @@ use Rattle.calls_laws.proofs.WordSteps.{header-said}
 use Rattle.store_refuse.specs.Needs.{Tag-said}
 use Rattle.store_held.specs.Needs.{Pair-asked}
 use Rattle.store_refuse.proofs.Laws.{refused-said, accepted-says, accepted-store, words-of-tag, kind-of-tag, mate-of-tag, no-tag-from}
+
+-- a test of two numbers, as the code has it
+pub not-same : (a b : ℕ) {t : Bool} → t ≡ eqb a b → not t ≡ true → (a ≡ b → ⊥)
+not-same a b e n z = true≢false (sym (eq-eqb a b z) ∙ sym e ∙ not-true _ n)
+
+pub are-same : (a b : ℕ) {t : Bool} → t ≡ eqb a b → not t ≡ false → a ≡ b
+are-same a b e n = eqb-true a b (sym e ∙ not-false _ n)
 
 -- HOLD
 hold-refuses : (k : ℕ) (p : HeldPair) → (k ≡ 0 → ⊥) → hold.Refused k ≡ hold-outcome k p

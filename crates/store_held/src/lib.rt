@@ -1,5 +1,6 @@
 // Held pairs (document 01, "Calls and their replies"): hold, and the held-pair question.
 ghost use mathlib.Core.Path.{_≡_};
+ghost use lib.Dec.{eqb};
 ghost use Rattle.calls.specs.Held.{current};
 ghost use Rattle.calls.specs.Store.{fact, label};
 ghost use Rattle.calls.specs.Replies.{said, hold-reply, question-reply};
@@ -11,6 +12,13 @@ use store_types::HoldReply;
 use store_types::Label;
 use store_types::QuestionReply;
 use store_types::TagId;
+
+// Whether two book numbers or two labels are the same.
+fn same(a: u32, b: u32) -> bool
+    ensures { λ t. ⌜ t ≡ eqb a b ⌝ }
+{
+    a == b
+}
 
 // Hold: a section's book number, tag and two labels.
 pub fn hold(tag: TagId, words: &[u32]) -> HoldReply
@@ -38,7 +46,8 @@ pub fn question(pair: HeldPair, tag: TagId, words: &[u32]) -> QuestionReply
     if first != 0 {
         return QuestionReply::Refused(first);
     }
-    if pair.book != words[6] {
+    let book = words[6];
+    if !same(pair.book, book) {
         return QuestionReply::Answered(Answer::Stale);
     }
     let section = pair.tag;
@@ -79,10 +88,10 @@ fn is_current(pair: HeldPair, words: &[u32]) -> bool
     let section = pair.tag;
     let start = words::label_of(words, section);
     let end = end_label(section, words);
-    if start.0 != pair.start.0 {
+    if !same(start.0, pair.start.0) {
         return false;
     }
-    if end.0 != pair.end.0 {
+    if !same(end.0, pair.end.0) {
         return false;
     }
     words::kind_of(words, section) < 16

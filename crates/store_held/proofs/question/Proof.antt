@@ -10,7 +10,7 @@ use Rattle.store_refuse.specs.Needs.{Tag-said}
 use Rattle.store_held.proofs.question.Statement.{statement}
 use Rattle.store_held.proofs.question.Tie as tie
 use Rattle.store_refuse.proofs.Laws.{accepted-says, header-room, tag-below, room}
-use Rattle.store_held.proofs.Pairs.{question-refused, other-book, no-such-tag, not-begin, pair-asked}
+use Rattle.store_held.proofs.Pairs.{not-same, are-same, question-refused, other-book, no-such-tag, not-begin, pair-asked}
 
 -- the words say a store; the pair's tag and the other are tags of it
 says : (c : tie.Else1) → let ws = c .before .before .before .args .words .now in Says ws (said ws)
@@ -28,11 +28,14 @@ words-refused-requires c κs = search needs
 returns : tie.Need-returns
 returns c = question-refused _ _ _ _ (c .before .words-refused .ensures) (c .if1 .taken)
 
-shared-slice-read-if2 : tie.Need-shared-slice-read-if2
-shared-slice-read-if2 c = omega (arith, header-room _ (says (c .before)))
+shared-slice-read-book : tie.Need-shared-slice-read-book
+shared-slice-read-book c = omega (arith, header-room _ (says (c .before)))
+
+same-requires : tie.Need-same-requires
+same-requires c κs = search needs
 
 returns-2 : tie.Need-returns-2
-returns-2 c = other-book _ _ _ (says (c .before .before .before)) (c .if2 .taken)
+returns-2 c = other-book _ _ _ (says (c .before .before .before)) (not-same _ _ (c .before .same .ensures) (c .if2 .taken))
 
 shared-slice-read-if3 : tie.Need-shared-slice-read-if3
 shared-slice-read-if3 c = omega (arith, header-room _ (says (c .before .before .before .before .before)))
@@ -42,7 +45,7 @@ shared-slice-read-if4 c = omega (arith, header-room _ (section-tag (c .before) .
 
 returns-3 : tie.Need-returns-3
 returns-3 c =
-    no-such-tag _ _ _ (says (c .before .before .before .before .before .before .before)) (c .before .before .before .before .if2 .left)
+    no-such-tag _ _ _ (says (c .before .before .before .before .before .before .before)) (are-same _ _ (c .before .before .before .before .before .same .ensures) (c .before .before .before .before .if2 .left))
     (⊎-elim (λ w. inl (w .taken)) (λ w. inr (leb-true _ _ (w .3 .taken))) (c .if3 .came))
 
 kind-of-requires : tie.Need-kind-of-requires
@@ -51,13 +54,13 @@ kind-of-requires c κs = room (section-tag (c .before .before .before)) 5 (omega
 returns-4 : tie.Need-returns-4
 returns-4 c =
     let e = c .before .before in
-    not-begin _ _ _ (section-tag (e .before .before .before)) (other-tag e) (e .before .before .before .before .before .before .before .if2 .left)
+    not-begin _ _ _ (section-tag (e .before .before .before)) (other-tag e) (are-same _ _ (e .before .before .before .before .before .before .before .before .same .ensures) (e .before .before .before .before .before .before .before .if2 .left))
     (rw (c .before .kind-of .ensures) at (c .if5 .taken))
 
 answer-requires : tie.Need-answer-requires
 answer-requires c κs =
     let e = c .before .before in
-    pair-asked _ _ _ (section-tag (e .before .before .before)) (other-tag e) (e .before .before .before .before .before .before .before .if2 .left)
+    pair-asked _ _ _ (section-tag (e .before .before .before)) (other-tag e) (are-same _ _ (e .before .before .before .before .before .before .before .before .same .ensures) (e .before .before .before .before .before .before .before .if2 .left))
     (rw (c .before .kind-of .ensures) at (c .if5 .left))
 
 returns-5 : tie.Need-returns-5
@@ -69,7 +72,8 @@ question-spec =
     (tie.spec
     words-refused-requires
     returns
-    shared-slice-read-if2
+    shared-slice-read-book
+    same-requires
     returns-2
     shared-slice-read-if3
     shared-slice-read-if4
