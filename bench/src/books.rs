@@ -1,29 +1,16 @@
 //! Books to measure on: just loaded, with tags in memory order or shuffled.
 
-use crate::rng::Rng;
 use crate::store::Store;
 use crate::words::*;
+use draw::Rng;
 
 /// n properly nested kinds, a third each of begins, ends and texts, at most 12 deep, in no order to be guessed.
 pub fn kinds(n: usize, rng: &mut Rng) -> Vec<u8> {
-    let mut open = 0;
-    let mut kinds = Vec::with_capacity(n);
-    while kinds.len() < n {
-        let left = n - kinds.len();
-        let kind = match rng.below(3) {
-            _ if left == open => END,
-            0 if open < 12 && left >= open + 2 => BEGIN,
-            1 if open > 0 => END,
-            _ => TEXT,
-        };
-        match kind {
-            BEGIN => open += 1,
-            END => open -= 1,
-            _ => {}
-        }
-        kinds.push(kind);
-    }
-    kinds
+    draw::nested(n, |open, may_begin| match rng.below(3) {
+        0 if open < 12 && may_begin => BEGIN,
+        1 if open > 0 => END,
+        _ => TEXT,
+    })
 }
 
 /// The words of a loaded book, with room for an element more; None where the load is refused.

@@ -3,9 +3,9 @@
 
 use crate::books;
 use crate::plain::Plain;
-use crate::rng::Rng;
 use crate::store::{Store, Verified};
 use crate::words::*;
+use draw::Rng;
 use std::hint::black_box;
 use std::time::{Duration, Instant};
 
@@ -135,7 +135,7 @@ pub struct Bench {
 impl Bench {
     /// None where the load is refused.
     pub fn new(case: Case) -> Option<Bench> {
-        let mut rng = Rng(case.n as u64);
+        let mut rng = Rng::new(case.n as u64);
         let kinds = books::kinds(case.n, &mut rng);
         let mut book = books::loaded::<Verified>(case.s, case.r, &kinds)?;
         if case.shuffled {

@@ -11,9 +11,8 @@ pub mod moved;
 pub mod plain;
 pub mod plot;
 pub mod report;
-pub mod rng;
 pub mod store;
 pub mod table;
-#[cfg(not(feature = "plain"))]
+#[cfg(feature = "library")]
 pub mod verified;
 pub mod words;

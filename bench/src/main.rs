@@ -1,8 +1,8 @@
-//! `cargo run --release --offline`: prints all figures. With `-- --write FOLDER` it also writes the tables into
+//! `cargo run --release -p bench`: prints all figures. With `-- --write FOLDER` it also writes the tables into
 //! FOLDER/PERFORMANCE.md and draws FOLDER/moved.svg and FOLDER/label-bits.svg.
 
-use bench::calls::{Bench, Case, Times, SHAPES, SIZES};
-use bench::report::{calls, filled, targets, Section};
+use bench::calls::{Bench, Case, SHAPES, SIZES, Times};
+use bench::report::{Section, calls, filled, targets};
 use bench::table::thousands;
 use bench::{bits, moved, plot, store};
 use std::path::{Path, PathBuf};
@@ -65,6 +65,10 @@ fn main() -> ExitCode {
             return ExitCode::from(2);
         }
     };
+    if folder.is_some() && !store::LINKED {
+        eprintln!("the verified store is not linked: its figures cannot be written");
+        return ExitCode::from(2);
+    }
     let (times, note) = times();
     eprintln!("counting moved tags");
     let (moved, bits) = (moved::all(), bits::all());

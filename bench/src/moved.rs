@@ -2,10 +2,10 @@
 
 use crate::books;
 use crate::plot::{Cell, Panel, Plot};
-use crate::rng::Rng;
 use crate::store::{Store, Verified};
 use crate::table::{grid, thousands};
 use crate::words::*;
+use draw::Rng;
 
 /// The values of s and of r that are shown.
 pub const DEGREES: [u32; 7] = [2, 3, 4, 6, 8, 12, 16];
@@ -27,7 +27,7 @@ pub const PATTERNS: [(Pattern, &str); 3] =
 pub type Moved = Result<f64, usize>;
 
 pub fn moved(pattern: Pattern, s: u32, r: u32, inserted: usize) -> Moved {
-    let rng = &mut Rng(1);
+    let rng = &mut Rng::new(1);
     let mut words = books::loaded::<Verified>(s, r, &[TEXT; LOADED]).ok_or(0usize)?;
     words.resize(words_for(LOADED + inserted), 0);
     let mut sum = 0;

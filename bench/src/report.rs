@@ -1,6 +1,6 @@
 //! The figures as tables, and their places in docs/PERFORMANCE.md.
 
-use crate::calls::{Call, Times, CALLS};
+use crate::calls::{CALLS, Call, Times};
 use crate::table::{table, thousands};
 
 /// A generated piece of the document, which stands there between `<!-- bench:NAME -->` and `<!-- end -->`.
@@ -57,8 +57,7 @@ pub fn targets(all: &[Times]) -> String {
         }
     }
     for it in all.iter().filter(|it| it.case.n > 20_000 && it.case.shuffled) {
-        let what =
-            format!("{} tags shuffled, ({}, {}): walk / bare walk", thousands(it.case.n), it.case.s, it.case.r);
+        let what = format!("{} tags shuffled, ({}, {}): walk / bare walk", thousands(it.case.n), it.case.s, it.case.r);
         row(what, it.verified[walk] / it.bare, 1.5);
     }
     table(1, &["ratio", "this run", "at most", ""].map(String::from), &rows)

@@ -11,10 +11,10 @@ pub trait Store {
     fn list(begin: u32, words: &[u32], tags: &mut [u32], labels: &mut [u32]) -> [u32; 2];
 }
 
-#[cfg(feature = "plain")]
+#[cfg(not(feature = "library"))]
 pub use crate::plain::Plain as Verified;
-#[cfg(not(feature = "plain"))]
+#[cfg(feature = "library")]
 pub use crate::verified::Verified;
 
 /// Whether the verified store is there, or the plain version in its stead.
-pub const LINKED: bool = cfg!(not(feature = "plain"));
+pub const LINKED: bool = cfg!(feature = "library");

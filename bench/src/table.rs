@@ -6,9 +6,10 @@ pub fn table(left: usize, head: &[String], rows: &[Vec<String>]) -> String {
     let widths: Vec<usize> =
         (0..head.len()).map(|c| all.iter().map(|row| row[c].chars().count()).max().unwrap_or(0)).collect();
     let line = |row: &[String]| {
-        let cells = row.iter().zip(&widths).enumerate().map(|(c, (cell, &width))| {
-            if c < left { format!("{cell:<width$}") } else { format!("{cell:>width$}") }
-        });
+        let cells =
+            row.iter().zip(&widths).enumerate().map(|(c, (cell, &width))| {
+                if c < left { format!("{cell:<width$}") } else { format!("{cell:>width$}") }
+            });
         format!("| {} |\n", cells.collect::<Vec<_>>().join(" | "))
     };
     let rule: Vec<String> = (widths.iter().enumerate())

@@ -26,9 +26,7 @@ pub const UP: usize = 4;
 pub const KIND: usize = 5;
 
 /// Kinds; a marked tag's is greater by MARK.
-pub const BEGIN: u8 = 1;
-pub const END: u8 = 2;
-pub const TEXT: u8 = 3;
+pub use draw::{BEGIN, END, TEXT};
 pub const MARK: u32 = 16;
 
 /// Where a word of a tag stands.

@@ -2,11 +2,11 @@
 
 use bench::calls::{Bench, Case};
 use bench::plain::Plain;
-use bench::report::{filled, Section};
-use bench::rng::Rng;
+use bench::report::{Section, filled};
 use bench::store::Store;
 use bench::words::*;
 use bench::{bits, books, moved};
+use draw::Rng;
 
 fn listed(words: &[u32], n: usize) -> (Vec<u32>, Vec<u32>) {
     let (mut tags, mut labels) = (vec![0; n], vec![0; n]);
@@ -16,7 +16,7 @@ fn listed(words: &[u32], n: usize) -> (Vec<u32>, Vec<u32>) {
 
 #[test]
 fn a_shuffled_book_is_the_same_book() {
-    let rng = &mut Rng(3);
+    let rng = &mut Rng::new(3);
     let kinds = books::kinds(500, rng);
     let book = books::loaded::<Plain>(3, 2, &kinds).expect("labels fit");
     let shuffled = books::shuffled(&book, rng);

@@ -3,7 +3,7 @@
 //!
 //! Writes what examples/section.c of the repository writes.
 
-use vekhturop::{words_for, Answer, HeldPair, Kind, Place, Refusal, Store, Tag, Within};
+use vekhturop::{Answer, HeldPair, Kind, Place, Refusal, Store, Tag, Within, words_for};
 
 fn tag(number: u32) -> Tag {
     Tag::new(number).expect("a tag")
@@ -11,24 +11,13 @@ fn tag(number: u32) -> Tag {
 
 fn insert_text(store: &mut Store, place: Tag) -> Result<(), Refusal> {
     let reply = store.insert_text(Place::After(place))?;
-    println!(
-        "text {} behind {}: moved {}, split {}",
-        reply.first.number(),
-        place.number(),
-        reply.moved,
-        reply.split
-    );
+    println!("text {} behind {}: moved {}, split {}", reply.first, place, reply.moved, reply.split);
     Ok(())
 }
 
 fn hold(store: &Store, section: Tag) -> Result<HeldPair, Refusal> {
     let pair = store.hold(section)?;
-    println!(
-        "pair of {}: {} {}",
-        pair.tag.number(),
-        pair.start.0,
-        pair.end.0
-    );
+    println!("pair of {}: {} {}", pair.tag, pair.start, pair.end);
     Ok(pair)
 }
 
@@ -38,7 +27,7 @@ fn ask(store: &Store, pair: &HeldPair, d: Tag) -> Result<(), Refusal> {
         Answer::Yes => "yes",
         Answer::Stale => "stale",
     };
-    println!("{} inside {}: {says}", d.number(), pair.tag.number());
+    println!("{d} inside {}: {says}", pair.tag);
     Ok(())
 }
 
@@ -46,7 +35,7 @@ fn list(store: &Store) -> Result<(), Refusal> {
     let all = store.list(Within::Book)?;
     print!("{} tags:", all.len());
     for (tag, label) in all {
-        print!(" {}={}", tag.number(), label.0);
+        print!(" {tag}={label}");
     }
     println!();
     Ok(())

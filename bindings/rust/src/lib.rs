@@ -12,7 +12,7 @@
 //! let mut store = Store::new(&mut words);
 //! store.load(2, 2, 7, &[Kind::Begin, Kind::Text, Kind::End])?;
 //!
-//! let begin = Tag::new(0).unwrap();
+//! let begin = Tag::new(0).expect("a tag");
 //! let pair = store.hold(begin)?;
 //! let text = store.insert_text(Place::After(begin))?;
 //! if store.question(&pair, text.first)? == Answer::Stale {
@@ -25,11 +25,10 @@
 
 #![warn(missing_docs)]
 
-mod ffi;
 mod refusal;
 mod store;
 mod types;
 
 pub use refusal::Refusal;
-pub use store::{words_for, Store};
-pub use types::{Answer, HeldPair, Inserted, Kind, Label, Loaded, Place, Tag, Within};
+pub use store::{Store, words_for};
+pub use types::{Answer, HeldPair, Inserted, Kind, Label, Loaded, NotATag, Place, Tag, Within};

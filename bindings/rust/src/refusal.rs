@@ -5,73 +5,119 @@ use std::fmt;
 
 /// Why a call is refused. A refused call changes nothing.
 #[derive(Clone, Copy, PartialEq, Eq, Hash, Debug)]
+#[non_exhaustive]
 pub enum Refusal {
     /// 1: under 8 words; on load, under 8 + 6n words for n kinds.
-    TooFewWords = 1,
+    TooFewWords,
     /// 2: the words say no sound store. (Any words may be loaded over.)
-    NotSound = 2,
+    NotSound,
     /// 3: on load, s or r outside 2 to 16.
-    Degree = 3,
+    Degree,
     /// 4: a kind that is not allowed there. No call of this crate can pass one.
-    Kind = 4,
+    Kind,
     /// 5: on load, kinds not properly nested.
-    Nesting = 5,
+    Nesting,
     /// 6: over 200,000 tags; on an insertion, also too few words for the new tags.
-    TooManyTags = 6,
+    TooManyTags,
     /// 7: the tree would need labels of over 32 bits.
-    OutOfLabels = 7,
+    OutOfLabels,
     /// 8: the tag was never issued by this book.
-    NoSuchTag = 8,
+    NoSuchTag,
     /// 9: the tag is marked.
-    TagMarked = 9,
+    TagMarked,
     /// 10: an end tag where an element or a text is asked for; on question and list, also a text.
-    NotASection = 10,
+    NotASection,
     /// 11: a lent list is shorter than the count.
-    ListTooShort = 11,
+    ListTooShort,
+    /// A number that this crate does not know: the library is newer.
+    Other(u32),
 }
 
+/// The refusals by their numbers, from 1 on.
+const KNOWN: [Refusal; 11] = [
+    Refusal::TooFewWords,
+    Refusal::NotSound,
+    Refusal::Degree,
+    Refusal::Kind,
+    Refusal::Nesting,
+    Refusal::TooManyTags,
+    Refusal::OutOfLabels,
+    Refusal::NoSuchTag,
+    Refusal::TagMarked,
+    Refusal::NotASection,
+    Refusal::ListTooShort,
+];
+
 impl Refusal {
-    /// The number that the store's paper and the C interface give it.
+    /// The number that docs/STORE.md and the C interface give it.
     pub fn number(self) -> u32 {
-        self as u32
+        match self {
+            Refusal::Other(number) => number,
+            known => KNOWN.iter().position(|&it| it == known).map_or(0, |at| at as u32 + 1),
+        }
     }
 
     /// Of a reply's first word: 0 is no refusal.
     pub(crate) fn check(number: u32) -> Result<(), Refusal> {
-        Err(match number {
-            0 => return Ok(()),
-            1 => Refusal::TooFewWords,
-            2 => Refusal::NotSound,
-            3 => Refusal::Degree,
-            4 => Refusal::Kind,
-            5 => Refusal::Nesting,
-            6 => Refusal::TooManyTags,
-            7 => Refusal::OutOfLabels,
-            8 => Refusal::NoSuchTag,
-            9 => Refusal::TagMarked,
-            10 => Refusal::NotASection,
-            11 => Refusal::ListTooShort,
-            _ => unreachable!("the store has no refusal {number}"),
-        })
+        match number {
+            0 => Ok(()),
+            _ => Err(KNOWN.get(number as usize - 1).copied().unwrap_or(Refusal::Other(number))),
+        }
     }
 }
 
 impl fmt::Display for Refusal {
     fn fmt(&self, f: &mut fmt::Formatter<'_>) -> fmt::Result {
         f.write_str(match self {
-            Refusal::TooFewWords => "too few words for the store",
-            Refusal::NotSound => "the words say no sound store",
-            Refusal::Degree => "s or r is outside 2 to 16",
-            Refusal::Kind => "a kind is not allowed there",
-            Refusal::Nesting => "the kinds are not properly nested",
-            Refusal::TooManyTags => "the tags or the words do not suffice for more",
-            Refusal::OutOfLabels => "the labels would need more than 32 bits",
-            Refusal::NoSuchTag => "the book has no such tag",
-            Refusal::TagMarked => "the tag is marked",
-            Refusal::NotASection => "the tag begins no section",
-            Refusal::ListTooShort => "a lent list is shorter than the count",
+            Refusal::TooFewWords => "too few words are lent: a store of n tags needs words_for(n) of them",
+            Refusal::NotSound => {
+                "the words say no sound store: load a book into them, or bring back a copy of sound words"
+            }
+            Refusal::Degree => "s and r must each be from 2 to 16",
+            Refusal::Kind => "a kind is not allowed there: load takes begins, ends and texts, insert a begin or a text",
+            Refusal::Nesting => "the kinds do not nest: every begin needs its end, and every end its begin",
+            Refusal::TooManyTags => {
+                "no room for more tags: a book has at most 200,000, and no more than its words have room for"
+            }
+            Refusal::OutOfLabels => {
+                "the labels would need more than 32 bits: load the book again with a smaller s, or with another r"
+            }
+            Refusal::NoSuchTag => "the book has issued no tag of that number",
+            Refusal::TagMarked => "the tag is marked: use one that is not",
+            Refusal::NotASection => {
+                "the tag begins no section: give the begin of an element (mark and hold also take a text)"
+            }
+            Refusal::ListTooShort => "a lent list is too short: lend one as long as the number of tags in the book",
+            Refusal::Other(number) => {
+                return write!(f, "the library refuses with {number}, which this crate does not know: update the crate");
+            }
         })
     }
 }
 
 impl Error for Refusal {}
+
+#[cfg(test)]
+mod tests {
+    use super::*;
+
+    #[test]
+    fn every_number_is_its_refusal_and_back() {
+        assert_eq!(Refusal::check(0), Ok(()));
+        for number in 1..=40 {
+            let refusal = Refusal::check(number).expect_err("it is refused");
+            assert_eq!(refusal.number(), number);
+            assert_eq!(matches!(refusal, Refusal::Other(_)), number > 11, "{refusal:?}");
+        }
+        assert_eq!(Refusal::check(9), Err(Refusal::TagMarked));
+        assert_eq!(Refusal::check(u32::MAX), Err(Refusal::Other(u32::MAX)));
+    }
+
+    #[test]
+    fn every_refusal_says_something_else() {
+        let mut said: Vec<String> = (1..=12).map(|it| Refusal::check(it).expect_err("refused").to_string()).collect();
+        said.sort();
+        said.dedup();
+        assert_eq!(said.len(), 12);
+    }
+}

@@ -1,6 +1,5 @@
 //! The six calls over lent words.
 
-use crate::ffi;
 use crate::refusal::Refusal;
 use crate::types::{Answer, HeldPair, Inserted, Kind, Label, Loaded, Place, Tag, Within};
 
@@ -37,7 +36,7 @@ impl<'a> Store<'a> {
     pub fn load(&mut self, s: u32, r: u32, book: u32, kinds: &[Kind]) -> Result<Loaded, Refusal> {
         // SAFETY: both pointers and lengths are those of slices, of which one is lent mutably. A kind is one byte.
         let reply = unsafe {
-            ffi::vk_load(
+            vekhturop_sys::vk_load(
                 s,
                 r,
                 book,
@@ -48,10 +47,7 @@ impl<'a> Store<'a> {
             )
         };
         Refusal::check(reply.refusal)?;
-        Ok(Loaded {
-            tags: reply.tags,
-            height: reply.height,
-        })
+        Ok(Loaded { tags: reply.tags, height: reply.height })
     }
 
     /// Inserts a text.
@@ -67,14 +63,8 @@ impl<'a> Store<'a> {
     /// Inserts one tag, and `more` behind it.
     fn insert(&mut self, kind: Kind, place: Place, more: u32) -> Result<Inserted, Refusal> {
         // SAFETY: the pointer and the length are those of a slice that is lent mutably.
-        let reply = unsafe {
-            ffi::vk_insert(
-                kind as u8,
-                place.number(),
-                self.words.as_mut_ptr(),
-                self.words.len(),
-            )
-        };
+        let reply =
+            unsafe { vekhturop_sys::vk_insert(kind as u8, place.number(), self.words.as_mut_ptr(), self.words.len()) };
         Refusal::check(reply.refusal)?;
         Ok(Inserted {
             first: Tag::issued(reply.first),
@@ -87,8 +77,7 @@ impl<'a> Store<'a> {
     /// Marks a text, or an element by its begin with all that is inside it; how many tags became marked. Labels stay.
     pub fn mark(&mut self, tag: Tag) -> Result<u32, Refusal> {
         // SAFETY: the pointer and the length are those of a slice that is lent mutably.
-        let reply =
-            unsafe { ffi::vk_mark(tag.number(), self.words.as_mut_ptr(), self.words.len()) };
+        let reply = unsafe { vekhturop_sys::vk_mark(tag.number(), self.words.as_mut_ptr(), self.words.len()) };
         Refusal::check(reply.refusal)?;
         Ok(reply.marked)
     }
@@ -96,21 +85,16 @@ impl<'a> Store<'a> {
     /// The held pair of an element, by its begin, or of a text.
     pub fn hold(&self, tag: Tag) -> Result<HeldPair, Refusal> {
         // SAFETY: the pointer and the length are those of a slice, which the call only reads.
-        let reply = unsafe { ffi::vk_hold(tag.number(), self.words.as_ptr(), self.words.len()) };
+        let reply = unsafe { vekhturop_sys::vk_hold(tag.number(), self.words.as_ptr(), self.words.len()) };
         Refusal::check(reply.refusal)?;
-        Ok(HeldPair {
-            book: reply.book,
-            tag: Tag::issued(reply.tag),
-            start: Label(reply.start),
-            end: Label(reply.end),
-        })
+        Ok(HeldPair::new(reply.book, Tag::issued(reply.tag), Label(reply.start), Label(reply.end)))
     }
 
     /// Whether the element of a held pair encloses a tag; its own two tags are not inside it.
     pub fn question(&self, pair: &HeldPair, tag: Tag) -> Result<Answer, Refusal> {
         // SAFETY: the pointer and the length are those of a slice, which the call only reads.
         let reply = unsafe {
-            ffi::vk_question(
+            vekhturop_sys::vk_question(
                 pair.book,
                 pair.tag.number(),
                 pair.start.0,
@@ -129,7 +113,7 @@ impl<'a> Store<'a> {
         // A list has no more tags than were issued, and those have records in the words, or they are refused.
         let room = self.words.len().saturating_sub(HEADER) / RECORD;
         let issued = self.words.get(4).map_or(0, |n| room.min(*n as usize));
-        let mut tags = vec![Tag::default(); issued];
+        let mut tags = vec![Tag::issued(0); issued];
         let mut labels = vec![Label::default(); issued];
         let count = self.list_into(within, &mut tags, &mut labels)?;
         Ok(tags.into_iter().zip(labels).take(count).collect())
@@ -137,16 +121,11 @@ impl<'a> Store<'a> {
 
     /// The same without allocation: the tags and the labels go into two lent lists, and their number is replied. What
     /// stands behind them stays.
-    pub fn list_into(
-        &self,
-        within: Within,
-        tags: &mut [Tag],
-        labels: &mut [Label],
-    ) -> Result<usize, Refusal> {
+    pub fn list_into(&self, within: Within, tags: &mut [Tag], labels: &mut [Label]) -> Result<usize, Refusal> {
         // SAFETY: the pointers and lengths are those of slices, of which two are lent mutably and one is only read. A
         // tag or a label is one word, and the tags written are numbers that the store has issued.
         let reply = unsafe {
-            ffi::vk_list(
+            vekhturop_sys::vk_list(
                 within.number(),
                 self.words.as_ptr(),
                 self.words.len(),

@@ -1,7 +1,10 @@
 //! What calls take and reply.
 
+use std::error::Error;
+use std::fmt;
+
 /// A tag's number: it never changes. The order of numbers is that of issue, not that of the book.
-#[derive(Clone, Copy, PartialEq, Eq, PartialOrd, Ord, Hash, Debug, Default)]
+#[derive(Clone, Copy, PartialEq, Eq, PartialOrd, Ord, Hash, Debug)]
 #[repr(transparent)]
 pub struct Tag(u32);
 
@@ -25,10 +28,48 @@ impl Tag {
     }
 }
 
+impl fmt::Display for Tag {
+    fn fmt(&self, f: &mut fmt::Formatter<'_>) -> fmt::Result {
+        self.0.fmt(f)
+    }
+}
+
+impl From<Tag> for u32 {
+    fn from(tag: Tag) -> u32 {
+        tag.0
+    }
+}
+
+impl TryFrom<u32> for Tag {
+    type Error = NotATag;
+
+    fn try_from(number: u32) -> Result<Tag, NotATag> {
+        Tag::new(number).ok_or(NotATag)
+    }
+}
+
+/// 4,294,967,295 is the number of no tag.
+#[derive(Clone, Copy, PartialEq, Eq, Hash, Debug)]
+pub struct NotATag;
+
+impl fmt::Display for NotATag {
+    fn fmt(&self, f: &mut fmt::Formatter<'_>) -> fmt::Result {
+        write!(f, "{NO_TAG} stands for no tag, and no tag has it for a number")
+    }
+}
+
+impl Error for NotATag {}
+
 /// A tag's place at the moment: labels rise along the book, and any insertion may change them.
 #[derive(Clone, Copy, PartialEq, Eq, PartialOrd, Ord, Hash, Debug, Default)]
 #[repr(transparent)]
 pub struct Label(pub u32);
+
+impl fmt::Display for Label {
+    fn fmt(&self, f: &mut fmt::Formatter<'_>) -> fmt::Result {
+        self.0.fmt(f)
+    }
+}
 
 /// What a tag is.
 #[derive(Clone, Copy, PartialEq, Eq, Hash, Debug)]
@@ -62,6 +103,7 @@ pub enum Within {
 
 /// The reply of a load.
 #[derive(Clone, Copy, PartialEq, Eq, Hash, Debug)]
+#[non_exhaustive]
 pub struct Loaded {
     /// How many tags the book has.
     pub tags: u32,
@@ -71,6 +113,7 @@ pub struct Loaded {
 
 /// The reply of an insertion.
 #[derive(Clone, Copy, PartialEq, Eq, Hash, Debug)]
+#[non_exhaustive]
 pub struct Inserted {
     /// The new text, or the new element's begin.
     pub first: Tag,
@@ -84,6 +127,7 @@ pub struct Inserted {
 
 /// A section's two labels as they were when it was held, to be shown with later writes.
 #[derive(Clone, Copy, PartialEq, Eq, Hash, Debug)]
+#[non_exhaustive]
 pub struct HeldPair {
     /// The number of the book.
     pub book: u32,
@@ -93,6 +137,13 @@ pub struct HeldPair {
     pub start: Label,
     /// The label of its end; a text's own label.
     pub end: Label,
+}
+
+impl HeldPair {
+    /// A pair that was kept elsewhere, for instance by a session on another machine.
+    pub const fn new(book: u32, tag: Tag, start: Label, end: Label) -> HeldPair {
+        HeldPair { book, tag, start, end }
+    }
 }
 
 /// Whether a held pair's element encloses a tag.
@@ -127,12 +178,12 @@ impl Within {
 }
 
 impl Answer {
+    /// The store answers 0, 1 or 2. Of a library that answers anything else the careful reading is stale: hold again.
     pub(crate) fn of(number: u32) -> Answer {
         match number {
             0 => Answer::No,
             1 => Answer::Yes,
-            2 => Answer::Stale,
-            _ => unreachable!("the store has no answer {number}"),
+            _ => Answer::Stale,
         }
     }
 }

@@ -1,8 +1,8 @@
 //! Every call, and every refusal that this crate lets a caller meet, on the book that document 01 prints.
 
 use vekhturop::Kind::{Begin, End, Text};
-use vekhturop::{words_for, Answer, Inserted, Kind, Label, Loaded, Place, Refusal, Store, Tag};
-use vekhturop::{HeldPair, Within};
+use vekhturop::{Answer, Inserted, Kind, Label, Loaded, Place, Refusal, Store, Tag, words_for};
+use vekhturop::{HeldPair, NotATag, Within};
 
 const PRINTED: [Kind; 6] = [Begin, Begin, End, Begin, End, End];
 
@@ -15,8 +15,17 @@ fn with_book(tags: usize, test: impl FnOnce(&mut Store)) {
     let mut words = vec![0; words_for(tags)];
     let mut store = Store::new(&mut words);
     let loaded = store.load(2, 2, 7, &PRINTED);
-    assert_eq!(loaded, Ok(Loaded { tags: 6, height: 2 }));
+    assert_eq!(loaded.map(shape), Ok((6, 2)));
     test(&mut store);
+}
+
+fn shape(loaded: Loaded) -> (u32, u32) {
+    (loaded.tags, loaded.height)
+}
+
+/// First and last new tag, moved, split.
+fn reply(inserted: Inserted) -> (u32, u32, u32, u32) {
+    (inserted.first.number(), inserted.last.number(), inserted.moved, inserted.split)
 }
 
 fn listed(store: &Store, within: Within) -> Vec<(u32, u32)> {
@@ -27,38 +36,9 @@ fn listed(store: &Store, within: Within) -> Vec<(u32, u32)> {
 #[test]
 fn the_printed_insertions() {
     with_book(10, |store| {
-        let first = store.insert_text(Place::After(tag(2)));
-        let text = tag(6);
-        assert_eq!(
-            first,
-            Ok(Inserted {
-                first: text,
-                last: text,
-                moved: 1,
-                split: 0
-            })
-        );
-        let second = store.insert_text(Place::After(tag(2)));
-        let text = tag(7);
-        assert_eq!(
-            second,
-            Ok(Inserted {
-                first: text,
-                last: text,
-                moved: 4,
-                split: 2
-            })
-        );
-        let book = [
-            (0, 0),
-            (1, 1),
-            (2, 3),
-            (7, 4),
-            (6, 9),
-            (3, 10),
-            (4, 12),
-            (5, 13),
-        ];
+        assert_eq!(store.insert_text(Place::After(tag(2))).map(reply), Ok((6, 6, 1, 0)));
+        assert_eq!(store.insert_text(Place::After(tag(2))).map(reply), Ok((7, 7, 4, 2)));
+        let book = [(0, 0), (1, 1), (2, 3), (7, 4), (6, 9), (3, 10), (4, 12), (5, 13)];
         assert_eq!(listed(store, Within::Book), book);
         assert_eq!(listed(store, Within::Section(tag(0))), book[1..7]);
     });
@@ -78,12 +58,7 @@ fn an_element_goes_in_with_its_end_behind_it() {
 fn a_pair_is_held_asked_and_gets_stale() {
     with_book(10, |store| {
         let outer = store.hold(tag(0)).expect("a section");
-        let pair = HeldPair {
-            book: 7,
-            tag: tag(0),
-            start: Label(0),
-            end: Label(7),
-        };
+        let pair = HeldPair::new(7, tag(0), Label(0), Label(7));
         assert_eq!(outer, pair);
         let inner = store.hold(tag(1)).expect("a section");
         store.insert_text(Place::After(tag(2))).expect("room");
@@ -129,18 +104,9 @@ fn loads_that_are_refused() {
     assert_eq!(store.load(2, 2, 0, &many), Err(Refusal::TooManyTags));
     assert_eq!(store.load(2, 2, 0, &[Text; 201]), Err(Refusal::TooFewWords));
     assert_eq!(store.load(2, 2, 0, &[Begin, Text]), Err(Refusal::Nesting));
-    assert_eq!(
-        store.load(16, 2, 0, &[Text; 128]),
-        Err(Refusal::OutOfLabels)
-    );
+    assert_eq!(store.load(16, 2, 0, &[Text; 128]), Err(Refusal::OutOfLabels));
     assert!(store.words().iter().all(|it| *it == 5));
-    assert_eq!(
-        store.load(16, 2, 0, &[Text; 127]),
-        Ok(Loaded {
-            tags: 127,
-            height: 6
-        })
-    );
+    assert_eq!(store.load(16, 2, 0, &[Text; 127]).map(shape), Ok((127, 6)));
 }
 
 #[test]
@@ -149,17 +115,11 @@ fn calls_that_are_refused_change_nothing() {
         let before = store.words().to_vec();
         let pair = store.hold(tag(1)).expect("a section");
         assert_eq!(store.insert_text(Place::Front), Err(Refusal::TooManyTags));
-        assert_eq!(
-            store.insert_text(Place::After(tag(6))),
-            Err(Refusal::NoSuchTag)
-        );
+        assert_eq!(store.insert_text(Place::After(tag(6))), Err(Refusal::NoSuchTag));
         assert_eq!(store.mark(tag(2)), Err(Refusal::NotASection));
         assert_eq!(store.hold(tag(5)), Err(Refusal::NotASection));
         assert_eq!(store.question(&pair, tag(6)), Err(Refusal::NoSuchTag));
-        assert_eq!(
-            store.list(Within::Section(tag(2))),
-            Err(Refusal::NotASection)
-        );
+        assert_eq!(store.list(Within::Section(tag(2))), Err(Refusal::NotASection));
         assert_eq!(store.words(), before);
     });
 }
@@ -168,15 +128,9 @@ fn calls_that_are_refused_change_nothing() {
 fn words_that_say_no_store() {
     let mut few = [1; 7];
     assert_eq!(Store::new(&mut few).hold(tag(0)), Err(Refusal::TooFewWords));
-    assert_eq!(
-        Store::new(&mut []).list(Within::Book),
-        Err(Refusal::TooFewWords)
-    );
+    assert_eq!(Store::new(&mut []).list(Within::Book), Err(Refusal::TooFewWords));
     let mut full = [u32::MAX; words_for(3)];
-    assert_eq!(
-        Store::new(&mut full).list(Within::Book),
-        Err(Refusal::NotSound)
-    );
+    assert_eq!(Store::new(&mut full).list(Within::Book), Err(Refusal::NotSound));
     assert_eq!(Store::new(&mut full).mark(tag(0)), Err(Refusal::NotSound));
 }
 
@@ -184,23 +138,28 @@ fn words_that_say_no_store() {
 fn an_empty_book() {
     let mut words = [0; words_for(1)];
     let mut store = Store::new(&mut words);
-    assert_eq!(store.load(2, 2, 7, &[]), Ok(Loaded { tags: 0, height: 1 }));
+    assert_eq!(store.load(2, 2, 7, &[]).map(shape), Ok((0, 1)));
     assert_eq!(store.list(Within::Book), Ok(vec![]));
-    assert_eq!(
-        store.insert_text(Place::Front).map(|it| it.first),
-        Ok(tag(0))
-    );
+    assert_eq!(store.insert_text(Place::Front).map(|it| it.first), Ok(tag(0)));
 }
 
 #[test]
 fn no_tag_is_no_tag() {
     assert_eq!(Tag::new(u32::MAX), None);
     assert_eq!(Tag::new(3).map(Tag::number), Some(3));
+    assert_eq!(Tag::try_from(u32::MAX), Err(NotATag));
+    assert_eq!(Tag::try_from(3).map(u32::from), Ok(3));
 }
 
 #[test]
 fn a_refusal_is_an_error_with_a_number() {
     let error: Box<dyn std::error::Error> = Box::new(Refusal::NoSuchTag);
-    assert_eq!(error.to_string(), "the book has no such tag");
+    assert_eq!(error.to_string(), "the book has issued no tag of that number");
     assert_eq!(Refusal::NoSuchTag.number(), 8);
+}
+
+#[test]
+fn tags_and_labels_are_shown_as_numbers() {
+    assert_eq!(format!("{}={}", tag(12), Label(34)), "12=34");
+    assert_eq!(format!("{:>4}", tag(12)), "  12");
 }

@@ -2,13 +2,35 @@
 
 #[derive(Clone, PartialEq, Eq, Debug)]
 pub enum Call {
-    Load { s: u32, r: u32, book: u32, kinds: Vec<u8> },
-    Insert { kind: u8, place: u32 },
-    Mark { tag: u32 },
-    Hold { tag: u32 },
-    Question { book: u32, tag: u32, start: u32, end: u32, d: u32 },
+    Load {
+        s: u32,
+        r: u32,
+        book: u32,
+        kinds: Vec<u8>,
+    },
+    Insert {
+        kind: u8,
+        place: u32,
+    },
+    Mark {
+        tag: u32,
+    },
+    Hold {
+        tag: u32,
+    },
+    Question {
+        book: u32,
+        tag: u32,
+        start: u32,
+        end: u32,
+        d: u32,
+    },
     /// With the lengths of the two lent lists.
-    List { begin: u32, tags: usize, labels: usize },
+    List {
+        begin: u32,
+        tags: usize,
+        labels: usize,
+    },
 }
 
 /// Refusal number or 0, then the fields of the reply in the header's order, then zeros.

@@ -1,42 +1,14 @@
-//! The verified store through its C interface, as include/vekhturop.h declares it.
+//! The verified store through its C interface.
 
 use crate::call::{Call, Reply};
 use crate::subject::{Lent, Subject};
-
-/// A reply struct of the header is so many words in a row, the refusal first.
-#[repr(C)]
-struct Words<const N: usize>([u32; N]);
-
-extern "C" {
-    fn vk_load(
-        s: u32,
-        r: u32,
-        book: u32,
-        kinds: *const u8,
-        kinds_len: usize,
-        words: *mut u32,
-        words_len: usize,
-    ) -> Words<3>;
-    fn vk_insert(kind: u8, place: u32, words: *mut u32, words_len: usize) -> Words<4>;
-    fn vk_mark(tag: u32, words: *mut u32, words_len: usize) -> Words<2>;
-    fn vk_hold(tag: u32, words: *const u32, words_len: usize) -> Words<5>;
-    fn vk_question(book: u32, tag: u32, start: u32, end: u32, d: u32, words: *const u32, words_len: usize) -> Words<2>;
-    fn vk_list(
-        begin: u32,
-        words: *const u32,
-        words_len: usize,
-        tags: *mut u32,
-        tags_len: usize,
-        labels: *mut u32,
-        labels_len: usize,
-    ) -> Words<2>;
-}
+use vekhturop_sys::{vk_hold, vk_insert, vk_list, vk_load, vk_mark, vk_question};
 
 pub struct CStore;
 
-fn reply<const N: usize>(words: Words<N>) -> Reply {
+fn reply<const N: usize>(words: impl Into<[u32; N]>) -> Reply {
     let mut reply = [0; 5];
-    reply[..N].copy_from_slice(&words.0);
+    reply[..N].copy_from_slice(&words.into());
     reply
 }
 
@@ -50,24 +22,15 @@ impl Subject for CStore {
         // since all are lent mutably.
         unsafe {
             match *call {
-                Call::Load { s, r, book, .. } => {
-                    reply(vk_load(s, r, book, kinds.as_mut_ptr(), kinds.len(), to, len))
-                }
+                Call::Load { s, r, book, .. } => reply(vk_load(s, r, book, kinds.as_mut_ptr(), kinds.len(), to, len)),
                 Call::Insert { kind, place } => reply(vk_insert(kind, place, to, len)),
                 Call::Mark { tag } => reply(vk_mark(tag, to, len)),
                 Call::Hold { tag } => reply(vk_hold(tag, to, len)),
-                Call::Question { book, tag, start, end, d } => {
-                    reply(vk_question(book, tag, start, end, d, to, len))
+                Call::Question { book, tag, start, end, d } => reply(vk_question(book, tag, start, end, d, to, len)),
+                Call::List { begin, .. } => {
+                    let (tags, tags_len) = (tags.as_mut_ptr(), tags.len());
+                    reply(vk_list(begin, to, len, tags, tags_len, labels.as_mut_ptr(), labels.len()))
                 }
-                Call::List { begin, .. } => reply(vk_list(
-                    begin,
-                    to,
-                    len,
-                    tags.as_mut_ptr(),
-                    tags.len(),
-                    labels.as_mut_ptr(),
-                    labels.len(),
-                )),
             }
         }
     }

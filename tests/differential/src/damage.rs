@@ -4,9 +4,9 @@
 
 use crate::call::Call;
 use crate::kinds::{BEGIN, END, TEXT};
-use crate::rng::Rng;
 use crate::session::{Failure, Session, Tally};
 use crate::subject::Subject;
+use draw::Rng;
 use reference::{HEADER, NO_TAG, RECORD};
 
 const LABEL: usize = 0;
@@ -133,11 +133,8 @@ fn crossed_mates(words: &[u32], out: &mut Vec<Vec<u32>>) {
 /// Marks on all sets of tags, closed downward or not.
 fn marks(words: &[u32], rng: &mut Rng, out: &mut Vec<Vec<u32>>) {
     let n = tags(words);
-    let sets: Vec<u64> = if n <= 6 {
-        (0..1 << n).collect()
-    } else {
-        (0..64).map(|_| rng.draw() & rng.draw()).collect()
-    };
+    let sets: Vec<u64> =
+        if n <= 6 { (0..1 << n).collect() } else { (0..64).map(|_| rng.draw() & rng.draw()).collect() };
     for set in sets {
         let mut damaged = words.to_vec();
         for x in 0..n {
@@ -273,11 +270,9 @@ pub fn flawed(subject: &dyn Subject, tally: &mut Tally, rng: &mut Rng, words: &[
     let mut start = words.to_vec();
     start.resize(words.len() + 2 * RECORD, 0);
     let tag = rng.below(n) as u32;
-    for call in [
-        Call::Insert { kind: TEXT, place: tag },
-        Call::Hold { tag },
-        Call::List { begin: NO_TAG, tags: n, labels: n },
-    ] {
+    for call in
+        [Call::Insert { kind: TEXT, place: tag }, Call::Hold { tag }, Call::List { begin: NO_TAG, tags: n, labels: n }]
+    {
         Session::new(subject, tally, start.clone()).step(call)?;
     }
     Ok(())

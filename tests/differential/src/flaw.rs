@@ -1,8 +1,8 @@
 //! Stores that are sound but for one clause about the tree: a node thin or full by a little, a root thin or full, or a
 //! gap between two children. Labels rise, and everything else is as it should be.
 
-use crate::rng::Rng;
 use crate::shape;
+use draw::Rng;
 
 #[derive(Clone, Copy, PartialEq, Eq, PartialOrd, Ord, Debug)]
 pub enum Flaw {

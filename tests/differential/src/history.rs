@@ -2,9 +2,9 @@
 
 use crate::call::Call;
 use crate::kinds::{self, BEGIN, END, TEXT};
-use crate::rng::Rng;
 use crate::session::{Failure, Session};
-use reference::{Fault, Kind, Tag, HEADER, NO_TAG, RECORD};
+use draw::Rng;
+use reference::{Fault, HEADER, Kind, NO_TAG, RECORD, Tag};
 
 /// Where the insertions of a walk go.
 #[derive(Clone, Copy, Debug)]
@@ -82,8 +82,20 @@ fn place(rng: &mut Rng, pattern: Pattern, view: &View, step: usize) -> u32 {
         Pattern::OnePlace(tag) | Pattern::MarkEach(tag) => tag,
         Pattern::Front => NO_TAG,
         Pattern::End => view.last(),
-        Pattern::BothEnds => if even { NO_TAG } else { view.last() },
-        Pattern::Alternating(one, other) => if even { one } else { other },
+        Pattern::BothEnds => {
+            if even {
+                NO_TAG
+            } else {
+                view.last()
+            }
+        }
+        Pattern::Alternating(one, other) => {
+            if even {
+                one
+            } else {
+                other
+            }
+        }
         Pattern::Onward => (view.tags.len() as u32).wrapping_sub(1),
         Pattern::Section(begin) => view.inside(rng, begin),
         Pattern::Anywhere => view.any(rng),

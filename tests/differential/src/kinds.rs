@@ -1,35 +1,20 @@
 //! Kinds for loads: properly nested ones of many forms, spoiled ones, and the sizes at which something changes.
 
-use crate::rng::Rng;
-
-pub const BEGIN: u8 = 1;
-pub const END: u8 = 2;
-pub const TEXT: u8 = 3;
+use draw::Rng;
+pub use draw::{BEGIN, END, TEXT};
 
 /// n properly nested kinds. The leaning is drawn once, so that flat, deep and text-only books all come.
 pub fn nested(rng: &mut Rng, n: usize) -> Vec<u8> {
     let (begins, texts) = rng.pick(&[(0, 100), (50, 0), (90, 5), (30, 40), (60, 30), (20, 70)]);
-    let mut open = 0;
-    let mut kinds = Vec::with_capacity(n);
-    while kinds.len() < n {
-        let left = n - kinds.len();
-        let kind = if left == open {
-            END
-        } else if left >= open + 2 && rng.percent(begins) {
+    draw::nested(n, |open, may_begin| {
+        if may_begin && rng.percent(begins) {
             BEGIN
         } else if open == 0 || rng.percent(texts) {
             TEXT
         } else {
             END
-        };
-        match kind {
-            BEGIN => open += 1,
-            END => open -= 1,
-            _ => {}
         }
-        kinds.push(kind);
-    }
-    kinds
+    })
 }
 
 /// Kinds that a load must refuse, by kind or by nesting; now and then the spoiling leaves them right.

@@ -12,7 +12,7 @@
 
 pub mod bare;
 pub mod call;
-#[cfg(not(feature = "self"))]
+#[cfg(feature = "library")]
 pub mod cstore;
 pub mod damage;
 pub mod due;
@@ -27,7 +27,6 @@ pub mod plan;
 pub mod process;
 pub mod program;
 pub mod report;
-pub mod rng;
 pub mod script;
 pub mod scripts;
 pub mod session;

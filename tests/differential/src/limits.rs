@@ -2,10 +2,10 @@
 
 use crate::call::Call;
 use crate::kinds::{BEGIN, END, TEXT};
-use crate::rng::Rng;
 use crate::session::{Failure, Session, Tally};
 use crate::shape;
 use crate::subject::Subject;
+use draw::Rng;
 use reference::{HEADER, NO_TAG, RECORD};
 
 /// Tries a text and an element here and there, from the same words each time, then as many texts as go in.

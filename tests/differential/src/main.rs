@@ -1,11 +1,12 @@
-//! `cargo run --release --offline -- SEED SIZE [calls|lines]`: compares the verified store with the reference, by calls
+//! `cargo run --release -p differential -- SEED SIZE [calls|lines]`: compares the verified store with the reference, by calls
 //! of the C interface and by lines of the book program, or only one of them.
 //!
 //! SIZE is the number of random histories of each; 225 meet every s and r. A difference is printed as a short script
-//! and ends the run with status 1. The library is linked (build.rs); the program is the one that VEKHTUROP_BOOK names,
+//! and ends the run with status 1. The library is linked (vekhturop-sys); the program is the one that VEKHTUROP_BOOK names,
 //! or target/bin/book of the repository.
 
 use differential::plan;
+use differential::process::Process;
 use differential::program::LineProgram;
 use differential::report;
 use differential::session::Tally;
@@ -16,32 +17,6 @@ use differential::writer::LineTally;
 use std::fmt::Display;
 use std::process::ExitCode;
 use std::time::Instant;
-
-#[cfg(feature = "self")]
-mod compared {
-    use super::*;
-
-    pub fn subject() -> impl Subject {
-        differential::subject::Reference::right()
-    }
-
-    pub fn program() -> Result<impl LineProgram, String> {
-        Ok(differential::program::Interpreter { fault: reference::Fault::None })
-    }
-}
-
-#[cfg(not(feature = "self"))]
-mod compared {
-    use super::*;
-
-    pub fn subject() -> impl Subject {
-        differential::cstore::CStore
-    }
-
-    pub fn program() -> Result<impl LineProgram, String> {
-        differential::process::Process::of_environment()
-    }
-}
 
 struct Arguments {
     seed: u64,
@@ -71,11 +46,19 @@ fn alike(what: &str, since: Instant, tally: impl Iterator<Item = (&'static str, 
     }
 }
 
-fn by_calls(seed: u64, size: usize, run: &str) -> Result<(), String> {
-    let (subject, since) = (compared::subject(), Instant::now());
+/// What is set beside the reference. Built without the library there is nothing to compare, and the run must not pass.
+fn subject() -> Result<Box<dyn Subject>, &'static str> {
+    #[cfg(feature = "library")]
+    return Ok(Box::new(differential::cstore::CStore));
+    #[cfg(not(feature = "library"))]
+    return Err("the verified store is not linked: build with the feature `library`, which is on by default");
+}
+
+fn by_calls(subject: &dyn Subject, seed: u64, size: usize, run: &str) -> Result<(), String> {
+    let since = Instant::now();
     let mut tally = Tally::new();
-    if let Err(failure) = plan::calls(&subject, &mut tally, seed, size) {
-        let (case, what) = shrink(&subject, failure.case, failure.what);
+    if let Err(failure) = plan::calls(subject, &mut tally, seed, size) {
+        let (case, what) = shrink(subject, failure.case, failure.what);
         return Err(report::of_calls(&case, &what, run));
     }
     alike("calls", since, tally.into_iter().map(|((name, refusal), count)| (name, refusal.to_string(), count)));
@@ -101,12 +84,16 @@ fn main() -> ExitCode {
     let Some(Arguments { seed, size, calls, lines }) = arguments() else {
         return stop(2, "usage: differential SEED SIZE [calls|lines]");
     };
-    let program = match compared::program() {
+    let subject = match subject() {
+        Ok(subject) => subject,
+        Err(missing) => return stop(2, missing),
+    };
+    let program = match Process::of_environment() {
         Err(missing) if lines => return stop(2, missing),
         program => program,
     };
     let run = format!("seed-{seed}-size-{size}");
-    let mut result = if calls { by_calls(seed, size, &run) } else { Ok(()) };
+    let mut result = if calls { by_calls(&*subject, seed, size, &run) } else { Ok(()) };
     if let (Ok(()), Ok(program), true) = (&result, &program, lines) {
         result = by_lines(program, seed, size, &run);
     }

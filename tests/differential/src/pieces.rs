@@ -1,6 +1,6 @@
 //! How a script comes to a program: cut into writes, or as a file. A program that reads blocks must not care.
 
-use crate::rng::Rng;
+use draw::Rng;
 use std::time::Duration;
 
 #[derive(Clone, Copy, PartialEq, Eq, Debug)]
@@ -9,7 +9,10 @@ pub enum Cut {
     /// Pieces of so many bytes.
     Each(usize),
     /// Pieces of one byte up to so many, by a seed.
-    Various { most: usize, seed: u64 },
+    Various {
+        most: usize,
+        seed: u64,
+    },
     /// Every line feed is a piece of its own.
     Feeds,
     /// No pipe: the program's standard input is a file.

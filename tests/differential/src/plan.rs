@@ -5,14 +5,14 @@ use crate::flaw::{self, Flaw};
 use crate::history::{ground, history, walk};
 use crate::limits;
 use crate::pieces::Pieces;
-use crate::program::{compare, LineProgram};
-use crate::rng::Rng;
+use crate::program::{LineProgram, compare};
 use crate::scripts;
 use crate::session::{Failure, Session, Tally};
 use crate::shape;
 use crate::shorten::Found;
 use crate::subject::Subject;
 use crate::writer::{LineTally, Script};
+use draw::Rng;
 
 /// All 225 of s and r, in an order by the seed, so that 225 histories meet each once.
 fn pairs(rng: &mut Rng) -> Vec<(u32, u32)> {

@@ -2,8 +2,8 @@
 
 use crate::kinds::{self, TEXT};
 use crate::near;
-use crate::rng::Rng;
 use crate::writer::{LineTally, Script, Writer};
+use draw::Rng;
 use reference::LONGEST_LINE;
 
 /// Where the insertions of a history go.

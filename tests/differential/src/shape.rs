@@ -2,7 +2,7 @@
 //! marks and stamps that no short history gives. Every sound store must be served, however it came to be.
 
 use crate::kinds::{self, BEGIN, END};
-use crate::rng::Rng;
+use draw::Rng;
 use reference::{HEADER, NO_TAG, RECORD};
 
 /// Splits l leaves into at most so many children of `least` to `most` leaves each. There must be a way to.

@@ -3,7 +3,7 @@
 use crate::edit::{split, up_to, with_load, without};
 use crate::kinds::TEXT;
 use crate::pieces::Pieces;
-use crate::program::{compare, due, Difference, LineProgram};
+use crate::program::{Difference, LineProgram, compare, due};
 use crate::shrink::SMALL;
 use std::time::{Duration, Instant};
 

@@ -39,12 +39,8 @@ impl Subject for Reference {
     fn call(&self, call: &Call, lent: Lent) -> Reply {
         let mut store = Store::faulty(lent.words.to_vec(), self.fault);
         let reply = match *call {
-            Call::Load { s, r, book, ref kinds } => {
-                reply(store.load(s, r, book, kinds).map(|it| [it.tags, it.height]))
-            }
-            Call::Insert { kind, place } => {
-                reply(store.insert(kind, place).map(|it| [it.first, it.moved, it.split]))
-            }
+            Call::Load { s, r, book, ref kinds } => reply(store.load(s, r, book, kinds).map(|it| [it.tags, it.height])),
+            Call::Insert { kind, place } => reply(store.insert(kind, place).map(|it| [it.first, it.moved, it.split])),
             Call::Mark { tag } => reply(store.mark(tag).map(|marked| [marked])),
             Call::Hold { tag } => reply(store.hold(tag).map(|it| [it.book, it.tag, it.start, it.end])),
             Call::Question { book, tag, start, end, d } => {

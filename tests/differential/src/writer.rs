@@ -2,8 +2,8 @@
 //! chosen by what the store holds.
 
 use crate::kinds::{BEGIN, END};
-use crate::rng::Rng;
-use reference::{lines, Command, Fault, Program, HEADER, LONGEST_LINE, NO_TAG, RECORD};
+use draw::Rng;
+use reference::{Command, Fault, HEADER, LONGEST_LINE, NO_TAG, Program, RECORD, lines};
 use std::collections::BTreeMap;
 
 /// How often which command was answered how; lines that are none count as such.

@@ -1,16 +1,16 @@
-//! The harness must fail on every seeded fault, and say it briefly. Runs without the library: `--features self`.
+//! The harness must fail on every seeded fault, and say it briefly. Needs no library.
 
 use differential::call::{Call, Case, Reply};
-use differential::flaw::{flawed, Flaw};
+use differential::flaw::{Flaw, flawed};
 use differential::plan;
 use differential::program::due;
 use differential::report;
-use differential::rng::Rng;
 use differential::script::{input, script};
-use differential::session::{replay, Failure, Tally};
+use differential::session::{Failure, Tally, replay};
 use differential::shrink::shrink;
 use differential::subject::{Lent, Reference, Subject};
-use reference::{Clause, Fault, Program, HEADER, NO_TAG, RECORD};
+use draw::Rng;
+use reference::{Clause, Fault, HEADER, NO_TAG, Program, RECORD};
 
 fn histories(subject: &dyn Subject, seed: u64) -> Result<(), Failure> {
     plan::histories(subject, &mut Tally::new(), &mut Rng::new(seed), 40)

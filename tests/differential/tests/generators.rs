@@ -1,17 +1,17 @@
 //! What the generators promise: sound shapes are sound, damage gives both verdicts, and the bare list is strict.
 
-use differential::bare::{counts, Bare};
+use differential::bare::{Bare, counts};
 use differential::call::{Call, Case};
 use differential::damage::variants;
 use differential::due::load_refusal;
 use differential::history::history;
 use differential::kinds;
-use differential::rng::Rng;
 use differential::script::{input, script};
 use differential::session::{Session, Tally};
 use differential::shape;
 use differential::subject::Reference;
-use reference::{Fault, Program, Store, HEADER, NO_TAG, RECORD};
+use draw::Rng;
+use reference::{Fault, HEADER, NO_TAG, Program, RECORD, Store};
 
 #[test]
 fn shapes_are_sound_for_all_s_and_r() {

@@ -1,15 +1,15 @@
 //! The comparison by lines: it must fail on every seeded fault and say it briefly, and it must read and write pipes of
-//! any program. Runs without the book program: `--features self`.
+//! any program. Needs neither the library nor the book program.
 
 use differential::pieces::{Cut, Pieces};
 use differential::plan;
 use differential::process::Process;
-use differential::program::{compare, due, first_difference, Difference, Interpreter, LineProgram};
+use differential::program::{Difference, Interpreter, LineProgram, compare, due, first_difference};
 use differential::report;
-use differential::rng::Rng;
-use differential::shorten::{shorten, Found};
+use differential::shorten::{Found, shorten};
 use differential::writer::LineTally;
-use reference::{lines, Fault};
+use draw::Rng;
+use reference::{Fault, lines};
 use std::collections::BTreeMap;
 use std::time::Duration;
 

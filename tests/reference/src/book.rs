@@ -5,7 +5,7 @@ use crate::params::MAX_TAGS;
 use crate::reply::{Answer, Held, Inserted, Refusal};
 use crate::tag::{Kind, Tag};
 use crate::tree::Tree;
-use crate::words::{words_for, NO_TAG};
+use crate::words::{NO_TAG, words_for};
 
 #[derive(Clone, PartialEq, Eq, Debug)]
 pub struct Book {

@@ -2,7 +2,7 @@
 
 use crate::book::Book;
 use crate::fault::Fault;
-use crate::params::{Params, MAX_TAGS};
+use crate::params::{MAX_TAGS, Params};
 use crate::reply::Refusal;
 use crate::tag::{Kind, Tag};
 use crate::tree::Tree;

@@ -4,7 +4,7 @@ use crate::command::Command;
 use crate::fault::Fault;
 use crate::reply::Refusal;
 use crate::store::Store;
-use crate::words::{words_for, NO_TAG};
+use crate::words::{NO_TAG, words_for};
 use std::fmt::Write;
 
 /// The program's store has words for so many tags.

@@ -2,10 +2,10 @@
 
 use crate::book::Book;
 use crate::fault::{Clause, Fault};
-use crate::params::{Params, MAX_TAGS};
+use crate::params::{MAX_TAGS, Params};
 use crate::tag::{Kind, Tag};
 use crate::tree::{Inner, Node, Tree};
-use crate::words::{words_for, HEADER, NO_TAG, RECORD};
+use crate::words::{HEADER, NO_TAG, RECORD, words_for};
 
 /// The book that the words say, or None where they are not sound. The words may have any length and content.
 pub fn read(words: &[u32], fault: Fault) -> Option<Book> {

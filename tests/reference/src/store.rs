@@ -4,7 +4,7 @@ use crate::book::Book;
 use crate::fault::Fault;
 use crate::reply::{Answer, Held, Inserted, Loaded, Refusal};
 use crate::sound::read;
-use crate::words::{to_words, HEADER};
+use crate::words::{HEADER, to_words};
 
 /// The words stand open, so that a test may damage them and compare them.
 #[derive(Clone, PartialEq, Eq, Debug, Default)]

@@ -1,14 +1,13 @@
 //! The book program: document 01's printed case, and lines and replies worked out by hand.
 
-use reference::{lines, Command, Fault, Program, NO_TAG};
+use reference::{Command, Fault, NO_TAG, Program, lines};
 
 fn run(input: impl AsRef<[u8]>) -> String {
     String::from_utf8(Program::default().run(input.as_ref())).expect("replies are plain")
 }
 
 const PRINTED: &str = "load 2 2 7 BBEBEE\ntext 2\ntext 2\nlist\n";
-const PRINTED_REPLIES: &str =
-    "ok 6 2\nok 6 1 0\nok 7 4 2\n0 0\n1 1\n2 3\n7 4\n6 9\n3 10\n4 12\n5 13\nend 8\n";
+const PRINTED_REPLIES: &str = "ok 6 2\nok 6 1 0\nok 7 4 2\n0 0\n1 1\n2 3\n7 4\n6 9\n3 10\n4 12\n5 13\nend 8\n";
 
 #[test]
 fn the_printed_case() {

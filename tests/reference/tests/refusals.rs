@@ -1,6 +1,6 @@
 //! The refusals in document 01's order, and that a refused call changes nothing.
 
-use reference::{Answer, Held, Refusal, Store, HEADER, NO_TAG, RECORD};
+use reference::{Answer, HEADER, Held, NO_TAG, RECORD, Refusal, Store};
 
 const BEGIN: u8 = 1;
 const END: u8 = 2;

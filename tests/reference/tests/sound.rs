@@ -1,6 +1,6 @@
 //! Words and books: what is written reads back, random histories stay sound, and damaged words never do harm.
 
-use reference::{read, to_words, Fault, Refusal, Store, Tree, HEADER, NO_TAG, RECORD};
+use reference::{Fault, HEADER, NO_TAG, RECORD, Refusal, Store, Tree, read, to_words};
 
 /// A small generator; the numbers need only be various.
 struct Random(u64);

@@ -1,6 +1,6 @@
 //! Specimens A to L of document 01, its printed case, and its run from K.
 
-use reference::{Answer, Fault, Held, Inserted, Loaded, Refusal, Store, HEADER, NO_TAG, RECORD};
+use reference::{Answer, Fault, HEADER, Held, Inserted, Loaded, NO_TAG, RECORD, Refusal, Store};
 
 const BEGIN: u8 = 1;
 const TEXT: u8 = 3;
@@ -30,12 +30,9 @@ fn listed(store: &Store) -> (Vec<u32>, Vec<u32>) {
 
 #[test]
 fn a_to_d_loads() {
-    for (kinds, h, labels) in [
-        ("", 1, vec![]),
-        ("TTT", 1, vec![0, 1, 2]),
-        ("TTTT", 2, vec![0, 1, 3, 4]),
-        ("TTTTT", 2, vec![0, 1, 3, 4, 5]),
-    ] {
+    for (kinds, h, labels) in
+        [("", 1, vec![]), ("TTT", 1, vec![0, 1, 2]), ("TTTT", 2, vec![0, 1, 3, 4]), ("TTTTT", 2, vec![0, 1, 3, 4, 5])]
+    {
         let store = loaded(2, 2, kinds, 5);
         assert_eq!(height(&store), h, "{kinds}");
         assert_eq!(listed(&store).1, labels, "{kinds}");
@@ -118,13 +115,8 @@ fn short_history(fault: Fault) -> (Vec<String>, Vec<u32>) {
 
 #[test]
 fn each_seeded_fault_shows() {
-    let faults = [
-        Fault::LowestFull,
-        Fault::RightSiblingsStay,
-        Fault::BaseF,
-        Fault::MarkedLeftOut,
-        Fault::MovedOffByOne,
-    ];
+    let faults =
+        [Fault::LowestFull, Fault::RightSiblingsStay, Fault::BaseF, Fault::MarkedLeftOut, Fault::MovedOffByOne];
     for fault in faults {
         assert_ne!(short_history(fault), short_history(Fault::None), "{fault:?}");
     }

@@ -1,0 +1,122 @@
+//! The C interface of the verified store, as include/vekhturop.h declares it: names, structs and nothing more. The crate
+//! `vekhturop` is the safe layer over it.
+//!
+//! # Safety
+//!
+//! Of every function: each pointer is aligned and not null, even where its length is 0, and points to as many elements
+//! as the length behind it says; what a call writes overlaps nothing else that is lent to it.
+
+#![no_std]
+
+/// A reply: a row of words, of which the first is the refusal's number, or 0. Where it is not 0, all others are 0.
+macro_rules! reply {
+    ($(#[$what:meta])* $name:ident { $($(#[$about:meta])* $field:ident),* } $words:literal) => {
+        $(#[$what])*
+        #[repr(C)]
+        #[derive(Clone, Copy, PartialEq, Eq, Debug)]
+        pub struct $name {
+            /// The number of the refusal, 0 where the call is accepted.
+            pub refusal: u32,
+            $($(#[$about])* pub $field: u32,)*
+        }
+
+        impl From<$name> for [u32; $words] {
+            fn from(reply: $name) -> [u32; $words] {
+                [reply.refusal, $(reply.$field),*]
+            }
+        }
+    };
+}
+
+reply!(
+    /// `vk_loaded`.
+    Loaded {
+        /// How many tags the book has.
+        tags,
+        /// The height of its tree.
+        height
+    } 3
+);
+
+reply!(
+    /// `vk_inserted`.
+    Inserted {
+        /// The number of the new text or begin; an element's end has the next.
+        first,
+        /// How many tags that were there before have another label now.
+        moved,
+        /// The height of the node that was split, 0 where none was; of an element's two, the greater.
+        split
+    } 4
+);
+
+reply!(
+    /// `vk_marked`.
+    Marked {
+        /// How many tags became marked.
+        marked
+    } 2
+);
+
+reply!(
+    /// `vk_held`.
+    Held {
+        /// The book's number.
+        book,
+        /// The section's begin tag, or the text.
+        tag,
+        /// The label of its begin.
+        start,
+        /// The label of its end; a text's own label.
+        end
+    } 5
+);
+
+reply!(
+    /// `vk_answered`.
+    Answered {
+        /// 0 no, 1 yes, 2 stale.
+        answer
+    } 2
+);
+
+reply!(
+    /// `vk_listed`.
+    Listed {
+        /// How many tags were written.
+        count
+    } 2
+);
+
+extern "C" {
+    pub fn vk_load(
+        s: u32,
+        r: u32,
+        book: u32,
+        kinds: *const u8,
+        kinds_len: usize,
+        words: *mut u32,
+        words_len: usize,
+    ) -> Loaded;
+    pub fn vk_insert(kind: u8, place: u32, words: *mut u32, words_len: usize) -> Inserted;
+    pub fn vk_mark(tag: u32, words: *mut u32, words_len: usize) -> Marked;
+    pub fn vk_hold(tag: u32, words: *const u32, words_len: usize) -> Held;
+    pub fn vk_question(
+        book: u32,
+        tag: u32,
+        start: u32,
+        end: u32,
+        d: u32,
+        words: *const u32,
+        words_len: usize,
+    ) -> Answered;
+    pub fn vk_list(
+        begin: u32,
+        words: *const u32,
+        words_len: usize,
+        tags: *mut u32,
+        tags_len: usize,
+        labels: *mut u32,
+        labels_len: usize,
+    ) -> Listed;
+}

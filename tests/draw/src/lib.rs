@@ -1,0 +1,7 @@
+//! What the comparison and the benchmark draw by chance.
+
+mod kinds;
+mod rng;
+
+pub use kinds::{BEGIN, END, TEXT, nested};
+pub use rng::Rng;
