@@ -4,13 +4,45 @@ use crate::store::Store;
 use crate::words::*;
 use draw::Rng;
 
-/// n properly nested kinds, a third each of begins, ends and texts, at most 12 deep, in no order to be guessed.
-pub fn kinds(n: usize, rng: &mut Rng) -> Vec<u8> {
-    draw::nested(n, |open, may_begin| match rng.below(3) {
-        0 if open < 12 && may_begin => BEGIN,
-        1 if open > 0 => END,
-        _ => TEXT,
-    })
+/// In which order the kinds of a book come.
+#[derive(Clone, Copy, PartialEq, Eq)]
+pub enum Sheet {
+    /// A third each of begins, ends and texts, at most 12 deep, in no order to be guessed.
+    Random,
+    /// As planners write sheets: sections of passes, each pass with the same few settings.
+    Regular,
+}
+
+pub const SHEETS: [(Sheet, &str); 2] = [(Sheet::Random, "random"), (Sheet::Regular, "regular")];
+
+/// Passes of a section, and settings of a pass.
+const PASSES: usize = 7;
+const SETTINGS: usize = 3;
+
+impl Sheet {
+    /// n properly nested kinds.
+    pub fn kinds(self, n: usize, rng: &mut Rng) -> Vec<u8> {
+        match self {
+            Sheet::Random => draw::nested(n, |open, may_begin| match rng.below(3) {
+                0 if open < 12 && may_begin => BEGIN,
+                1 if open > 0 => END,
+                _ => TEXT,
+            }),
+            Sheet::Regular => {
+                let section = section();
+                let mut kinds = section.repeat(n / section.len());
+                kinds.resize(n, TEXT);
+                kinds
+            }
+        }
+    }
+}
+
+/// One section: a setting is an element with a text inside.
+fn section() -> Vec<u8> {
+    let around = |inside: Vec<u8>| [vec![BEGIN], inside, vec![END]].concat();
+    let pass = around(around(vec![TEXT]).repeat(SETTINGS));
+    around(pass.repeat(PASSES))
 }
 
 /// The words of a loaded book, with room for an element more; None where the load is refused.

@@ -1,7 +1,7 @@
 //! The calls, timed: each on the verified store and on the plain version, beside a bare walk, one after the other
 //! within a repetition, so that what disturbs the machine disturbs all alike.
 
-use crate::books;
+use crate::books::{self, Sheet};
 use crate::plain::Plain;
 use crate::store::{Store, Verified};
 use crate::words::*;
@@ -33,6 +33,7 @@ pub struct Case {
     pub n: usize,
     pub s: u32,
     pub r: u32,
+    pub sheet: Sheet,
     pub shuffled: bool,
 }
 
@@ -136,7 +137,7 @@ impl Bench {
     /// None where the load is refused.
     pub fn new(case: Case) -> Option<Bench> {
         let mut rng = Rng::new(case.n as u64);
-        let kinds = books::kinds(case.n, &mut rng);
+        let kinds = case.sheet.kinds(case.n, &mut rng);
         let mut book = books::loaded::<Verified>(case.s, case.r, &kinds)?;
         if case.shuffled {
             book = books::shuffled(&book, &mut rng);

@@ -1,10 +1,11 @@
 //! `cargo run --release -p bench`: prints all figures. With `-- --write FOLDER` it also writes the tables into
 //! FOLDER/PERFORMANCE.md and draws FOLDER/moved.svg and FOLDER/label-bits.svg.
 
+use bench::books::{SHEETS, Sheet};
 use bench::calls::{Bench, Case, SHAPES, SIZES, Times};
 use bench::report::{Section, calls, filled, targets};
 use bench::table::thousands;
-use bench::{bits, moved, plot, store};
+use bench::{bits, moved, others, plot, store};
 use std::path::{Path, PathBuf};
 use std::process::ExitCode;
 
@@ -24,11 +25,11 @@ fn repetitions(n: usize) -> usize {
 fn times() -> (Vec<Times>, String) {
     let (mut all, mut left_out) = (Vec::new(), Vec::new());
     for n in SIZES {
-        for shuffled in [false, true] {
+        for (shuffled, (sheet, _)) in [false, true].into_iter().flat_map(|it| SHEETS.map(|sheet| (it, sheet))) {
             for (s, r) in SHAPES {
-                match Bench::new(Case { n, s, r, shuffled }) {
+                match Bench::new(Case { n, s, r, sheet, shuffled }) {
                     Some(bench) => all.push((n, bench)),
-                    None if shuffled => {}
+                    None if shuffled || sheet != Sheet::Random => {}
                     None => left_out.push(format!("{} tags with ({s}, {r})", thousands(n))),
                 }
             }
@@ -95,6 +96,7 @@ fn main() -> ExitCode {
         },
         Section { name: "moved", title: "Moved tags per insertion", body: moved::tables(&moved) },
         Section { name: "bits", title: "Label bits: largest label / all below (f − 1)^H", body: bits::tables(&bits) },
+        Section { name: "others", title: "What else could be chosen", body: others::table(&others::all()) },
         Section { name: "room", title: "Most tags with labels of 32 bits", body: bits::room_table() },
     ];
     for section in &sections {

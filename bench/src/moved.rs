@@ -23,6 +23,17 @@ pub enum Pattern {
 pub const PATTERNS: [(Pattern, &str); 3] =
     [(Pattern::Random, "random places"), (Pattern::SamePlace, "same place"), (Pattern::Front, "front")];
 
+impl Pattern {
+    /// The tag that the next of n tags goes behind; none is the front.
+    pub fn place(self, n: usize, rng: &mut Rng) -> Option<usize> {
+        match self {
+            Pattern::Random => Some(rng.below(n)),
+            Pattern::SamePlace => Some(LOADED.min(n) / 2),
+            Pattern::Front => None,
+        }
+    }
+}
+
 /// Moved tags per insertion, or how many tags stood when refusal 7 came, 0 on the load.
 pub type Moved = Result<f64, usize>;
 
@@ -32,11 +43,7 @@ pub fn moved(pattern: Pattern, s: u32, r: u32, inserted: usize) -> Moved {
     words.resize(words_for(LOADED + inserted), 0);
     let mut sum = 0;
     for n in LOADED..LOADED + inserted {
-        let place = match pattern {
-            Pattern::Random => rng.below(n) as u32,
-            Pattern::SamePlace => LOADED as u32 / 2,
-            Pattern::Front => NO_TAG,
-        };
+        let place = pattern.place(n, rng).map_or(NO_TAG, |tag| tag as u32);
         let [refusal, _, moved, _] = Verified::insert(TEXT, place, &mut words);
         if refusal != 0 {
             return Err(n);
@@ -51,7 +58,8 @@ pub fn all() -> Vec<Vec<Vec<Moved>>> {
     PATTERNS.map(|(it, _)| DEGREES.map(|s| DEGREES.map(|r| moved(it, s, r, INSERTED)).into()).into()).into()
 }
 
-fn figure(moved: f64) -> String {
+/// A count of moved tags per insertion, as precise as it is worth.
+pub fn figure(moved: f64) -> String {
     if moved < 9.95 { format!("{moved:.1}") } else { format!("{moved:.0}") }
 }
 

@@ -1,5 +1,6 @@
 //! The figures as tables, and their places in docs/PERFORMANCE.md.
 
+use crate::books::{SHEETS, Sheet};
 use crate::calls::{CALLS, Call, Times};
 use crate::table::{table, thousands};
 
@@ -12,13 +13,15 @@ pub struct Section {
 
 /// One row a case, one column a call: what `figure` makes of the case and the call's place in CALLS.
 pub fn calls(all: &[Times], figure: impl Fn(&Times, usize) -> f64) -> String {
-    let head = ["tags", "in memory", "s, r", "walk (hold)", "text", "element", "mark", "question", "list", "load"];
+    let head =
+        ["tags", "kinds", "in memory", "s, r", "walk (hold)", "text", "element", "mark", "question", "list", "load"];
     let rows: Vec<Vec<String>> = all
         .iter()
         .map(|times| {
             let case = times.case;
             let order = if case.shuffled { "shuffled" } else { "in order" };
-            let mut row = vec![thousands(case.n), order.into(), format!("{}, {}", case.s, case.r)];
+            let mut row =
+                vec![thousands(case.n), name(case.sheet).into(), order.into(), format!("{}, {}", case.s, case.r)];
             row.extend((0..CALLS.len()).map(|i| {
                 // A load puts tags in order, whatever the words held before.
                 let out = CALLS[i] == Call::Load && case.shuffled;
@@ -27,7 +30,11 @@ pub fn calls(all: &[Times], figure: impl Fn(&Times, usize) -> f64) -> String {
             row
         })
         .collect();
-    table(3, &head.map(String::from), &rows)
+    table(4, &head.map(String::from), &rows)
+}
+
+fn name(sheet: Sheet) -> &'static str {
+    SHEETS.iter().find(|(it, _)| *it == sheet).expect("SHEETS has every sheet").1
 }
 
 fn place(call: Call) -> usize {
@@ -44,20 +51,21 @@ pub fn targets(all: &[Times]) -> String {
         rows.push(vec![what, format!("{figure:.2}"), format!("{most:.1}"), met.to_string()]);
     };
     let walk = place(Call::Hold);
+    let kinds = |it: &Times| format!("{} kinds, ({}, {})", name(it.case.sheet), it.case.s, it.case.r);
     let just_loaded = || all.iter().filter(|it| it.case.n == 20_000 && !it.case.shuffled);
     for it in just_loaded() {
         let most = if (it.case.s, it.case.r) == (2, 2) { 3.5 } else { 3.0 };
-        let what = format!("20,000 tags just loaded, ({}, {}): walk / bare walk", it.case.s, it.case.r);
+        let what = format!("20,000 tags just loaded, {}: walk / bare walk", kinds(it));
         row(what, it.verified[walk] / it.bare, most);
     }
     for (call, name) in [(Call::Text, "text"), (Call::Element, "element")] {
         for it in just_loaded() {
-            let what = format!("20,000 tags just loaded, ({}, {}): insert {name} / walk", it.case.s, it.case.r);
+            let what = format!("20,000 tags just loaded, {}: insert {name} / walk", kinds(it));
             row(what, it.verified[place(call)] / it.verified[walk], 1.2);
         }
     }
     for it in all.iter().filter(|it| it.case.n > 20_000 && it.case.shuffled) {
-        let what = format!("{} tags shuffled, ({}, {}): walk / bare walk", thousands(it.case.n), it.case.s, it.case.r);
+        let what = format!("{} tags shuffled, {}: walk / bare walk", thousands(it.case.n), kinds(it));
         row(what, it.verified[walk] / it.bare, 1.5);
     }
     table(1, &["ratio", "this run", "at most", ""].map(String::from), &rows)

@@ -1,5 +1,6 @@
 //! The books that are measured on, and what is made of the figures.
 
+use bench::books::{SHEETS, Sheet};
 use bench::calls::{Bench, Case};
 use bench::plain::Plain;
 use bench::report::{Section, filled};
@@ -17,7 +18,7 @@ fn listed(words: &[u32], n: usize) -> (Vec<u32>, Vec<u32>) {
 #[test]
 fn a_shuffled_book_is_the_same_book() {
     let rng = &mut Rng::new(3);
-    let kinds = books::kinds(500, rng);
+    let kinds = Sheet::Random.kinds(500, rng);
     let book = books::loaded::<Plain>(3, 2, &kinds).expect("labels fit");
     let shuffled = books::shuffled(&book, rng);
     let ((_, before), (tags, after)) = (listed(&book, 500), listed(&shuffled, 500));
@@ -26,15 +27,27 @@ fn a_shuffled_book_is_the_same_book() {
     assert_eq!(along, kinds.iter().map(|&kind| u32::from(kind)).collect::<Vec<_>>());
 }
 
+/// A section of seven passes of three settings has 2 + 7 * (2 + 3 * 3) tags; what is left of the book is texts.
+#[test]
+fn a_regular_sheet_is_sections_of_passes() {
+    let kinds = Sheet::Regular.kinds(160, &mut Rng::new(1));
+    let letters: String = kinds.iter().map(|&kind| ['B', 'E', 'T'][usize::from(kind) - 1]).collect();
+    let section = format!("B{}E", "BBTEBTEBTEE".repeat(7));
+    assert_eq!(section.len(), 79);
+    assert_eq!(letters, format!("{section}{section}TT"));
+}
+
 /// Every call is accepted and both subjects reply alike, which `repeat` asserts; a book that does not fit is left out.
 #[test]
 fn cases_are_timed_or_left_out() {
-    for shuffled in [false, true] {
-        let mut bench = Bench::new(Case { n: 300, s: 4, r: 4, shuffled }).expect("labels fit");
-        (0..50).for_each(|_| bench.repeat());
-        assert!(bench.times().bare > 0.0);
+    for (sheet, _) in SHEETS {
+        for shuffled in [false, true] {
+            let mut bench = Bench::new(Case { n: 300, s: 4, r: 4, sheet, shuffled }).expect("labels fit");
+            (0..50).for_each(|_| bench.repeat());
+            assert!(bench.times().bare > 0.0);
+        }
+        assert!(Bench::new(Case { n: 300, s: 16, r: 2, sheet, shuffled: false }).is_none());
     }
-    assert!(Bench::new(Case { n: 300, s: 16, r: 2, shuffled: false }).is_none());
 }
 
 /// Document 01's specimens K and L, and the run behind them.
