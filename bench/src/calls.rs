@@ -111,13 +111,15 @@ fn perform<S: Store>(call: Call, lent: &mut Lent, draw: &Draw) -> [u32; 5] {
     }
 }
 
-fn timed<T>(work: impl FnOnce() -> T) -> (Duration, T) {
+/// Runs and times.
+pub fn timed<T>(work: impl FnOnce() -> T) -> (Duration, T) {
     let start = Instant::now();
     let result = black_box(work());
     (start.elapsed(), result)
 }
 
-fn median(mut times: Vec<Duration>) -> f64 {
+/// In seconds.
+pub fn median(mut times: Vec<Duration>) -> f64 {
     times.sort();
     times[times.len() / 2].as_secs_f64()
 }

@@ -1,11 +1,11 @@
 //! `cargo run --release -p bench`: prints all figures. With `-- --write FOLDER` it also writes the tables into
-//! FOLDER/PERFORMANCE.md and draws FOLDER/moved.svg and FOLDER/label-bits.svg.
+//! FOLDER/PERFORMANCE.md and draws FOLDER/moved.svg, FOLDER/label-bits.svg and FOLDER/split.svg.
 
 use bench::books::{SHEETS, Sheet};
 use bench::calls::{Bench, Case, SHAPES, SIZES, Times};
 use bench::report::{Section, calls, filled, targets};
 use bench::table::thousands;
-use bench::{bits, moved, others, plot, store};
+use bench::{bits, branches, moved, others, picture, plot, store};
 use std::path::{Path, PathBuf};
 use std::process::ExitCode;
 
@@ -94,6 +94,7 @@ fn main() -> ExitCode {
             title: "Plain call / bare walk",
             body: calls(&times, |it, i| it.plain[i] / it.bare),
         },
+        Section { name: "branches", title: "A branch on the kind", body: branches::table(&branches::ratios(1_000)) },
         Section { name: "moved", title: "Moved tags per insertion", body: moved::tables(&moved) },
         Section { name: "bits", title: "Label bits: largest label / all below (f − 1)^H", body: bits::tables(&bits) },
         Section { name: "others", title: "What else could be chosen", body: others::table(&others::all()) },
@@ -102,7 +103,11 @@ fn main() -> ExitCode {
     for section in &sections {
         println!("## {}\n\n{}", section.title, section.body);
     }
-    let plots = [("moved.svg", plot::svg(&moved::plot(&moved))), ("label-bits.svg", plot::svg(&bits::plot(&bits)))];
+    let plots = [
+        ("split.svg", picture::printed()),
+        ("moved.svg", plot::svg(&moved::plot(&moved))),
+        ("label-bits.svg", plot::svg(&bits::plot(&bits))),
+    ];
     match folder.map_or(Ok(()), |folder| write(&folder, &sections, &plots)) {
         Ok(()) => ExitCode::SUCCESS,
         Err(what) => {

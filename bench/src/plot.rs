@@ -1,5 +1,6 @@
 //! Heat maps by s and r as SVG, with the figure in every cell.
 
+use crate::svg::Svg;
 use std::fmt::Write;
 
 pub struct Cell {
@@ -47,29 +48,10 @@ fn colour(shade: f64) -> String {
     format!("#{:02x}{:02x}{:02x}", mix(0), mix(1), mix(2))
 }
 
-/// An SVG under way.
-struct Svg(String);
-
 impl Svg {
-    fn rect(&mut self, x: f64, y: f64, width: f64, height: f64, fill: &str) {
-        let _ = writeln!(
-            self.0,
-            r##"<rect x="{x:.1}" y="{y:.1}" width="{width:.1}" height="{height:.1}" fill="{fill}" stroke="#ffffff"/>"##
-        );
-    }
-
-    /// Text with its middle, or its start, at x.
-    fn text(&mut self, x: f64, y: f64, size: f64, anchor: &str, style: &str, text: &str) {
-        let text = text.replace('&', "&amp;").replace('<', "&lt;");
-        let _ = writeln!(
-            self.0,
-            r#"<text x="{x:.1}" y="{y:.1}" font-size="{size}" text-anchor="{anchor}" {style}>{text}</text>"#
-        );
-    }
-
     fn cell(&mut self, x: f64, y: f64, cell: &Cell) {
         let fill = cell.shade.map_or(GREY.to_string(), colour);
-        self.rect(x, y, CELL.0, CELL.1, &fill);
+        self.rect(x, y, CELL.0, CELL.1, &fill, "#ffffff");
         let ink = match cell.shade {
             None => "#777777",
             Some(shade) if shade > 0.55 => "#ffffff",
@@ -119,15 +101,10 @@ impl Svg {
         }
         for (shade, text) in &plot.ticks {
             let tick = x + shade * LENGTH;
-            let _ = writeln!(
-                self.0,
-                r##"<line x1="{tick:.1}" y1="{:.1}" x2="{tick:.1}" y2="{:.1}" stroke="#333333"/>"##,
-                y + 24.0,
-                y + 29.0
-            );
+            self.line((tick, y + 24.0), (tick, y + 29.0), "#333333");
             self.text(tick, y + 42.0, 12.0, "middle", "", text);
         }
-        self.rect(x + LENGTH + 60.0, y + 6.0, 30.0, 20.0, GREY);
+        self.rect(x + LENGTH + 60.0, y + 6.0, 30.0, 20.0, GREY, "#ffffff");
         self.text(x + LENGTH + 98.0, y + 21.0, 13.0, "start", "", &plot.blank);
     }
 }
@@ -138,12 +115,7 @@ pub fn svg(plot: &Plot) -> String {
     let width = 2.0 * MARGIN + plot.panels.len() as f64 * panel.0 - 24.0;
     let top = MARGIN + 30.0 + 18.0 * plot.notes.len() as f64 + 14.0;
     let height = top + panel.1 + 62.0 + MARGIN;
-    let mut svg = Svg(format!(
-        r##"<svg xmlns="http://www.w3.org/2000/svg" width="{width:.0}" height="{height:.0}"
-  viewBox="0 0 {width:.0} {height:.0}" font-family="DejaVu Sans, Verdana, Arial, sans-serif" fill="#1a1a1a">
-<rect width="100%" height="100%" fill="#fcfcfa"/>
-"##
-    ));
+    let mut svg = Svg::new(width, height);
     svg.text(MARGIN, MARGIN + 14.0, 20.0, "start", r#"font-weight="bold""#, &plot.title);
     for (i, note) in plot.notes.iter().enumerate() {
         svg.text(MARGIN, MARGIN + 38.0 + 18.0 * i as f64, 13.0, "start", "", note);
@@ -152,5 +124,5 @@ pub fn svg(plot: &Plot) -> String {
         svg.panel(MARGIN + i as f64 * panel.0, top, &plot.degrees, it);
     }
     svg.legend(MARGIN + AXIS, top + panel.1 + 14.0, plot);
-    svg.0 + "</svg>\n"
+    svg.finish()
 }
