@@ -1,8 +1,8 @@
 /* A session on one section of a book: it holds the section's pair of labels, shows it with a write, finds it stale once the
  * book has been relabelled, and holds it again. Then the book is listed, and once more with a part of it marked.
  *
- *     rt staticlib store_c
- *     gcc -I include examples/section.c target/staticlib/libstore_c.a -o target/section
+ *     ./install PREFIX && export PKG_CONFIG_PATH=PREFIX/lib/pkgconfig
+ *     cc examples/section.c $(pkg-config --cflags --libs vekhturop) -o section
  */
 #include <inttypes.h>
 #include <stdio.h>

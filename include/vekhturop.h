@@ -16,7 +16,8 @@
  * that number is 0; what a call writes must not overlap anything else that is lent to it. Calls on separate words may run
  * at the same time; so may calls on the same words that take them as const.
  *
- * Build:  rt staticlib store_c    writes target/staticlib/libstore_c.a (x86-64 Linux), which needs the C library alone.
+ * Build:  ./install PREFIX   in the repository, then   cc .. $(pkg-config --cflags --libs vekhturop)
+ * The library is for x86-64 Linux and needs the C library alone. docs/STORE.md is the manual.
  */
 #ifndef VEKHTUROP_H
 #define VEKHTUROP_H
