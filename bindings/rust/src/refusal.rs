@@ -89,7 +89,10 @@ impl fmt::Display for Refusal {
             }
             Refusal::ListTooShort => "a lent list is too short: lend one as long as the number of tags in the book",
             Refusal::Other(number) => {
-                return write!(f, "the library refuses with {number}, which this crate does not know: update the crate");
+                return write!(
+                    f,
+                    "the library refuses with {number}, which this crate does not know: update the crate"
+                );
             }
         })
     }
