@@ -1,25 +1,26 @@
 -- The specimens of specs/Specimens.antt hold: the checker computes the whole table. Assumes nothing.
 use mathlib.Core.Path.{_≡_, refl}
 use mathlib.Core.Bool.{true}
-use mathlib.Core.List.{headD}
-use Rattle.tree.specs.Row.{numbers, member, place, insert-at, all-below}
+use mathlib.Core.List.{headD, flatMap}
+use Rattle.lists.specs.Lists.{same, numbers}
+use Rattle.store_types.specs.Layout.{records-at, words-for, field, label-at}
+use Rattle.tree.specs.Row.{member, place, insert-at, all-below}
 use Rattle.tree.specs.Forest.{leaves, labels, joined, leaf-row, parts, spread, put, split-height, within-limits}
 use Rattle.tree.specs.Book.{label-of, base, power-width, under-from, load-under, loaded, root-full, root-split, put-inside, inserted, split-of, inserted-row, split-of-row, moved-among, moved, root-within, book-within}
 use Rattle.tree.specs.Spelling.{front-below, spelled-nodes, spelled}
-use Rattle.tree.specs.Specimens.{same}
 use Rattle.calls.specs.Kind.{code, is-kind, kind-of, kind-word, is-begin, is-end}
 use Rattle.calls.specs.Store.{next-in, prior-in, marked-count}
 use Rattle.calls.specs.Nesting.{nests, closing, new-facts, fits, opened, nested}
 use Rattle.calls.specs.Sound.{degrees-fit, tree-sound, row-sound, header-sound, sound}
-use Rattle.calls.specs.Load.{words-for, all-kinds, load-refusal, load-store}
+use Rattle.calls.specs.Load.{all-kinds, load-refusal, load-store}
 use Rattle.calls.specs.Insert.{insert-kinds, position, up-at, book-after, insert-store, insert-moved, insert-split, raised, labels-run-out, row-refusal, insert-refusal}
 use Rattle.calls.specs.Mark.{within, mark-facts, mark-store, new-marks, mark-count, section-refusal}
 use Rattle.calls.specs.Held.{hold-pair, encloses, current, question}
 use Rattle.calls.specs.Listing.{is-listed, listed-of, listed-tags, listed-labels, list-refusal}
-use Rattle.calls.specs.Words.{header, tag-record, tag-records, words-of, field, follow, read-fact, label-field, read-book, read-store, starts-with, read, in-front}
+use Rattle.calls.specs.Words.{header, tag-record, words-of, follow, read-fact, read-book, read-store, starts-with, read, in-front}
 use Rattle.calls.specs.Replies.{on-store, refusal-over, store-or, said, written, load-outcome, load-reply, load-words, insert-outcome, insert-refused, insert-reply, insert-words, mark-outcome, mark-reply, mark-words, hold-outcome, hold-reply, question-outcome, question-reply, list-outcome, list-refused, list-reply, list-tags, list-labels, load-numbers, insert-numbers, mark-numbers, hold-numbers, answer-number, question-numbers, list-numbers}
 use Rattle.calls.specs.Specimens.{pair, replies-hold, holds, all-hold, table}
 
 pub specimens : all-hold table ≡ true
-unfolding headD numbers member place insert-at all-below leaves labels joined leaf-row parts spread put split-height within-limits label-of base power-width under-from load-under loaded root-full root-split put-inside inserted split-of inserted-row split-of-row moved-among moved root-within book-within front-below spelled-nodes spelled same code is-kind kind-of kind-word is-begin is-end next-in prior-in marked-count nests closing new-facts fits opened nested degrees-fit tree-sound row-sound header-sound sound words-for all-kinds load-refusal load-store insert-kinds position up-at book-after insert-store insert-moved insert-split raised labels-run-out row-refusal insert-refusal within mark-facts mark-store new-marks mark-count section-refusal hold-pair encloses current question is-listed listed-of listed-tags listed-labels list-refusal header tag-record tag-records words-of field follow read-fact label-field read-book read-store starts-with read in-front on-store refusal-over store-or said written load-outcome load-reply load-words insert-outcome insert-refused insert-reply insert-words mark-outcome mark-reply mark-words hold-outcome hold-reply question-outcome question-reply list-outcome list-refused list-reply list-tags list-labels load-numbers insert-numbers mark-numbers hold-numbers answer-number question-numbers list-numbers pair replies-hold holds all-hold
+unfolding headD numbers member place insert-at all-below leaves labels joined leaf-row parts spread put split-height within-limits label-of base power-width under-from load-under loaded root-full root-split put-inside inserted split-of inserted-row split-of-row moved-among moved root-within book-within front-below spelled-nodes spelled same code is-kind kind-of kind-word is-begin is-end next-in prior-in marked-count nests closing new-facts fits opened nested degrees-fit tree-sound row-sound header-sound sound words-for all-kinds load-refusal load-store insert-kinds position up-at book-after insert-store insert-moved insert-split raised labels-run-out row-refusal insert-refusal within mark-facts mark-store new-marks mark-count section-refusal hold-pair encloses current question is-listed listed-of listed-tags listed-labels list-refusal header tag-record flatMap words-of records-at field follow read-fact label-at read-book read-store starts-with read in-front on-store refusal-over store-or said written load-outcome load-reply load-words insert-outcome insert-refused insert-reply insert-words mark-outcome mark-reply mark-words hold-outcome hold-reply question-outcome question-reply list-outcome list-refused list-reply list-tags list-labels load-numbers insert-numbers mark-numbers hold-numbers answer-number question-numbers list-numbers pair replies-hold holds all-hold
 specimens = refl

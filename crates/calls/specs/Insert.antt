@@ -6,11 +6,11 @@ use Prim.Native.Nat.{ℕ, zero, suc, _+_, _*_, _^_}
 use lib.Dec.{ltb, leb, eqb}
 use lib.ListN.{length}
 use Rattle.store_types.specs.Limits.{no-tag, label-limit, most-tags}
+use Rattle.store_types.specs.Layout.{header-words, words-for}
 use Rattle.tree.specs.Book.{Book, height, inserted-row, split-of-row, moved, power-width}
 use Rattle.calls.specs.Kind.{Kind, begin, end, text, is-begin}
 use Rattle.calls.specs.Store.{Store, fact, count, place-of, width}
 use Rattle.calls.specs.Nesting.{new-facts}
-use Rattle.calls.specs.Load.{words-for}
 
 -- kind 1: an element, its begin and then its end; kind 3: a text
 unfoldable pub insert-kinds : (kind : ℕ) → List Kind
@@ -63,7 +63,7 @@ row-refusal w ks y st =
     let k = length ks in
     cond (not (eqb y no-tag) && leb n y) 8
     (cond (not (eqb y no-tag) && fact st y .marked) 9
-    (cond (ltb most-tags (n + k) || ltb w (words-for (n + k))) 6
+    (cond (ltb most-tags (n + k) || ltb w (words-for header-words (n + k))) 6
     (cond (labels-run-out (st .book .s) (st .book .r) k n (height (st .book))) 7 0)))
 
 -- 4, 8, 9, 6, 7 of the call (1 and 2 are the words')

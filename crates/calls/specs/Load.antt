@@ -4,16 +4,13 @@ use mathlib.Core.List.{List, [], _∷_, map}
 use Prim.Native.Nat.{ℕ, suc, _+_, _*_}
 use lib.Dec.{ltb}
 use lib.ListN.{length}
-use Rattle.store_types.specs.Limits.{no-tag, header-words, tag-words, label-limit, most-tags}
+use Rattle.store_types.specs.Limits.{no-tag, label-limit, most-tags}
+use Rattle.store_types.specs.Layout.{header-words, words-for}
 use Rattle.tree.specs.Book.{loaded, load-under, power-width}
 use Rattle.calls.specs.Kind.{is-kind, kind-of}
 use Rattle.calls.specs.Store.{Store}
 use Rattle.calls.specs.Nesting.{nests, new-facts}
 use Rattle.calls.specs.Sound.{degrees-fit}
-
--- how many words a store of n tags has
-unfoldable pub words-for : (n : ℕ) → ℕ
-words-for n = header-words + tag-words * n
 
 unfoldable pub all-kinds : List ℕ → Bool
 all-kinds [] = true
@@ -25,7 +22,7 @@ load-refusal w s r cs =
     let n = length cs in
     cond (not (degrees-fit s r)) 3
     (cond (ltb most-tags n) 6
-    (cond (ltb w (words-for n)) 1
+    (cond (ltb w (words-for header-words n)) 1
     (cond (not (all-kinds cs)) 4
     (cond (not (nests 0 (map kind-of cs))) 5 (cond (ltb label-limit (power-width s r (suc (load-under r n)))) 7 0)))))
 

@@ -13,6 +13,7 @@ use Rattle.store_types.specs.declared.HeldPair.{HeldPair}
 use Rattle.store_types.specs.declared.Answer.the-variants.{Yes, No, Stale}
 use Rattle.store_types.specs.declared.LoadReply.the-variants.{Loaded}
 use Rattle.store_types.specs.declared.QuestionReply.the-variants.{Answered}
+use Rattle.store_types.specs.Layout.{at-s, at-r, at-height, at-count, at-first, word-at, label-at}
 use Rattle.tree.specs.Row.{rises}
 use Rattle.tree.specs.Book.{height, labels-of, book-within}
 use Rattle.tree.specs.Reach.{account-bound}
@@ -24,7 +25,7 @@ use Rattle.calls.specs.Load.{load-refusal, load-store}
 use Rattle.calls.specs.Insert.{row-refusal, insert-store}
 use Rattle.calls.specs.Mark.{section-refusal, mark-store}
 use Rattle.calls.specs.Held.{question}
-use Rattle.calls.specs.Words.{words-of, Says, word-at, follow, label-field, read}
+use Rattle.calls.specs.Words.{words-of, Says, follow, read}
 use Rattle.calls.specs.Calls.{Call, load, after, All-fit, judged, moved-after, Event, loads, Happens, Run, told, calls-of, total-moved}
 use Rattle.calls.specs.Reference.{Reference, total, reference-load, reference-after}
 
@@ -121,12 +122,12 @@ Lists-keep =
 -- THE WHOLE RUN, over the words and the replies. What the words hold of the header and along next
 pub record Words-kept (ws : List ℕ) (st : Store) (a : Reference) : Type 0 where
   pub says : Says ws st
-  pub degree-s : word-at ws 1 ≡ a .s
-  pub degree-r : word-at ws 2 ≡ a .r
-  pub levels : word-at ws 3 ≡ a .height
-  pub tags : word-at ws 4 ≡ length (a .row)
-  pub along-next : follow (length (a .row)) ws (word-at ws 5) ≡ a .row
-  pub labels-along : map (label-field ws) (a .row) ≡ labels-of (width st) (st .book)
+  pub degree-s : word-at ws at-s ≡ a .s
+  pub degree-r : word-at ws at-r ≡ a .r
+  pub levels : word-at ws at-height ≡ a .height
+  pub tags : word-at ws at-count ≡ length (a .row)
+  pub along-next : follow (length (a .row)) ws (word-at ws at-first) ≡ a .row
+  pub labels-along : map (label-at ws) (a .row) ≡ labels-of (width st) (st .book)
 
 -- of every list of events behind an accepted load, over the words and the replies: exactly the calls that the
 -- definitions refuse were refused, and the words, the reference list and the moved numbers of the replies agree

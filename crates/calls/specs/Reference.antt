@@ -6,7 +6,8 @@ use Prim.Native.Nat.{ℕ, zero, suc, _+_}
 use lib.Dec.{eqb}
 use lib.ListN.{length}
 use Rattle.store_types.specs.Limits.{no-tag}
-use Rattle.tree.specs.Row.{numbers, place, insert-at}
+use Rattle.lists.specs.Lists.{numbers}
+use Rattle.tree.specs.Row.{place, insert-at}
 use Rattle.tree.specs.Book.{load-under}
 use Rattle.calls.specs.Insert.{insert-kinds, raised}
 use Rattle.calls.specs.Calls.{Call, load, insert, mark, Told}

@@ -6,7 +6,6 @@ use mathlib.Core.Option.{Option, none, some}
 use Prim.Native.Nat.{ℕ, zero, suc}
 use lib.Dec.{ltb}
 use lib.ListN.{length}
-use Rattle.store_types.specs.Limits.{header-words}
 use Rattle.store_types.specs.declared.HeldPair.{HeldPair}
 use Rattle.store_types.specs.declared.Answer.{Answer}
 use Rattle.store_types.specs.declared.Answer.the-variants.{Yes, No, Stale}
@@ -22,6 +21,7 @@ use Rattle.store_types.specs.declared.QuestionReply.{QuestionReply}
 use Rattle.store_types.specs.declared.QuestionReply.the-variants as asked
 use Rattle.store_types.specs.declared.ListReply.{ListReply}
 use Rattle.store_types.specs.declared.ListReply.the-variants as list
+use Rattle.store_types.specs.Layout.{header-words}
 use Rattle.tree.specs.Book.{height, loaded}
 use Rattle.calls.specs.Store.{Store, count}
 use Rattle.calls.specs.Load.{load-refusal, load-store}

@@ -7,8 +7,8 @@ use Prim.Native.Nat.{ℕ}
 use lib.ListN.{length, replicate}
 use Rattle.store_types.specs.Limits.{no-tag}
 use Rattle.store_types.specs.declared.HeldPair.{HeldPair}
-use Rattle.tree.specs.Specimens.{same}
-use Rattle.calls.specs.Load.{words-for}
+use Rattle.lists.specs.Lists.{same}
+use Rattle.store_types.specs.Layout.{header-words, words-for}
 use Rattle.calls.specs.Replies.{load-reply, load-words, insert-reply, insert-words, mark-reply, mark-words, hold-reply, question-reply, list-reply, list-tags, list-labels, load-numbers, insert-numbers, mark-numbers, hold-numbers, question-numbers, list-numbers}
 
 -- a call and the numbers it replies; a list also says the tags and labels that it writes; `sizes` is a load of which only
@@ -43,7 +43,7 @@ pub record Specimen : Type 0 where
   pub exchanges : List Exchange
 
 unfoldable pub holds : Specimen → Bool
-holds e = replies-hold (replicate (words-for (e .room)) 0) (e .exchanges)
+holds e = replies-hold (replicate (words-for header-words (e .room)) 0) (e .exchanges)
 
 unfoldable pub all-hold : List Specimen → Bool
 all-hold [] = true

@@ -2,13 +2,14 @@
 -- Assumes nothing: these are definitions.
 use mathlib.Core.Path.{_≡_}
 use mathlib.Core.Bool.{Bool, true, false, _&&_, cond}
-use mathlib.Core.List.{List, [], _∷_, _++_, map}
+use mathlib.Core.List.{List, [], _∷_, _++_, map, flatMap}
 use mathlib.Core.Option.{Option, none, some}
 use Prim.Native.Nat.{ℕ, zero, suc, pred, _+_, _*_, _-_}
 use lib.Dec.{leb, eqb}
 use lib.ListN.{length, getD, drop}
-use Rattle.store_types.specs.Limits.{no-tag, header-words, tag-words}
-use Rattle.tree.specs.Row.{numbers}
+use Rattle.store_types.specs.Limits.{no-tag}
+use Rattle.store_types.specs.Layout.{at-s, at-r, at-height, at-count, at-first, at-book, at-stamp, at-next, at-mate, at-up, at-kind, word-at, field, label-at}
+use Rattle.lists.specs.Lists.{numbers}
 use Rattle.tree.specs.Book.{Book, height, power-width}
 use Rattle.tree.specs.Spelling.{spelled}
 use Rattle.calls.specs.Kind.{kind-of, kind-word}
@@ -25,55 +26,41 @@ unfoldable pub tag-record : Store → (tag : ℕ) → List ℕ
 tag-record st x =
     label st x ∷ next-in (row st) x ∷ prior-in (row st) x ∷ fact st x .mate ∷ fact st x .up ∷ kind-word (fact st x .kind) (fact st x .marked) ∷ []
 
-unfoldable pub tag-records : Store → (tags : List ℕ) → List ℕ
-tag-records st [] = []
-tag-records st (x ∷ xs) = tag-record st x ++ tag-records st xs
-
 -- the header, then the tags by number from 0
 unfoldable pub words-of : Store → List ℕ
-words-of st = header st ++ tag-records st (numbers 0 (count st))
+words-of st = header st ++ flatMap (tag-record st) (numbers 0 (count st))
 
 -- words that say a store: it is sound, and they are its words with anything after them
 unfoldable pub Says : (words : List ℕ) → Store → Type 0
 Says ws st = (sound st ≡ true) × ((rest : List ℕ) × (ws ≡ words-of st ++ rest))
 
--- THE READER. Words of the header by place, and of a tag by tag and place
-abbrev pub word-at : List ℕ → (i : ℕ) → ℕ
-word-at ws i = getD ws i 0
-
-unfoldable pub field : List ℕ → (tag k : ℕ) → ℕ
-field ws x k = getD ws (header-words + tag-words * x + k) 0
-
--- so many tags along next
+-- THE READER. So many tags along next
 unfoldable pub follow : (steps : ℕ) → List ℕ → (tag : ℕ) → List ℕ
 follow zero ws x = []
-follow (suc n) ws x = x ∷ follow n ws (field ws x 1)
+follow (suc n) ws x = x ∷ follow n ws (field ws x at-next)
 
 unfoldable pub read-fact : List ℕ → (tag : ℕ) → Fact
 read-fact ws x =
-    let c = field ws x 5 in
-    record { kind = kind-of (cond (leb 16 c) (c - 16) c); marked = leb 16 c; mate = field ws x 3; up = field ws x 4 }
-
-unfoldable pub label-field : List ℕ → (tag : ℕ) → ℕ
-label-field ws x = field ws x 0
+    let c = field ws x at-kind in
+    record { kind = kind-of (cond (leb 16 c) (c - 16) c); marked = leb 16 c; mate = field ws x at-mate; up = field ws x at-up }
 
 -- the book that s, r, H, next and the labels spell
 unfoldable pub read-book : List ℕ → Book
 read-book ws =
-    let s = word-at ws 1 in
-    let r = word-at ws 2 in
-    let tags = follow (word-at ws 4) ws (word-at ws 5) in
+    let s = word-at ws at-s in
+    let r = word-at ws at-r in
+    let tags = follow (word-at ws at-count) ws (word-at ws at-first) in
     record {
       s = s;
       r = r;
-      under = pred (word-at ws 3);
-      root = spelled (pred (word-at ws 3)) (power-width s r) 0 tags (map (label-field ws) tags);
+      under = pred (word-at ws at-height);
+      root = spelled (pred (word-at ws at-height)) (power-width s r) 0 tags (map (label-at ws) tags);
     }
 
 -- the only store that words can say
 unfoldable pub read-store : List ℕ → Store
 read-store ws =
-    record { book = read-book ws; number = word-at ws 6; stamp = word-at ws 7; facts = map (read-fact ws) (numbers 0 (word-at ws 4)) }
+    record { book = read-book ws; number = word-at ws at-book; stamp = word-at ws at-stamp; facts = map (read-fact ws) (numbers 0 (word-at ws at-count)) }
 
 unfoldable pub starts-with : (front words : List ℕ) → Bool
 starts-with [] ws = true

@@ -1,19 +1,16 @@
 -- The words of a store, word by word: how many, the header's, and each tag's. Assumes nothing.
-use mathlib.Core.Path.{_≡_, refl, _∙_}
-use mathlib.Core.List.{List, [], _∷_, _++_, append-assoc}
-use Prim.Native.Nat.{ℕ, zero, suc, _+_, _*_, _<_}
-use native.Mathlib.Nat.{zero-add, not-suc-le-zero, le-of-suc-le-suc}
+use mathlib.Core.Path.{_≡_, refl}
+use mathlib.Core.List.{List, _++_}
+use Prim.Native.Nat.{ℕ, _<_}
 use native.Mathlib.Omega.{arith}
-use lib.ListN.{length, getD, length-append, List·getD-append}
-use lib.Seq.{getD-append-add}
-use Rattle.store_types.specs.Limits.{no-tag, header-words, tag-words}
-use Rattle.tree.specs.Row.{numbers}
+use lib.ListN.{length, getD}
+use Rattle.store_types.specs.Limits.{no-tag}
+use Rattle.store_types.specs.Layout.{at-version, at-s, at-r, at-height, at-count, at-first, at-book, at-stamp, header-words, at-next, at-prior, at-mate, at-up, at-kind, tag-words, word-at, words-for, field, label-at}
+use Rattle.words.proofs.Records.{length-joined, field-joined, label-joined}
 use Rattle.tree.specs.Book.{height}
-use Rattle.tree_laws.proofs.Rows.{length-numbers, getD-numbers}
 use Rattle.calls.specs.Kind.{kind-word}
 use Rattle.calls.specs.Store.{Store, fact, count, row, label, next-in, prior-in}
-use Rattle.calls.specs.Load.{words-for}
-use Rattle.calls.specs.Words.{header, tag-record, tag-records, words-of, word-at, field}
+use Rattle.calls.specs.Words.{header, tag-record, words-of}
 
 -- HOW MANY
 
@@ -25,76 +22,51 @@ length-record : (st : Store) (x : ℕ) → length (tag-record st x) ≡ tag-word
 unfolding tag-record
 length-record st x = refl
 
-length-records : (st : Store) (xs : List ℕ) → length (tag-records st xs) ≡ tag-words * length xs
-unfolding tag-records
-length-records st [] = refl
-length-records st (x ∷ xs) =
-    length-append (tag-record st x) (tag-records st xs) ∙ omega (arith, length-record st x, length-records st xs)
+pub length-words : (st : Store) → length (words-of st) ≡ words-for header-words (count st)
+unfolding words-of
+length-words st = length-joined (header st) (tag-record st) (count st) (length-header st) (length-record st)
 
-pub length-words : (st : Store) → length (words-of st) ≡ words-for (count st)
-unfolding words-of words-for
-length-words st =
-    length-append (header st) (tag-records st (numbers 0 (count st)))
-    ∙ omega (arith, length-header st, length-records st (numbers 0 (count st)), length-numbers 0 (count st))
+-- THE WORDS OF A TAG, with anything after the store's words: the k-th, and the label
+module _ (st : Store) (rest : List ℕ) (x : ℕ) (l : x < count st) where
+  pub field-word : (k : ℕ) → k < tag-words → field (words-of st ++ rest) x k ≡ getD (tag-record st x) k 0
+  unfolding words-of
+  field-word k small = field-joined (header st) (tag-record st) (count st) (length-header st) (length-record st) rest x l k small
 
--- THE WORDS OF A TAG
-
--- of the i-th record of a row
-record-word : (st : Store) (xs rest : List ℕ) (i k : ℕ) → i < length xs → k < tag-words →
-    getD (tag-records st xs ++ rest) (tag-words * i + k) 0 ≡ getD (tag-record st (getD xs i 0)) k 0
-unfolding tag-records
-record-word st [] rest i k l f = absurd (not-suc-le-zero l)
-record-word st (x ∷ xs) rest zero k l f =
-    let first : tag-words * 0 + k ≡ k = omega arith in
-    rw (first, append-assoc) (List·getD-append (tag-record st x) (tag-records st xs ++ rest) 0 k (omega (arith, length-record st x)))
-record-word st (x ∷ xs) rest (suc i) k l f =
-    let later : tag-words * suc i + k ≡ length (tag-record st x) + (tag-words * i + k) = omega (arith, length-record st x) in
-    rw (later, append-assoc)
-    (getD-append-add (tag-record st x) (tag-records st xs ++ rest) (tag-words * i + k) 0
-    ∙ record-word st xs rest i k (le-of-suc-le-suc l) f)
-
--- the k-th word of tag x, with anything after the store's words
-pub field-word : (st : Store) (rest : List ℕ) (x k : ℕ) → x < count st → k < tag-words →
-    field (words-of st ++ rest) x k ≡ getD (tag-record st x) k 0
-unfolding words-of field
-field-word st rest x k l f =
-    let at : header-words + tag-words * x + k ≡ length (header st) + (tag-words * x + k) = omega (arith, length-header st) in
-    rw (at, append-assoc)
-    (getD-append-add (header st) (tag-records st (numbers 0 (count st)) ++ rest) (tag-words * x + k) 0
-    ∙ record-word st (numbers 0 (count st)) rest x k (omega (arith, length-numbers 0 (count st))) f
-    ∙ rw (getD-numbers 0 (count st) x 0 l, zero-add))
+  pub first-word : label-at (words-of st ++ rest) x ≡ getD (tag-record st x) 0 0
+  unfolding words-of
+  first-word = label-joined (header st) (tag-record st) (count st) (length-header st) (length-record st) rest x l
 
 -- each by its name
 pub record Tag-says (ws : List ℕ) (st : Store) (x : ℕ) : Type 0 where
-  pub label-word : field ws x 0 ≡ label st x
-  pub next-word : field ws x 1 ≡ next-in (row st) x
-  pub prior-word : field ws x 2 ≡ prior-in (row st) x
-  pub mate-word : field ws x 3 ≡ fact st x .mate
-  pub up-word : field ws x 4 ≡ fact st x .up
-  pub kind-is : field ws x 5 ≡ kind-word (fact st x .kind) (fact st x .marked)
+  pub label-word : label-at ws x ≡ label st x
+  pub next-word : field ws x at-next ≡ next-in (row st) x
+  pub prior-word : field ws x at-prior ≡ prior-in (row st) x
+  pub mate-word : field ws x at-mate ≡ fact st x .mate
+  pub up-word : field ws x at-up ≡ fact st x .up
+  pub kind-is : field ws x at-kind ≡ kind-word (fact st x .kind) (fact st x .marked)
 
 pub tag-says : (st : Store) (rest : List ℕ) (x : ℕ) → x < count st → Tag-says (words-of st ++ rest) st x
 unfolding tag-record
 tag-says st rest x l =
     record {
-      label-word = field-word st rest x 0 l (omega arith);
-      next-word = field-word st rest x 1 l (omega arith);
-      prior-word = field-word st rest x 2 l (omega arith);
-      mate-word = field-word st rest x 3 l (omega arith);
-      up-word = field-word st rest x 4 l (omega arith);
-      kind-is = field-word st rest x 5 l (omega arith);
+      label-word = first-word st rest x l;
+      next-word = field-word st rest x l at-next (omega arith);
+      prior-word = field-word st rest x l at-prior (omega arith);
+      mate-word = field-word st rest x l at-mate (omega arith);
+      up-word = field-word st rest x l at-up (omega arith);
+      kind-is = field-word st rest x l at-kind (omega arith);
     }
 
 -- THE HEADER, word by word
 pub record Header-says (ws : List ℕ) (st : Store) : Type 0 where
-  pub version : word-at ws 0 ≡ 1
-  pub degree-s : word-at ws 1 ≡ st .book .s
-  pub degree-r : word-at ws 2 ≡ st .book .r
-  pub levels : word-at ws 3 ≡ height (st .book)
-  pub issued : word-at ws 4 ≡ count st
-  pub first : word-at ws 5 ≡ getD (row st) 0 no-tag
-  pub number : word-at ws 6 ≡ st .number
-  pub stamp : word-at ws 7 ≡ st .stamp
+  pub version : word-at ws at-version ≡ 1
+  pub degree-s : word-at ws at-s ≡ st .book .s
+  pub degree-r : word-at ws at-r ≡ st .book .r
+  pub levels : word-at ws at-height ≡ height (st .book)
+  pub issued : word-at ws at-count ≡ count st
+  pub first : word-at ws at-first ≡ getD (row st) 0 no-tag
+  pub number : word-at ws at-book ≡ st .number
+  pub stamp : word-at ws at-stamp ≡ st .stamp
 
 pub header-says : (st : Store) (rest : List ℕ) → Header-says (words-of st ++ rest) st
 unfolding words-of header

@@ -11,16 +11,18 @@ use lib.Dec.{ltb, leb, eqb}
 use lib.ListN.{length, take, drop, length-append, List·getD-append}
 use lib.Seq.{take-suc}
 use Rattle.store_types.specs.Limits.{no-tag, label-limit, most-tags}
-use Rattle.tree.specs.Row.{numbers, member, insert-at, all-below}
+use Rattle.lists.proofs.Tests.{by-test, fails, or-left-false, or-right-false}
+use Rattle.store_types.specs.Layout.{header-words, words-for}
+use Rattle.lists.specs.Lists.{numbers}
+use Rattle.tree.specs.Row.{member, insert-at, all-below}
 use Rattle.tree.specs.Forest.{size}
 use Rattle.tree.specs.Book.{Book, height, power-width, root-full, inserted, inserted-row}
 use Rattle.tree.specs.Promise.{Sane}
-use Rattle.tree_laws.proofs.Rows.{by-test, fails, or-left-false, or-right-false, getD-place, place-of-member, member-of-take, member-insert, member-numbers, member-all-below, all-below-of, member-of-drop}
+use Rattle.tree_laws.proofs.Rows.{getD-place, place-of-member, member-of-take, member-insert, member-numbers, member-all-below, all-below-of, member-of-drop}
 use Rattle.tree_laws.proofs.Insertion.{inserted-s, inserted-r, inserted-under, size-inserted, sane-inserted, sane-inserted-row, tags-inserted-row, size-inserted-row}
 use Rattle.calls.specs.Kind.{Kind, is-begin}
 use Rattle.calls.specs.Store.{Store, Fact, no-fact, fact, count, row, place-of, marked-count}
 use Rattle.calls.specs.Nesting.{nests, new-facts}
-use Rattle.calls.specs.Load.{words-for}
 use Rattle.calls.specs.Insert.{position, up-at, book-after, insert-store, raised, labels-run-out, row-refusal}
 use Rattle.calls.specs.Promise.{Insert-sound}
 use Rattle.calls_laws.proofs.Tests.{passes, Sound, sane, facts-of, sound-of}
@@ -70,7 +72,7 @@ labels-kept s r (suc n) p x k h es er l e fits =
 pub record Row-accepted (w : ℕ) (ks : List Kind) (y : ℕ) (st : Store) : Type 0 where
   pub place : (y ≡ no-tag) ⊎ ((y < count st) × (fact st y .marked ≡ false))
   pub few : count st + length ks ≤ most-tags
-  pub room : words-for (count st + length ks) ≤ w
+  pub room : words-for header-words (count st + length ks) ≤ w
   pub labels : labels-run-out (st .book .s) (st .book .r) (length ks) (count st) (height (st .book)) ≡ false
 
 pub accepted-row : (w : ℕ) (ks : List Kind) (y : ℕ) (st : Store) → row-refusal w ks y st ≡ 0 → Row-accepted w ks y st
@@ -79,7 +81,7 @@ accepted-row w ks y st r =
     let n = count st in
     let a = passes (not (eqb y no-tag) && leb n y) 7 _ r in
     let b = passes (not (eqb y no-tag) && fact st y .marked) 8 _ (a .1) in
-    let c = passes (ltb most-tags (n + length ks) || ltb w (words-for (n + length ks))) 5 _ (b .1) in
+    let c = passes (ltb most-tags (n + length ks) || ltb w (words-for header-words (n + length ks))) 5 _ (b .1) in
     let d = passes (labels-run-out (st .book .s) (st .book .r) (length ks) n (height (st .book))) 6 0 (c .1) in
     record {
       place =

@@ -9,10 +9,10 @@ use borrow.Author.Tests.{eqb-true}
 use lib.Dec.{eqb}
 use lib.ListN.{length}
 use Rattle.store_types.specs.Limits.{word-limit}
+use Rattle.lists.proofs.Tests.{by-test}
 use Rattle.tree.specs.Forest.{size}
 use Rattle.tree.specs.Book.{Book, height, base, power-width, loaded, root-full, inserted, inserted-row}
 use Rattle.tree.specs.Promise.{Sane, Labels-rise}
-use Rattle.tree_laws.proofs.Rows.{by-test}
 use Rattle.tree_laws.proofs.Insertion.{size-inserted, sane-inserted, inserted-s, inserted-r, inserted-under, tags-inserted-row}
 use Rattle.tree_laws.proofs.Load.{tags-loaded}
 use Rattle.tree_laws.proofs.Labels.{labels-rise, power-widths}

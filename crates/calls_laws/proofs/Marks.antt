@@ -9,9 +9,9 @@ use borrow.Author.Tests.{le-leb, lt-leb, leb-false}
 use lib.Dec.{leb}
 use lib.ListN.{length}
 use Rattle.store_types.specs.Limits.{no-tag}
+use Rattle.lists.proofs.Tests.{and-both, by-test}
 use Rattle.tree.specs.Row.{member}
-use Rattle.tree_laws.proofs.Good.{and-both}
-use Rattle.tree_laws.proofs.Rows.{by-test, member-append}
+use Rattle.tree_laws.proofs.Rows.{member-append}
 use Rattle.calls.specs.Kind.{end, is-end}
 use Rattle.calls.specs.Store.{Store, Fact, fact-in, fact, count, row, place-of, marked-count}
 use Rattle.calls.specs.Mark.{within, mark-facts, mark-store, new-marks, section-refusal}

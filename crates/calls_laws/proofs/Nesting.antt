@@ -8,9 +8,9 @@ use borrow.Author.Tests.{eqb-true, eqb-false, eq-eqb, ne-eqb, not-true}
 use lib.Dec.{eqb}
 use lib.ListN.{length, List·getD-eq-default}
 use Rattle.store_types.specs.Limits.{no-tag}
+use Rattle.lists.proofs.Tests.{and-left, and-right, and-both, by-test}
 use Rattle.tree.specs.Row.{member}
-use Rattle.tree_laws.proofs.Good.{and-left, and-right, and-both}
-use Rattle.tree_laws.proofs.Rows.{by-test, member-first, member-later}
+use Rattle.tree_laws.proofs.Rows.{member-first, member-later}
 use Rattle.calls.specs.Kind.{Kind, begin, end, text}
 use Rattle.calls.specs.Store.{Fact, no-fact, fact-in}
 use Rattle.calls.specs.Nesting.{fits, opened, nested}

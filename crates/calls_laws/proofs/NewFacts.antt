@@ -9,7 +9,7 @@ use borrow.Author.Tests.{eqb-true}
 use lib.ListN.{length, length-append}
 use lib.Seq.{append-snoc, getD-at}
 use Rattle.store_types.specs.Limits.{no-tag}
-use Rattle.tree.specs.Row.{numbers}
+use Rattle.lists.specs.Lists.{numbers}
 use Rattle.calls.specs.Kind.{Kind, begin, end, text}
 use Rattle.calls.specs.Store.{Fact, no-fact, fact-in}
 use Rattle.calls.specs.Nesting.{nests, closing, new-facts}

@@ -13,10 +13,10 @@ use Rattle.store_types.specs.declared.Answer.{Answer}
 use Rattle.store_types.specs.declared.Answer.the-variants.{Yes, No, Stale}
 use Rattle.store_types.specs.declared.QuestionReply.{QuestionReply}
 use Rattle.store_types.specs.declared.QuestionReply.the-variants.{Answered, Refused}
+use Rattle.lists.proofs.Tests.{and-left, and-right, and-both, by-test, fails, or-left-false, or-right-false}
 use Rattle.tree.specs.Book.{label-of, labels-of}
 use Rattle.tree.specs.Promise.{Labels-rise}
-use Rattle.tree_laws.proofs.Good.{and-left, and-right, and-both}
-use Rattle.tree_laws.proofs.Rows.{by-test, fails, or-left-false, or-right-false, place-of-member, member-all-below}
+use Rattle.tree_laws.proofs.Rows.{place-of-member, member-all-below}
 use Rattle.tree_laws.proofs.Labels.{length-labels, rising-of, rising-compare, labels-rise, power-widths}
 use Rattle.calls.specs.Kind.{begin, end, is-begin}
 use Rattle.calls.specs.Store.{Store, fact, count, row, place-of, width, label}

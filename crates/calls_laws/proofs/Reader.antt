@@ -11,17 +11,20 @@ use lib.Dec.{leb, eqb}
 use lib.ListN.{length, getD, drop, length-map}
 use lib.Seq.{drop-cons, drop-length, ext-getD}
 use Rattle.store_types.specs.Limits.{no-tag}
-use Rattle.tree.specs.Row.{numbers}
+use Rattle.lists.proofs.Tests.{and-left, and-right, and-both, by-test}
+use Rattle.store_types.specs.Layout.{label-at}
+use Rattle.lists.specs.Lists.{numbers}
+use Rattle.lists.proofs.Numbers.{length-numbers, getD-numbers}
 use Rattle.tree.specs.Book.{label-of, labels-of, root-within, book-within}
 use Rattle.tree.specs.Forest.{within-limits}
-use Rattle.tree_laws.proofs.Good.{good-of, and-left, and-right, and-both}
-use Rattle.tree_laws.proofs.Rows.{Distinct, by-test, member-getD, place-getD, length-numbers, getD-numbers, distinct-all-below}
+use Rattle.tree_laws.proofs.Good.{good-of}
+use Rattle.tree_laws.proofs.Rows.{Distinct, member-getD, place-getD, distinct-all-below}
 use Rattle.tree_laws.proofs.Labels.{length-labels, power-widths}
 use Rattle.tree_laws.proofs.Spelled.{spelled-good}
 use Rattle.calls.specs.Kind.{Kind, begin, end, text, code, kind-of, kind-word}
 use Rattle.calls.specs.Store.{Store, no-fact, fact, count, row, width, next-in}
 use Rattle.calls.specs.Sound.{sound}
-use Rattle.calls.specs.Words.{words-of, Says, follow, read-fact, label-field, read-book, read-store, starts-with, read}
+use Rattle.calls.specs.Words.{words-of, Says, follow, read-fact, read-book, read-store, starts-with, read}
 use Rattle.calls.specs.Promise.{Reader-right, Says-one, Reads-back}
 use Rattle.calls_laws.proofs.Tests.{Sound, facts-of}
 use Rattle.calls_laws.proofs.Fields.{tag-says, header-says}
@@ -69,13 +72,13 @@ module _ (st : Store) (rest : List ℕ) (h : Sound st) where
   row-read = follow-from (count st) 0 (omega (arith, h .as-many))
 
   -- the labels along the row
-  pub labels-read : map (label-field (words-of st ++ rest)) (row st) ≡ labels-of (width st) (st .book)
-  unfolding label-field label-of
+  pub labels-read : map (label-at (words-of st ++ rest)) (row st) ≡ labels-of (width st) (st .book)
+  unfolding label-at label-of
   labels-read =
       let many = length-labels (st .book .root) (width st) (st .book .under) 0 in
       ext-getD 0 _ (labels-of (width st) (st .book)) (length-map (row st) _ ∙ sym many)
-      (λ i l. let inside : i < length (row st) = omega (arith, length-map (row st) (label-field (words-of st ++ rest))) in
-      getD-map (label-field (words-of st ++ rest)) (row st) i 0 0 inside
+      (λ i l. let inside : i < length (row st) = omega (arith, length-map (row st) (label-at (words-of st ++ rest))) in
+      getD-map (label-at (words-of st ++ rest)) (row st) i 0 0 inside
       ∙ tag-says st rest (getD (row st) i 0) (below i 0 inside) .label-word
       ∙ rw (place-getD (row st) i 0 distinct inside))
 

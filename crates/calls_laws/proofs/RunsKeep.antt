@@ -11,12 +11,13 @@ use Rattle.store_types.specs.declared.LoadReply.{LoadReply}
 use Rattle.store_types.specs.declared.LoadReply.the-variants.{Loaded}
 use Rattle.store_types.specs.declared.InsertReply.{InsertReply}
 use Rattle.store_types.specs.declared.MarkReply.{MarkReply}
+use Rattle.store_types.specs.Layout.{header-words, words-for}
 use Rattle.tree.specs.Forest.{size}
 use Rattle.tree_laws.proofs.Insertion.{size-inserted-row}
 use Rattle.tree_laws.proofs.Load.{size-loaded}
 use Rattle.calls.specs.Store.{Store, count}
 use Rattle.calls.specs.Sound.{sound}
-use Rattle.calls.specs.Load.{words-for, load-refusal, load-store}
+use Rattle.calls.specs.Load.{load-refusal, load-store}
 use Rattle.calls.specs.Insert.{insert-kinds, position, book-after, insert-refusal, insert-store}
 use Rattle.calls.specs.Mark.{section-refusal, mark-store}
 use Rattle.calls.specs.Words.{words-of, Says, in-front}
@@ -34,8 +35,8 @@ use Rattle.calls_laws.proofs.ListsKeep.{lists-keep}
 -- ROOM: the words of the store after an accepted call fit the lent words
 
 -- a sound store has words for as many tags as its tree has leaves
-length-sound : (st : Store) → sound st ≡ true → length (words-of st) ≡ words-for (size (st .book .root))
-length-sound st e = length-words st ∙ ap words-for (sym (facts-of st e .as-many))
+length-sound : (st : Store) → sound st ≡ true → length (words-of st) ≡ words-for header-words (size (st .book .root))
+length-sound st e = length-words st ∙ ap (words-for header-words) (sym (facts-of st e .as-many))
 
 load-fits : (w s r b : ℕ) (cs : List ℕ) → load-refusal w s r cs ≡ 0 → sound (load-store s r b cs) ≡ true → length (words-of (load-store s r b cs)) ≤ w
 unfolding load-store
@@ -43,7 +44,7 @@ load-fits w s r b cs e good =
     let passed = accepted-load w s r cs e in
     rw (length-sound (load-store s r b cs) good, size-loaded s r (length cs) (passed .degrees .r-least)) (passed .room)
 
-changed-fits : (w : ℕ) (c : Call) (st : Store) → sound st ≡ true → words-for (count st) ≤ w → refusal w c st ≡ 0 → sound (changed c st) ≡ true →
+changed-fits : (w : ℕ) (c : Call) (st : Store) → sound st ≡ true → words-for header-words (count st) ≤ w → refusal w c st ≡ 0 → sound (changed c st) ≡ true →
     length (words-of (changed c st)) ≤ w
 unfolding refusal changed insert-store book-after mark-store words-for
 changed-fits w (load s r b cs) st h room e good = load-fits w s r b cs e good

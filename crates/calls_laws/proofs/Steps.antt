@@ -8,14 +8,16 @@ use borrow.Author.Tests.{ltb-false, not-false, eqb-true}
 use lib.Dec.{ltb, eqb}
 use lib.ListN.{length, length-map}
 use Rattle.store_types.specs.Limits.{no-tag, label-limit, most-tags}
+use Rattle.lists.proofs.Tests.{by-test}
+use Rattle.store_types.specs.Layout.{header-words, words-for}
 use Rattle.tree.specs.Book.{loaded, load-under, power-width}
-use Rattle.tree_laws.proofs.Rows.{by-test, all-below-numbers}
+use Rattle.tree_laws.proofs.Rows.{all-below-numbers}
 use Rattle.tree_laws.proofs.Load.{tags-loaded, size-loaded, sane-loaded}
 use Rattle.calls.specs.Kind.{begin, end, text, kind-of}
 use Rattle.calls.specs.Store.{Store, Fact, fact-in}
 use Rattle.calls.specs.Nesting.{nests, new-facts}
 use Rattle.calls.specs.Sound.{degrees-fit, sound}
-use Rattle.calls.specs.Load.{words-for, all-kinds, load-refusal, load-store}
+use Rattle.calls.specs.Load.{all-kinds, load-refusal, load-store}
 use Rattle.calls.specs.Insert.{insert-kinds, insert-refusal, row-refusal}
 use Rattle.calls.specs.Calls.{Call, load, insert, mark, refusal, changed, accepts, after-one, after, Fits, All-fit}
 use Rattle.calls.specs.Promise.{Load-sound, Insert-sound, Mark-sound, Stays-good, Stores-sound}
@@ -29,7 +31,7 @@ use Rattle.calls_laws.proofs.Inserts.{insert-sound}
 pub record Load-accepted (w s r : ℕ) (cs : List ℕ) : Type 0 where
   pub degrees : Degrees s r
   pub few : length cs ≤ most-tags
-  pub room : words-for (length cs) ≤ w
+  pub room : words-for header-words (length cs) ≤ w
   pub kinds : all-kinds cs ≡ true
   pub nesting : nests 0 (map kind-of cs) ≡ true
   pub labels : power-width s r (suc (load-under r (length cs))) ≤ label-limit
@@ -40,7 +42,7 @@ accepted-load w s r cs e =
     let n = length cs in
     let a = passes (not (degrees-fit s r)) 2 _ e in
     let b = passes (ltb most-tags n) 5 _ (a .1) in
-    let c = passes (ltb w (words-for n)) 0 _ (b .1) in
+    let c = passes (ltb w (words-for header-words n)) 0 _ (b .1) in
     let d = passes (not (all-kinds cs)) 3 _ (c .1) in
     let f = passes (not (nests 0 (map kind-of cs))) 4 _ (d .1) in
     let g = passes (ltb label-limit (power-width s r (suc (load-under r n)))) 6 0 (f .1) in

@@ -7,10 +7,10 @@ use borrow.Author.Tests.{ltb-true, leb-true, eqb-true, lt-ltb, le-leb, eq-eqb}
 use lib.Dec.{ltb, leb, eqb}
 use lib.ListN.{length}
 use Rattle.store_types.specs.Limits.{no-tag, label-limit, word-limit, most-tags}
+use Rattle.lists.proofs.Tests.{and-left, and-right, and-both}
 use Rattle.tree.specs.Row.{all-below}
 use Rattle.tree.specs.Book.{height, book-within}
 use Rattle.tree.specs.Promise.{Sane}
-use Rattle.tree_laws.proofs.Good.{and-left, and-right, and-both}
 use Rattle.calls.specs.Store.{Store, count, row, width, marked-count}
 use Rattle.calls.specs.Nesting.{nested}
 use Rattle.calls.specs.Sound.{degrees-fit, tree-sound, row-sound, header-sound, sound}

@@ -9,12 +9,11 @@ use native.Mathlib.Omega.{arith}
 use borrow.Author.Tests.{le-ltb}
 use lib.Dec.{ltb, eqb, eqb·suc-zero}
 use lib.ListN.{length, drop, length-append, length-drop}
-use Rattle.store_types.specs.Limits.{header-words}
+use Rattle.store_types.specs.Layout.{at-first, header-words, word-at, words-for, label-at}
 use Rattle.tree.specs.Book.{labels-of}
 use Rattle.calls.specs.Store.{Store, count, row, width}
 use Rattle.calls.specs.Sound.{sound}
-use Rattle.calls.specs.Load.{words-for}
-use Rattle.calls.specs.Words.{words-of, Says, word-at, follow, label-field, read, in-front}
+use Rattle.calls.specs.Words.{words-of, Says, follow, read, in-front}
 use Rattle.calls.specs.Replies.{on-store, refusal-over, store-or, said, written}
 use Rattle.calls.specs.Promise.{Reader-right}
 use Rattle.calls_laws.proofs.Tests.{passes, facts-of}
@@ -32,7 +31,7 @@ module _ (ws : List ℕ) (st : Store) (h : Says ws st) where
   said-store = rw read-said
 
   -- room for the store's words, and so for a header
-  pub words-fit : words-for (count st) ≤ length ws
+  pub words-fit : words-for header-words (count st) ≤ length ws
   unfolding Says
   words-fit = omega (arith, length-words st, ap length (h .1 .1) ∙ length-append (words-of st) (h .1 .0))
 
@@ -45,13 +44,13 @@ module _ (ws : List ℕ) (st : Store) (h : Says ws st) where
   unfolding Says
   header-said = rw (h .1 .1) (header-says st (h .1 .0))
 
-  pub row-said : follow (length (row st)) ws (word-at ws 5) ≡ row st
+  pub row-said : follow (length (row st)) ws (word-at ws at-first) ≡ row st
   unfolding Says
   row-said =
       let e = facts-of st (h .0) in
       rw (header-said .first, e .as-many, h .1 .1) (row-read st (h .1 .0) e)
 
-  pub labels-said : map (label-field ws) (row st) ≡ labels-of (width st) (st .book)
+  pub labels-said : map (label-at ws) (row st) ≡ labels-of (width st) (st .book)
   unfolding Says
   labels-said = rw (h .1 .1) (labels-read st (h .1 .0) (facts-of st (h .0)))
 

@@ -8,7 +8,7 @@ use native.Mathlib.Omega.{arith}
 use borrow.Author.Tests.{eqb-true, eqb-false}
 use lib.Dec.{eqb}
 use lib.ListN.{length, take, drop, length-map}
-use Rattle.tree.specs.Specimens.{same}
+use Rattle.lists.specs.Lists.{same}
 use Rattle.console.specs.Line.{fields, number-of, is-letter, all-letters, letter-kind, load-of, command-of, unknown, plain, load-word}
 use Rattle.console.specs.Scan.{first-space}
 use Rattle.console.specs.Post.{Lettered, Gives}

@@ -7,7 +7,7 @@ use native.Mathlib.Omega.{arith}
 use borrow.Author.Tests.{eqb-true}
 use lib.Dec.{eqb}
 use lib.ListN.{length, drop}
-use Rattle.tree.specs.Specimens.{same}
+use Rattle.lists.specs.Lists.{same}
 use Rattle.console.specs.Line.{Parsed, fields, command-of, parsed, unknown, load-word, line-limit}
 use Rattle.console.specs.Scan.{first-space}
 use Rattle.console.specs.Post.{Gives}

@@ -12,7 +12,7 @@ use lib.Dec.{ltb, leb, eqb}
 use lib.ListN.{length, getD, drop, drop-of-length-le}
 use lib.Seq.{drop-cons}
 use Rattle.store_types.specs.Limits.{word-limit}
-use Rattle.tree.specs.Specimens.{same}
+use Rattle.lists.specs.Lists.{same}
 use Rattle.console.specs.Line.{is-digit, all-digits, value-from, well-begun, number-of}
 use Rattle.console.specs.Scan.{first-space, scanned}
 

@@ -8,7 +8,8 @@ use borrow.Author.Tests.{eqb-true, eqb-false}
 use lib.Dec.{eqb}
 use lib.ListN.{length, take, drop, length-drop}
 use lib.Seq.{take-all, drop-drop}
-use Rattle.console.specs.Line.{fields, with-first}
+use Rattle.lists.specs.Lists.{with-first}
+use Rattle.console.specs.Line.{fields}
 use Rattle.console.specs.Scan.{first-space}
 
 pub first-space-within : (cs : List ℕ) → first-space cs ≤ length cs

@@ -8,7 +8,7 @@ use native.Mathlib.Omega.{arith}
 use borrow.Author.Tests.{lt-ltb, le-ltb}
 use lib.ListN.{length, take}
 use Rattle.store_types.specs.Limits.{no-tag}
-use Rattle.tree.specs.Specimens.{same}
+use Rattle.lists.specs.Lists.{same}
 use Rattle.console.specs.Line.{Parsed, fields, parsed, line-limit, load-word, number-of, place-of, insert-of, mark-of, command-of, unknown, plain, list-word, element-word, text-word, mark-word, front-word}
 use Rattle.console.specs.Scan.{number-reply}
 use Rattle.console.specs.Post.{Gives}

@@ -7,15 +7,11 @@ use Prim.Native.Nat.{ℕ, zero, suc, _+_, _*_, _-_}
 use lib.Dec.{ltb, leb, eqb}
 use lib.ListN.{length}
 use Rattle.store_types.specs.Limits.{no-tag, word-limit}
-use Rattle.tree.specs.Specimens.{same}
+use Rattle.lists.specs.Lists.{same, with-first}
 use Rattle.console.specs.declared.Command.{Command}
 use Rattle.console.specs.declared.Command.the-variants.{Load, Insert, Mark, List as List-all, Unknown}
 
 -- FIELDS are parted by one space: a line of m spaces has m + 1 fields, of which some may be empty
-unfoldable pub with-first : (byte : ℕ) → List (List ℕ) → List (List ℕ)
-with-first c [] = (c ∷ []) ∷ []
-with-first c (f ∷ fs) = (c ∷ f) ∷ fs
-
 unfoldable pub fields : (line : List ℕ) → List (List ℕ)
 fields [] = [] ∷ []
 fields (c ∷ cs) = let rest = fields cs in cond (eqb c 32) ([] ∷ rest) (with-first c rest)

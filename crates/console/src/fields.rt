@@ -2,7 +2,7 @@
 ghost use mathlib.Core.Path.{_≡_};
 ghost use Prim.Native.Nat.{_+_, _≤_};
 ghost use lib.ListN.{length, drop};
-ghost use Rattle.tree.specs.Specimens.{same};
+ghost use Rattle.lists.specs.Lists.{same};
 ghost use Rattle.console.specs.Scan.{first-space};
 
 // The end of the field that begins at `from`: the next space, or the line's end.

@@ -9,19 +9,20 @@ use borrow.Author.Tests.{ne-eqb, eqb-true, eqb-false, ltb-true, ltb-false}
 use lib.Dec.{ltb, eqb}
 use lib.ListN.{length, getD, drop, set, length-set, length-append, List·getD-append, List·getD-eq-default}
 use lib.Seq.{getD-set-same, getD-set-other, getD-append-add, getD-at, set-append-left, sets-eq}
-use Rattle.store_types.specs.Limits.{no-tag, header-words, tag-words, most-tags}
-use Rattle.tree.specs.Row.{numbers, member, place, insert-at}
-use Rattle.tree_laws.proofs.Rows.{Distinct, Apart, by-test, fails, member-nil, member-other, member-cases, place-getD, getD-place, place-of-member, length-insert, place-before, place-behind, place-new, getD-before, getD-new, getD-behind}
+use Rattle.store_types.specs.Limits.{no-tag, most-tags}
+use Rattle.store_types.specs.Layout.{at-height, at-count, at-first, at-stamp, header-words, label-words, at-next, at-prior, at-mate, at-up, at-kind, tag-words, word-at, words-for, field, label-at, with-field, Room}
+use Rattle.lists.proofs.Tests.{by-test, fails}
+use Rattle.lists.specs.Lists.{numbers}
+use Rattle.words.proofs.Fields.{words-next, header-fits, record-room, field-same, field-other-tag, field-other-word, label-past-field, header-kept, length-with-field, field-past-header, label-past-header, with-field-front, fields-tell, by-field}
+use Rattle.words.proofs.Records.{with-field-behind, with-label-behind, field-behind, label-behind}
+use Rattle.tree.specs.Row.{member, place, insert-at}
+use Rattle.tree_laws.proofs.Rows.{Distinct, Apart, member-nil, member-other, member-cases, place-getD, getD-place, place-of-member, length-insert, place-before, place-behind, place-new, getD-before, getD-new, getD-behind}
 use Rattle.calls.specs.Store.{Fact, no-fact, fact-in, next-in, prior-in}
 use Rattle.calls.specs.Kind.{kind-word}
-use Rattle.calls.specs.Load.{words-for}
-use Rattle.calls.specs.Words.{word-at, field}
 use Rattle.calls_laws.proofs.Inserts.{all-below-with}
-use Rattle.words.specs.Fields.{with-field, Room}
-use Rattle.edit_model.specs.Image.{Image, image-header, image-record, image-records, image-words}
+use Rattle.edit_model.specs.Image.{Image, image-header, image-record, image-words}
 use Rattle.edit_model.specs.Insert.{behind, with-record, linked-place, linked-next, added}
-use Rattle.edit_model.proofs.Fields.{field-same, field-other-tag, field-other-word, header-kept, length-with-field, with-field-front, record-room, fields-tell}
-use Rattle.edit_model.proofs.Image.{Proper, distinct-tags, tag-below, tag-in, length-image, length-image-header, own-field, own-header, record-says, image-header-word}
+use Rattle.edit_model.proofs.Image.{Proper, distinct-tags, tag-below, tag-in, length-image, length-image-header, own-field, own-label, own-header, record-says, image-header-word}
 use Rattle.edit_model.proofs.Along.{next-at}
 
 -- ONE THING PUT IN at place p: what stands there, and behind it
@@ -98,38 +99,19 @@ module _ (n p : ℕ) (xs : List ℕ) (fits : p ≤ length xs) where
     unfolding prior-in insert-at
     prior-of-new = rw place-one (getD-before (suc p) (n ∷ []) (no-tag ∷ xs) p no-tag (omega arith) (omega arith))
 
--- WORDS BEHIND OTHERS, of which there are as many as n tags have
-set-behind : (xs ys : List ℕ) (i a : ℕ) → set (xs ++ ys) (length xs + i) a ≡ xs ++ set ys i a
-set-behind [] ys i a = let here : 0 + i ≡ i = omega arith in rw here
-set-behind (x ∷ xs) ys i a = let later : suc (length xs) + i ≡ suc (length xs + i) = omega arith in rw (later, set-behind xs ys i a)
-
-module _ (n : ℕ) (ws ys : List ℕ) (many : length ws ≡ words-for n) where
-  with-field-behind : (k v : ℕ) → with-field (ws ++ ys) n k v ≡ ws ++ set ys k v
-  unfolding with-field words-for
-  with-field-behind k v = let at : header-words + tag-words * n + k ≡ length ws + k = omega arith in rw at (set-behind ws ys k v)
-
-  field-behind : (k : ℕ) → field (ws ++ ys) n k ≡ getD ys k 0
-  unfolding field words-for
-  field-behind k = let at : header-words + tag-words * n + k ≡ length ws + k = omega arith in rw at (getD-append-add ws ys k 0)
-
 -- a whole record there
-with-record-behind : (n : ℕ) (ws ys : List ℕ) → length ws ≡ words-for n → tag-words ≤ length ys → (next prior mate up kind : ℕ) →
+with-record-behind : (n : ℕ) (ws ys : List ℕ) → length ws ≡ words-for header-words n → tag-words ≤ length ys → (next prior mate up kind : ℕ) →
     with-record (ws ++ ys) n next prior mate up kind ≡ ws ++ ((no-tag ∷ next ∷ prior ∷ mate ∷ up ∷ kind ∷ []) ++ drop tag-words ys)
 unfolding with-record
 with-record-behind n ws ys many room next prior mate up kind =
     rw (
-      with-field-behind n ws _ many 0 no-tag,
-      with-field-behind n ws _ many 1 next,
-      with-field-behind n ws _ many 2 prior,
-      with-field-behind n ws _ many 3 mate,
-      with-field-behind n ws _ many 4 up,
-      with-field-behind n ws _ many 5 kind,
+      with-label-behind n ws _ many no-tag,
+      with-field-behind n ws _ many at-next next,
+      with-field-behind n ws _ many at-prior prior,
+      with-field-behind n ws _ many at-mate mate,
+      with-field-behind n ws _ many at-up up,
+      with-field-behind n ws _ many at-kind kind,
     ) (ap (λ (zs : List ℕ). ws ++ zs) (sets-eq (no-tag ∷ next ∷ prior ∷ mate ∷ up ∷ kind ∷ []) ys 0 room))
-
--- A WORD OF THE HEADER SET
-field-past-header : (ws : List ℕ) (i v x k : ℕ) → i < header-words → field (set ws i v) x k ≡ field ws x k
-unfolding field
-field-past-header ws i v x k l = getD-set-other ws i _ v 0 (λ e. omega arith)
 
 -- the same header
 abbrev Heads : (ws vs : List ℕ) → Type 0
@@ -158,12 +140,12 @@ with-tag p t v =
 pub one-more : (ts : List Fact) (t : Fact) → length (ts ++ (t ∷ [])) ≡ suc (length ts)
 one-more ts t = omega (arith, length-append ts (t ∷ []))
 
-own-first : (v : Image) → set (image-header v) 5 (getD (v .tags) 0 no-tag) ≡ image-header v
+own-first : (v : Image) → set (image-header v) at-first (getD (v .tags) 0 no-tag) ≡ image-header v
 unfolding image-header
 own-first v = refl
 
 new-header : (p : ℕ) (t : Fact) (v : Image) →
-    image-header (with-tag p t v) ≡ set (set (image-header v) 5 (getD (insert-at p (length (v .facts) ∷ []) (v .tags)) 0 no-tag)) 4 (length (v .facts ++ (t ∷ [])))
+    image-header (with-tag p t v) ≡ set (set (image-header v) at-first (getD (insert-at p (length (v .facts) ∷ []) (v .tags)) 0 no-tag)) at-count (length (v .facts ++ (t ∷ [])))
 unfolding image-header with-tag
 new-header p t v = refl
 
@@ -180,59 +162,63 @@ module _ {v : Image} (h : Proper v) (few : length (v .facts) ≤ most-tags) wher
 
   pub behind-place : (rest : List ℕ) (p : ℕ) → p ≤ length (v .tags) → behind (image-words v ++ rest) (tag-before v p) ≡ tag-behind v p
   unfolding behind image-header
-  behind-place rest zero fits = image-header-word v rest 5 (omega arith)
+  behind-place rest zero fits = image-header-word v rest at-first (omega arith)
   behind-place rest (suc q) fits = rw (is-tag q fits) (next-at h rest q no-tag fits)
 
   -- LINKED, over words of one tag more
-  module _ (front : List ℕ) (many : length front ≡ words-for (suc (length (v .facts)))) where
-    room : (x k : ℕ) → x ≤ length (v .facts) → k < tag-words → Room (length front) x k
-    room x k l small = rw many (record-room (suc (length (v .facts))) x k (omega arith) small)
+  module _ (front : List ℕ) (many : length front ≡ words-for header-words (suc (length (v .facts)))) where
+    room : (x : ℕ) → x ≤ length (v .facts) → Room front x
+    room x l = record-room (suc (length (v .facts))) x front (omega arith) (omega arith)
 
     head-room : (i : ℕ) → i < header-words → i < length front
-    unfolding words-for
-    head-room i l = omega arith
+    head-room i l = omega (arith, header-fits (suc (length (v .facts))))
 
     -- the place
     module _ (m : ℕ) where
       length-linked-place : (p : ℕ) → p ≤ length (v .tags) → length (linked-place front (tag-before v p) m) ≡ length front
       unfolding linked-place
-      length-linked-place zero fits = length-set front 5 m
-      length-linked-place (suc q) fits = rw (is-tag q fits) (length-with-field front _ 1 m)
+      length-linked-place zero fits = length-set front at-first m
+      length-linked-place (suc q) fits = rw (is-tag q fits) (length-with-field front _ at-next m)
 
       linked-place-front : (rest : List ℕ) (p : ℕ) → p ≤ length (v .tags) → linked-place (front ++ rest) (tag-before v p) m ≡ linked-place front (tag-before v p) m ++ rest
       unfolding linked-place
-      linked-place-front rest zero fits = set-append-left front rest 5 m (head-room 5 (omega arith))
+      linked-place-front rest zero fits = set-append-left front rest at-first m (head-room at-first (omega arith))
       linked-place-front rest (suc q) fits =
-          rw (is-tag q fits) (with-field-front front rest _ 1 m (room _ 1 (omega (arith, tag-below h q no-tag fits)) (omega arith)))
+          rw (is-tag q fits) (with-field-front front rest _ at-next m (room _ (omega (arith, tag-below h q no-tag fits))) (omega arith))
 
-      linked-place-other : (p x k : ℕ) → p ≤ length (v .tags) → k < tag-words → (k ≡ 1 → ⊥) → field (linked-place front (tag-before v p) m) x k ≡ field front x k
+      linked-place-other : (p x k : ℕ) → p ≤ length (v .tags) → k < tag-words → (k ≡ at-next → ⊥) → field (linked-place front (tag-before v p) m) x k ≡ field front x k
       unfolding linked-place
-      linked-place-other zero x k fits small other = field-past-header front 5 m x k (omega arith)
-      linked-place-other (suc q) x k fits small other = rw (is-tag q fits) (field-other-word front _ x 1 k m (omega arith) small other)
+      linked-place-other zero x k fits small other = field-past-header front at-first m x k (omega arith)
+      linked-place-other (suc q) x k fits small other = rw (is-tag q fits) (field-other-word front _ x at-next k m (omega arith) small other)
 
-      linked-place-new : (p x : ℕ) → p ≤ length (v .tags) → x < length (v .facts) → suc (place x (v .tags)) ≡ p → field (linked-place front (tag-before v p) m) x 1 ≡ m
+      linked-place-label : (p x : ℕ) → p ≤ length (v .tags) → label-at (linked-place front (tag-before v p) m) x ≡ label-at front x
+      unfolding linked-place
+      linked-place-label zero x fits = label-past-header front at-first m x (omega arith)
+      linked-place-label (suc q) x fits = rw (is-tag q fits) (label-past-field front _ x at-next m (omega arith) (omega arith))
+
+      linked-place-new : (p x : ℕ) → p ≤ length (v .tags) → x < length (v .facts) → suc (place x (v .tags)) ≡ p → field (linked-place front (tag-before v p) m) x at-next ≡ m
       unfolding linked-place
       linked-place-new zero x fits own e = absurd (omega arith)
       linked-place-new (suc q) x fits own e =
           let here : getD (v .tags) q no-tag ≡ x = (let same : q ≡ place x (v .tags) = omega arith in rw same (getD-place x (v .tags) no-tag (tag-in h x own))) in
-          rw (is-tag q fits, here) (field-same front x 1 m (room x 1 (omega arith) (omega arith)))
+          rw (is-tag q fits, here) (field-same front x at-next m (room x (omega arith)) (omega arith))
 
-      linked-place-kept : (p x : ℕ) → p ≤ length (v .tags) → ((i : ℕ) → i < length (v .tags) → suc i ≡ p → x ≡ getD (v .tags) i no-tag → ⊥) → field (linked-place front (tag-before v p) m) x 1 ≡ field front x 1
+      linked-place-kept : (p x : ℕ) → p ≤ length (v .tags) → ((i : ℕ) → i < length (v .tags) → suc i ≡ p → x ≡ getD (v .tags) i no-tag → ⊥) → field (linked-place front (tag-before v p) m) x at-next ≡ field front x at-next
       unfolding linked-place
-      linked-place-kept zero x fits far = field-past-header front 5 m x 1 (omega arith)
+      linked-place-kept zero x fits far = field-past-header front at-first m x at-next (omega arith)
       linked-place-kept (suc q) x fits far =
-          rw (is-tag q fits) (field-other-tag front _ x 1 1 m (omega arith) (omega arith) (far q fits refl))
+          rw (is-tag q fits) (field-other-tag front _ x at-next at-next m (omega arith) (omega arith) (far q fits refl))
 
       linked-place-header : (p : ℕ) → p ≤ length (v .tags) → Heads front (image-header v) →
-          Heads (linked-place front (tag-before v p) m) (set (image-header v) 5 (getD (insert-at p (m ∷ []) (v .tags)) 0 no-tag))
+          Heads (linked-place front (tag-before v p) m) (set (image-header v) at-first (getD (insert-at p (m ∷ []) (v .tags)) 0 no-tag))
       unfolding linked-place
       linked-place-header zero fits same =
-          rw (getD-one m 0 (v .tags) no-tag fits) (heads-set front (image-header v) 5 m (head-room 5 (omega arith)) (omega (arith, length-image-header v)) same)
+          rw (getD-one m 0 (v .tags) no-tag fits) (heads-set front (image-header v) at-first m (head-room at-first (omega arith)) (omega (arith, length-image-header v)) same)
       linked-place-header (suc q) fits same =
-          rw (is-tag q fits, getD-before (suc q) (m ∷ []) (v .tags) 0 no-tag fits (omega arith), own-first) (λ i small. header-kept front _ 1 m i small ∙ same i small)
+          rw (is-tag q fits, getD-before (suc q) (m ∷ []) (v .tags) 0 no-tag fits (omega arith), own-first) (λ i small. header-kept front _ at-next m i small ∙ same i small)
 
       -- the tag behind it, if there is one
-      link-tag : (p : ℕ) → p < length (v .tags) → linked-next front (tag-behind v p) m ≡ with-field front (tag-behind v p) 2 m
+      link-tag : (p : ℕ) → p < length (v .tags) → linked-next front (tag-behind v p) m ≡ with-field front (tag-behind v p) at-prior m
       unfolding linked-next
       link-tag p inside = rw (is-tag p inside)
 
@@ -244,30 +230,33 @@ module _ {v : Image} (h : Proper v) (few : length (v .facts) ≤ most-tags) wher
       by-link p yes-tag no-more = by-test (ltb p (length (v .tags))) (λ t. yes-tag (ltb-true p _ t)) (λ t. no-more (ltb-false p _ t))
 
       length-linked-next : (p : ℕ) → length (linked-next front (tag-behind v p) m) ≡ length front
-      length-linked-next p = by-link p (λ l. rw (link-tag p l) (length-with-field front _ 2 m)) (λ l. rw (link-none p l))
+      length-linked-next p = by-link p (λ l. rw (link-tag p l) (length-with-field front _ at-prior m)) (λ l. rw (link-none p l))
 
       linked-next-front : (rest : List ℕ) (p : ℕ) → linked-next (front ++ rest) (tag-behind v p) m ≡ linked-next front (tag-behind v p) m ++ rest
       unfolding linked-next
       linked-next-front rest p =
           by-link p
-          (λ l. rw (is-tag p l) (with-field-front front rest _ 2 m (room _ 2 (omega (arith, tag-below h p no-tag l)) (omega arith))))
+          (λ l. rw (is-tag p l) (with-field-front front rest _ at-prior m (room _ (omega (arith, tag-below h p no-tag l))) (omega arith)))
           (λ l. rw (List·getD-eq-default (v .tags) no-tag l))
 
-      linked-next-other : (p x k : ℕ) → k < tag-words → (k ≡ 2 → ⊥) → field (linked-next front (tag-behind v p) m) x k ≡ field front x k
-      linked-next-other p x k small other = by-link p (λ l. rw (link-tag p l) (field-other-word front _ x 2 k m (omega arith) small other)) (λ l. rw (link-none p l))
+      linked-next-other : (p x k : ℕ) → k < tag-words → (k ≡ at-prior → ⊥) → field (linked-next front (tag-behind v p) m) x k ≡ field front x k
+      linked-next-other p x k small other = by-link p (λ l. rw (link-tag p l) (field-other-word front _ x at-prior k m (omega arith) small other)) (λ l. rw (link-none p l))
 
-      linked-next-new : (p x : ℕ) → x < length (v .facts) → place x (v .tags) ≡ p → field (linked-next front (tag-behind v p) m) x 2 ≡ m
+      linked-next-label : (p x : ℕ) → label-at (linked-next front (tag-behind v p) m) x ≡ label-at front x
+      linked-next-label p x = by-link p (λ l. rw (link-tag p l) (label-past-field front _ x at-prior m (omega arith) (omega arith))) (λ l. rw (link-none p l))
+
+      linked-next-new : (p x : ℕ) → x < length (v .facts) → place x (v .tags) ≡ p → field (linked-next front (tag-behind v p) m) x at-prior ≡ m
       linked-next-new p x own e =
           let in-row = tag-in h x own in
           let here : tag-behind v p ≡ x = rw (← e) (getD-place x (v .tags) no-tag in-row) in
-          rw (link-tag p (omega (arith, place-of-member x (v .tags) in-row)), here) (field-same front x 2 m (room x 2 (omega arith) (omega arith)))
+          rw (link-tag p (omega (arith, place-of-member x (v .tags) in-row)), here) (field-same front x at-prior m (room x (omega arith)) (omega arith))
 
-      linked-next-kept : (p x : ℕ) → (p < length (v .tags) → x ≡ getD (v .tags) p no-tag → ⊥) → field (linked-next front (tag-behind v p) m) x 2 ≡ field front x 2
+      linked-next-kept : (p x : ℕ) → (p < length (v .tags) → x ≡ getD (v .tags) p no-tag → ⊥) → field (linked-next front (tag-behind v p) m) x at-prior ≡ field front x at-prior
       linked-next-kept p x far =
-          by-link p (λ l. rw (link-tag p l) (field-other-tag front _ x 2 2 m (omega arith) (omega arith) (far l))) (λ l. rw (link-none p l))
+          by-link p (λ l. rw (link-tag p l) (field-other-tag front _ x at-prior at-prior m (omega arith) (omega arith) (far l))) (λ l. rw (link-none p l))
 
       linked-next-header : (p i : ℕ) → i < header-words → word-at (linked-next front (tag-behind v p) m) i ≡ word-at front i
-      linked-next-header p i small = by-link p (λ l. rw (link-tag p l) (header-kept front _ 2 m i small)) (λ l. rw (link-none p l))
+      linked-next-header p i small = by-link p (λ l. rw (link-tag p l) (header-kept front _ at-prior m i small)) (λ l. rw (link-none p l))
 
 -- the next number is no tag of the row
 module _ {v : Image} (h : Proper v) where
@@ -278,16 +267,6 @@ module _ {v : Image} (h : Proper v) where
   new-tag =
       let n = length (v .facts) in
       fails (member n (v .tags)) (λ m. not-new (place n (v .tags)) (place-of-member n (v .tags) m) (sym (getD-place n (v .tags) no-tag m)))
-
--- a word of a record, by its place
-by-word : (P : ℕ → Type 0) → P 0 → P 1 → P 2 → P 3 → P 4 → P 5 → (k : ℕ) → k < tag-words → P k
-by-word P a b c d e f zero l = a
-by-word P a b c d e f (suc zero) l = b
-by-word P a b c d e f (suc (suc zero)) l = c
-by-word P a b c d e f (suc (suc (suc zero))) l = d
-by-word P a b c d e f (suc (suc (suc (suc zero)))) l = e
-by-word P a b c d e f (suc (suc (suc (suc (suc zero))))) l = f
-by-word P a b c d e f (suc (suc (suc (suc (suc (suc k)))))) l = absurd (omega arith)
 
 -- ALL OF IT: the new record behind the image's words, and the links
 abbrev new-record : Image → (p : ℕ) → Fact → List ℕ
@@ -306,19 +285,18 @@ module _ {v : Image} (h : Proper v) (few : length (v .facts) ≤ most-tags) (p :
   abbrev n : ℕ
   n = length (v .facts)
 
-  long : length (with-new v p t) ≡ words-for (suc n)
-  unfolding words-for
-  long = omega (arith, length-append (image-words v) (new-record v p t), length-image v)
+  long : length (with-new v p t) ≡ words-for header-words (suc n)
+  long = omega (arith, length-append (image-words v) (new-record v p t), length-image v, words-next n)
 
-  long-placed : length (placed v p t) ≡ words-for (suc n)
+  long-placed : length (placed v p t) ≡ words-for header-words (suc n)
   long-placed = length-linked-place h few (with-new v p t) long n p fits ∙ long
 
-  long-linked : length (linked v p t) ≡ words-for (suc n)
+  long-linked : length (linked v p t) ≡ words-for header-words (suc n)
   long-linked = length-linked-next h few (placed v p t) long-placed n p ∙ long-placed
 
   added-front : (rest : List ℕ) → tag-words ≤ length rest →
-      added (image-words v ++ rest) n (tag-before v p) (t .mate) (t .up) (kind-word (t .kind) (t .marked)) ≡ set (linked v p t) 4 (suc n) ++ drop tag-words rest
-  unfolding added words-for
+      added (image-words v ++ rest) n (tag-before v p) (t .mate) (t .up) (kind-word (t .kind) (t .marked)) ≡ set (linked v p t) at-count (suc n) ++ drop tag-words rest
+  unfolding added
   added-front rest room =
       rw (
         behind-place h few rest p fits,
@@ -326,14 +304,18 @@ module _ {v : Image} (h : Proper v) (few : length (v .facts) ≤ most-tags) (p :
         ← append-assoc,
         linked-place-front h few (with-new v p t) long n (drop tag-words rest) p fits,
         linked-next-front h few (placed v p t) long-placed n (drop tag-words rest) p,
-        set-append-left (linked v p t) (drop tag-words rest) 4 (suc n) (omega (arith, long-linked)),
+        set-append-left (linked v p t) (drop tag-words rest) at-count (suc n) (omega (arith, long-linked, header-fits (suc n))),
       )
 
   -- the fields: those that no link changes
-  linked-kept : (x k : ℕ) → k < tag-words → (k ≡ 1 → ⊥) → (k ≡ 2 → ⊥) → field (linked v p t) x k ≡ field (with-new v p t) x k
+  linked-kept : (x k : ℕ) → k < tag-words → (k ≡ at-next → ⊥) → (k ≡ at-prior → ⊥) → field (linked v p t) x k ≡ field (with-new v p t) x k
   linked-kept x k small one two =
       linked-next-other h few (placed v p t) long-placed n p x k small two
       ∙ linked-place-other h few (with-new v p t) long n p x k fits small one
+
+  label-kept : (x : ℕ) → label-at (linked v p t) x ≡ label-at (with-new v p t) x
+  label-kept x =
+      linked-next-label h few (placed v p t) long-placed n p x ∙ linked-place-label h few (with-new v p t) long n p x fits
 
   -- the links of an old tag
   module _ (x : ℕ) (own : x < n) where
@@ -346,9 +328,9 @@ module _ {v : Image} (h : Proper v) (few : length (v .facts) ≤ most-tags) (p :
     elsewhere : (i : ℕ) → i < length (v .tags) → (place x (v .tags) ≡ i → ⊥) → x ≡ getD (v .tags) i no-tag → ⊥
     elsewhere i l far e = far (ap (λ (z : ℕ). place z (v .tags)) e ∙ place-getD (v .tags) i no-tag (distinct-tags h) l)
 
-    old-next : field (linked v p t) x 1 ≡ next-in (insert-at p (n ∷ []) (v .tags)) x
+    old-next : field (linked v p t) x at-next ≡ next-in (insert-at p (n ∷ []) (v .tags)) x
     old-next =
-        linked-next-other h few (placed v p t) long-placed n p x 1 (omega arith) (λ e. omega arith)
+        linked-next-other h few (placed v p t) long-placed n p x at-next (omega arith) (λ e. omega arith)
         ∙ by-test (eqb (suc (place x (v .tags))) p)
         (λ q. let e = eqb-true _ p q in
         linked-place-new h few (with-new v p t) long n p x fits own e ∙ sym (next-new n p (v .tags) fits x old other e))
@@ -356,7 +338,7 @@ module _ {v : Image} (h : Proper v) (few : length (v .facts) ≤ most-tags) (p :
         linked-place-kept h few (with-new v p t) long n p x fits (λ i l f. elsewhere i l (λ g. e (ap suc g ∙ f)))
         ∙ record-says v (new-record v p t) x own .next-word ∙ sym (next-kept n p (v .tags) fits x old other e))
 
-    old-prior : field (linked v p t) x 2 ≡ prior-in (insert-at p (n ∷ []) (v .tags)) x
+    old-prior : field (linked v p t) x at-prior ≡ prior-in (insert-at p (n ∷ []) (v .tags)) x
     old-prior =
         by-test (eqb (place x (v .tags)) p)
         (λ q. let e = eqb-true _ p q in
@@ -364,70 +346,88 @@ module _ {v : Image} (h : Proper v) (few : length (v .facts) ≤ most-tags) (p :
         ∙ sym (prior-new n p (v .tags) fits x old other e))
         (λ q. let e = eqb-false _ p q in
         linked-next-kept h few (placed v p t) long-placed n p x (λ l. elsewhere p l e)
-        ∙ linked-place-other h few (with-new v p t) long n p x 2 fits (omega arith) (λ e. omega arith)
+        ∙ linked-place-other h few (with-new v p t) long n p x at-prior fits (omega arith) (λ e. omega arith)
         ∙ record-says v (new-record v p t) x own .prior-word ∙ sym (prior-kept n p (v .tags) fits x old other e))
 
     -- so its record
-    old-record : (k : ℕ) → k < tag-words → field (linked v p t) x k ≡ getD (image-record (with-tag p t v) x) k 0
+    old-label : label-at (linked v p t) x ≡ getD (with-tag p t v .labels) (place x (with-tag p t v .tags)) 0
+    unfolding with-tag
+    old-label =
+        label-kept x ∙ record-says v (new-record v p t) x own .label-word
+        ∙ sym (kept-with-one n p (v .tags) fits x old other no-tag 0 (v .labels) (omega (arith, h .labelled)))
+
+    old-record : (k : ℕ) → label-words ≤ k → k < tag-words → field (linked v p t) x k ≡ getD (image-record (with-tag p t v) x) k 0
     unfolding image-record with-tag
     old-record =
         let says = record-says v (new-record v p t) x own in
         let same : fact-in (v .facts ++ (t ∷ [])) x ≡ fact-in (v .facts) x = List·getD-append (v .facts) (t ∷ []) no-fact x own in
-        by-word (λ k. field (linked v p t) x k ≡ getD (image-record (with-tag p t v) x) k 0)
-        (linked-kept x 0 (omega arith) (λ e. omega arith) (λ e. omega arith) ∙ says .label-word
-        ∙ sym (kept-with-one n p (v .tags) fits x old other no-tag 0 (v .labels) (omega (arith, h .labelled))))
+        by-field (λ k. field (linked v p t) x k ≡ getD (image-record (with-tag p t v) x) k 0)
         old-next
         old-prior
-        (linked-kept x 3 (omega arith) (λ e. omega arith) (λ e. omega arith) ∙ says .mate-word ∙ rw same)
-        (linked-kept x 4 (omega arith) (λ e. omega arith) (λ e. omega arith) ∙ says .up-word ∙ rw same)
-        (linked-kept x 5 (omega arith) (λ e. omega arith) (λ e. omega arith) ∙ says .kind-is ∙ rw same)
+        (linked-kept x at-mate (omega arith) (λ e. omega arith) (λ e. omega arith) ∙ says .mate-word ∙ rw same)
+        (linked-kept x at-up (omega arith) (λ e. omega arith) (λ e. omega arith) ∙ says .up-word ∙ rw same)
+        (linked-kept x at-kind (omega arith) (λ e. omega arith) (λ e. omega arith) ∙ says .kind-is ∙ rw same)
 
-  own-word : (k : ℕ) → k < tag-words → (k ≡ 1 → ⊥) → (k ≡ 2 → ⊥) → field (linked v p t) n k ≡ getD (new-record v p t) k 0
+  own-word : (k : ℕ) → k < tag-words → (k ≡ at-next → ⊥) → (k ≡ at-prior → ⊥) → field (linked v p t) n k ≡ getD (new-record v p t) k 0
   own-word k small one two = linked-kept n k small one two ∙ field-behind n (image-words v) (new-record v p t) (length-image v) k
 
-  new-record-is : (k : ℕ) → k < tag-words → field (linked v p t) n k ≡ getD (image-record (with-tag p t v) n) k 0
+  new-label : label-at (linked v p t) n ≡ getD (with-tag p t v .labels) (place n (with-tag p t v .tags)) 0
+  unfolding with-tag
+  new-label =
+      label-kept n ∙ label-behind n (image-words v) (new-record v p t) (length-image v)
+      ∙ sym (rw (place-one n p (v .tags) fits (new-tag h)) (getD-one no-tag p (v .labels) 0 (omega (arith, h .labelled))))
+
+  new-record-is : (k : ℕ) → label-words ≤ k → k < tag-words → field (linked v p t) n k ≡ getD (image-record (with-tag p t v) n) k 0
   unfolding image-record with-tag
   new-record-is =
       let fact-is : fact-in (v .facts ++ (t ∷ [])) n ≡ t = getD-at (v .facts) t [] no-fact n refl in
-      by-word (λ k. field (linked v p t) n k ≡ getD (image-record (with-tag p t v) n) k 0)
-      (own-word 0 (omega arith) (λ e. omega arith) (λ e. omega arith)
-      ∙ sym (rw (place-one n p (v .tags) fits (new-tag h)) (getD-one no-tag p (v .labels) 0 (omega (arith, h .labelled)))))
-      (linked-next-other h few (placed v p t) long-placed n p n 1 (omega arith) (λ e. omega arith)
+      by-field (λ k. field (linked v p t) n k ≡ getD (image-record (with-tag p t v) n) k 0)
+      (linked-next-other h few (placed v p t) long-placed n p n at-next (omega arith) (λ e. omega arith)
       ∙ linked-place-kept h few (with-new v p t) long n p n fits (λ i l f. not-new h i l)
-      ∙ field-behind n (image-words v) (new-record v p t) (length-image v) 1 ∙ sym (next-of-new n p (v .tags) fits (new-tag h)))
+      ∙ field-behind n (image-words v) (new-record v p t) (length-image v) at-next ∙ sym (next-of-new n p (v .tags) fits (new-tag h)))
       (linked-next-kept h few (placed v p t) long-placed n p n (not-new h p)
-      ∙ linked-place-other h few (with-new v p t) long n p n 2 fits (omega arith) (λ e. omega arith)
-      ∙ field-behind n (image-words v) (new-record v p t) (length-image v) 2 ∙ sym (prior-of-new n p (v .tags) fits (new-tag h)))
-      (own-word 3 (omega arith) (λ e. omega arith) (λ e. omega arith) ∙ rw fact-is)
-      (own-word 4 (omega arith) (λ e. omega arith) (λ e. omega arith) ∙ rw fact-is)
-      (own-word 5 (omega arith) (λ e. omega arith) (λ e. omega arith) ∙ rw fact-is)
+      ∙ linked-place-other h few (with-new v p t) long n p n at-prior fits (omega arith) (λ e. omega arith)
+      ∙ field-behind n (image-words v) (new-record v p t) (length-image v) at-prior ∙ sym (prior-of-new n p (v .tags) fits (new-tag h)))
+      (own-word at-mate (omega arith) (λ e. omega arith) (λ e. omega arith) ∙ rw fact-is)
+      (own-word at-up (omega arith) (λ e. omega arith) (λ e. omega arith) ∙ rw fact-is)
+      (own-word at-kind (omega arith) (λ e. omega arith) (λ e. omega arith) ∙ rw fact-is)
 
   own-front : Heads (with-new v p t) (image-header v)
   own-front = image-header-word v (new-record v p t)
 
-  linked-header : Heads (linked v p t) (set (image-header v) 5 (getD (insert-at p (n ∷ []) (v .tags)) 0 no-tag))
+  linked-header : Heads (linked v p t) (set (image-header v) at-first (getD (insert-at p (n ∷ []) (v .tags)) 0 no-tag))
   linked-header i small =
       linked-next-header h few (placed v p t) long-placed n p i small
       ∙ linked-place-header h few (with-new v p t) long n p fits own-front i small
 
-  linked-image : set (linked v p t) 4 (suc n) ≡ image-words (with-tag p t v)
-  unfolding with-tag words-for
+  issued : {x : ℕ} → x < suc n → x < length (with-tag p t v .facts)
+  unfolding with-tag
+  issued l = omega (arith, one-more (v .facts) t)
+
+  counted-more : length (with-tag p t v .facts) ≡ suc n
+  unfolding with-tag
+  counted-more = one-more (v .facts) t
+
+  linked-image : set (linked v p t) at-count (suc n) ≡ image-words (with-tag p t v)
   linked-image =
       let u = with-tag p t v in
-      let counted = one-more (v .facts) t in
-      fields-tell (suc n) (set (linked v p t) 4 (suc n)) (image-words u)
-      (length-set (linked v p t) 4 (suc n) ∙ long-linked)
-      (length-image u ∙ ap words-for counted)
+      fields-tell (suc n) (set (linked v p t) at-count (suc n)) (image-words u)
+      (length-set (linked v p t) at-count (suc n) ∙ long-linked)
+      (length-image u ∙ ap (words-for header-words) counted-more)
       (λ i small.
-      heads-set (linked v p t) (set (image-header v) 5 (getD (insert-at p (n ∷ []) (v .tags)) 0 no-tag)) 4 (suc n)
-      (omega (arith, long-linked)) (rw length-set (omega (arith, length-image-header v))) linked-header i small
-      ∙ sym (own-header u i small ∙ rw (new-header p t v, counted)))
-      (λ x k l small.
-      field-past-header (linked v p t) 4 (suc n) x k (omega arith)
+      heads-set (linked v p t) (set (image-header v) at-first (getD (insert-at p (n ∷ []) (v .tags)) 0 no-tag)) at-count (suc n)
+      (omega (arith, long-linked, header-fits (suc n))) (rw length-set (omega (arith, length-image-header v))) linked-header i small
+      ∙ sym (own-header u i small ∙ rw (new-header p t v, one-more (v .facts) t)))
+      (λ x l.
+      label-past-header (linked v p t) at-count (suc n) x (omega arith)
+      ∙ by-test (eqb x n) (λ e. rw (eqb-true x n e) new-label) (λ e. old-label x (omega (arith, eqb-false x n e)))
+      ∙ sym (own-label u x (issued l)))
+      (λ x k l past small.
+      field-past-header (linked v p t) at-count (suc n) x k (omega arith)
       ∙ by-test (eqb x n)
-      (λ e. rw (eqb-true x n e) (new-record-is k small))
-      (λ e. old-record x (omega (arith, eqb-false x n e)) k small)
-      ∙ sym (own-field u x k (omega arith) small))
+      (λ e. rw (eqb-true x n e) (new-record-is k past small))
+      (λ e. old-record x (omega (arith, eqb-false x n e)) k past small)
+      ∙ sym (own-field u x k (issued l) small))
 
   -- A NEW TAG ON AN IMAGE
   pub added-image : (rest : List ℕ) → tag-words ≤ length rest →
@@ -473,28 +473,18 @@ with-stamp a v =
     }
 
 -- an image that differs only in a word of the header
-header-set : (v u : Image) (i a : ℕ) → i < header-words → image-header u ≡ set (image-header v) i a → ((xs : List ℕ) → image-records u xs ≡ image-records v xs) →
+header-set : (v u : Image) (i a : ℕ) → i < header-words → image-header u ≡ set (image-header v) i a → image-record u ≡ image-record v →
     u .facts ≡ v .facts → (rest : List ℕ) → set (image-words v ++ rest) i a ≡ image-words u ++ rest
-unfolding image-words words-for
+unfolding image-words
 header-set v u i a l head records same rest =
-    rw (set-append-left (image-words v) rest i a (omega (arith, length-image v)), head, records, same)
+    rw (set-append-left (image-words v) rest i a (omega (arith, length-image v, header-fits (length (v .facts)))), head, records, same)
     (ap (λ (ws : List ℕ). ws ++ rest) (set-append-left (image-header v) _ i a (omega (arith, length-image-header v))))
 
-levels-records : (a : ℕ) (v : Image) (xs : List ℕ) → image-records (with-levels a v) xs ≡ image-records v xs
-unfolding image-records image-record with-levels
-levels-records a v [] = refl
-levels-records a v (x ∷ xs) = rw (levels-records a v xs)
-
-stamp-records : (a : ℕ) (v : Image) (xs : List ℕ) → image-records (with-stamp a v) xs ≡ image-records v xs
-unfolding image-records image-record with-stamp
-stamp-records a v [] = refl
-stamp-records a v (x ∷ xs) = rw (stamp-records a v xs)
-
 -- set in the header
-pub levels-set : (v : Image) (rest : List ℕ) (a : ℕ) → set (image-words v ++ rest) 3 a ≡ image-words (with-levels a v) ++ rest
-unfolding image-header with-levels
-levels-set v rest a = header-set v (with-levels a v) 3 a (omega arith) refl (levels-records a v) refl rest
+pub levels-set : (v : Image) (rest : List ℕ) (a : ℕ) → set (image-words v ++ rest) at-height a ≡ image-words (with-levels a v) ++ rest
+unfolding image-header image-record with-levels
+levels-set v rest a = header-set v (with-levels a v) at-height a (omega arith) refl refl refl rest
 
-pub stamp-set : (v : Image) (rest : List ℕ) (a : ℕ) → set (image-words v ++ rest) 7 a ≡ image-words (with-stamp a v) ++ rest
-unfolding image-header with-stamp
-stamp-set v rest a = header-set v (with-stamp a v) 7 a (omega arith) refl (stamp-records a v) refl rest
+pub stamp-set : (v : Image) (rest : List ℕ) (a : ℕ) → set (image-words v ++ rest) at-stamp a ≡ image-words (with-stamp a v) ++ rest
+unfolding image-header image-record with-stamp
+stamp-set v rest a = header-set v (with-stamp a v) at-stamp a (omega arith) refl refl refl rest

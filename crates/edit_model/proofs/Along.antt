@@ -7,9 +7,10 @@ use native.Mathlib.Omega.{arith}
 use lib.ListN.{length, getD, take, drop}
 use lib.Seq.{drop-cons}
 use Rattle.store_types.specs.Limits.{no-tag}
+use Rattle.store_types.specs.Layout.{at-next, at-prior, field, label-at}
 use Rattle.tree_laws.proofs.Rows.{place-getD}
 use Rattle.calls.specs.Store.{next-in, prior-in}
-use Rattle.calls.specs.Words.{field, follow}
+use Rattle.calls.specs.Words.{follow}
 use Rattle.edit_model.specs.Image.{Image, image-words}
 use Rattle.edit_model.specs.Relabel.{along}
 use Rattle.edit_model.proofs.Image.{Proper, distinct-tags, tag-below, record-says}
@@ -17,16 +18,16 @@ use Rattle.edit_model.proofs.Image.{Proper, distinct-tags, tag-below, r
 module _ {v : Image} (h : Proper v) (rest : List ℕ) where
   -- AT A PLACE: the label, the tag behind and the tag before
   module _ (i d : ℕ) (inside : i < length (v .tags)) where
-    pub label-at : field (image-words v ++ rest) (getD (v .tags) i d) 0 ≡ getD (v .labels) i 0
-    label-at =
+    pub label-of-place : label-at (image-words v ++ rest) (getD (v .tags) i d) ≡ getD (v .labels) i 0
+    label-of-place =
         record-says v rest (getD (v .tags) i d) (tag-below h i d inside) .label-word ∙ rw (place-getD (v .tags) i d (distinct-tags h) inside)
 
-    pub next-at : field (image-words v ++ rest) (getD (v .tags) i d) 1 ≡ getD (v .tags) (suc i) no-tag
+    pub next-at : field (image-words v ++ rest) (getD (v .tags) i d) at-next ≡ getD (v .tags) (suc i) no-tag
     unfolding next-in
     next-at =
         record-says v rest (getD (v .tags) i d) (tag-below h i d inside) .next-word ∙ rw (place-getD (v .tags) i d (distinct-tags h) inside)
 
-    pub prior-at : field (image-words v ++ rest) (getD (v .tags) i d) 2 ≡ getD (no-tag ∷ v .tags) i no-tag
+    pub prior-at : field (image-words v ++ rest) (getD (v .tags) i d) at-prior ≡ getD (no-tag ∷ v .tags) i no-tag
     unfolding prior-in
     prior-at =
         record-says v rest (getD (v .tags) i d) (tag-below h i d inside) .prior-word ∙ rw (place-getD (v .tags) i d (distinct-tags h) inside)

@@ -9,29 +9,29 @@ use borrow.Author.Tests.{lt-ltb, le-ltb, le-leb, lt-leb, eqb-true, eqb-false}
 use lib.Dec.{leb, ltb, eqb}
 use lib.ListN.{length, getD, List·getD-append}
 use Rattle.store_types.specs.Limits.{no-tag}
+use Rattle.lists.proofs.Tests.{by-test}
+use Rattle.store_types.specs.Layout.{at-prior, field, label-at}
+use Rattle.tree.specs.Good.{Good}
 use Rattle.tree.specs.Forest.{Forest, size, labels}
 use Rattle.tree.specs.Reach.{left-in}
 use Rattle.tree.specs.Promise.{Widths}
-use Rattle.tree_laws.proofs.Good.{Good}
-use Rattle.tree_laws.proofs.Rows.{by-test}
 use Rattle.tree_laws.proofs.Labels.{length-labels, rising-from, rising-below, node-rising}
 use Rattle.tree_laws.proofs.Ancestors.{number-in, getD-middle, Found, found}
-use Rattle.calls.specs.Words.{field}
 use Rattle.edit_model.specs.Image.{Image, image-words}
 use Rattle.edit_model.specs.Split.{left-of}
 use Rattle.edit_model.proofs.Image.{Proper, tag-below}
-use Rattle.edit_model.proofs.Along.{label-at, prior-at}
+use Rattle.edit_model.proofs.Along.{label-of-place, prior-at}
 use Rattle.edit_model.proofs.Added.{tag-before}
 
 -- the equations of the walk: it stops at no tag or at a lower label, and else goes on
 module _ (k n : ℕ) (ws : List ℕ) (low x : ℕ) where
-  left-stops : (leb n x || ltb (field ws x 0) low) ≡ true → left-of (suc k) n ws low x ≡ x
+  left-stops : (leb n x || ltb (label-at ws x) low) ≡ true → left-of (suc k) n ws low x ≡ x
   unfolding left-of
   left-stops e = rw e
 
-  left-goes : x < n → low ≤ field ws x 0 → left-of (suc k) n ws low x ≡ left-of k n ws low (field ws x 2)
+  left-goes : x < n → low ≤ label-at ws x → left-of (suc k) n ws low x ≡ left-of k n ws low (field ws x at-prior)
   unfolding left-of
-  left-goes tag inside = rw (lt-leb n x tag, le-ltb (field ws x 0) low inside)
+  left-goes tag inside = rw (lt-leb n x tag, le-ltb (label-at ws x) low inside)
 
 -- ALONG THE ROW OF AN IMAGE, from the place behind its first i tags down to the least place with labels of at least low
 -- from there up to i
@@ -47,7 +47,7 @@ module _ {v : Image} (h : Proper v) (few : length (v .facts) ≤ no-tag) (rest :
       let n = length (v .facts) in
       let ws = image-words v ++ rest in
       let x = getD (v .tags) i no-tag in
-      let label = label-at h rest i no-tag fits in
+      let label = label-of-place h rest i no-tag fits in
       by-test (eqb to (suc i))
       (λ t.
       let e = eqb-true to (suc i) t in

@@ -9,12 +9,14 @@ use borrow.Author.Tests.{ne-eqb, lt-ltb}
 use lib.Dec.{eqb}
 use lib.ListN.{length, getD, take, drop, length-append}
 use lib.Seq.{drop-cons, drop-append-add}
-use Rattle.store_types.specs.Limits.{no-tag, tag-words, label-limit, most-tags}
+use Rattle.store_types.specs.Limits.{no-tag, label-limit, most-tags}
+use Rattle.store_types.specs.Layout.{header-words, tag-words, words-for}
+use Rattle.lists.proofs.Tests.{by-test}
 use Rattle.tree.specs.Row.{insert-at}
 use Rattle.tree.specs.Forest.{leaves, size, labels, spread}
 use Rattle.tree.specs.Book.{Book, height, labels-of, split-of, moved}
 use Rattle.tree.specs.Reach.{split-book}
-use Rattle.tree_laws.proofs.Rows.{by-test, length-insert, insert-left, insert-right}
+use Rattle.tree_laws.proofs.Rows.{length-insert, insert-left, insert-right}
 use Rattle.tree_laws.proofs.Spread.{leaves-spread, far-from-limit}
 use Rattle.tree_laws.proofs.Labels.{length-labels, width-least, power-widths}
 use Rattle.tree_laws.proofs.Root.{labels-whole}
@@ -22,7 +24,6 @@ use Rattle.tree_laws.proofs.Second.{second-book}
 use Rattle.tree_laws.proofs.Both.{pieces-whole, labels-both}
 use Rattle.calls.specs.Kind.{kind-word}
 use Rattle.calls.specs.Store.{Store, Fact, count, row, width}
-use Rattle.calls.specs.Load.{words-for}
 use Rattle.calls.specs.Words.{words-of, Says}
 use Rattle.calls_laws.proofs.Tests.{Sound, sane}
 use Rattle.calls_laws.proofs.Sections.{distinct-row}
@@ -48,7 +49,7 @@ put-two ws st p t u =
     put-words (added (added-at ws st p t) (suc (count st)) (count st) (u .mate) (u .up) (kind-word (u .kind) (u .marked))) (widths-of ws) (st .book .r) (suc (suc (count st))) 2 (plan-two-at ws st p)
 
 module _ (ws : List ℕ) (st : Store) (says : Says ws st) (p : ℕ) (fits : p ≤ count st) (h : ℕ) (top : plan-two-at ws st p .height ≡ suc h)
-    (lower : plan-at ws st p .height < suc h) (t u : Fact) (few : suc (suc (count st)) ≤ most-tags) (room : words-for (suc (suc (count st))) ≤ length ws)
+    (lower : plan-at ws st p .height < suc h) (t u : Fact) (few : suc (suc (count st)) ≤ most-tags) (room : words-for header-words (suc (suc (count st))) ≤ length ws)
     (labels-fit : width st (height (book-with-two p st)) ≤ label-limit) where
   abbrev k : Book
   k = st .book
@@ -150,14 +151,14 @@ module _ (ws : List ℕ) (st : Store) (says : Says ws st) (p : ℕ) (fits : p �
 
   -- both tags, not numbered yet
   added-both : added (added-at ws st p t) (suc (count st)) (count st) (u .mate) (u .up) (kind-word (u .kind) (u .marked))
-      ≡ image-words both ++ drop (words-for (suc (suc (count st)))) ws
+      ≡ image-words both ++ drop (words-for header-words (suc (suc (count st)))) ws
   unfolding image-of words-for
   added-both =
       let v = image-of st in
       let rest = image-said ws st says .0 in
       let is = image-said ws st says .1 in
       let many = ap length is ∙ length-append (image-words v) rest in
-      let at : words-for (suc (suc (count st))) ≡ length (image-words v) + (tag-words + tag-words) = omega (arith, length-image v) in
+      let at : words-for header-words (suc (suc (count st))) ≡ length (image-words v) + (tag-words + tag-words) = omega (arith, length-image v) in
       rw is
       (added-two (proper-image own) few-more p in-row t u rest (omega (arith, length-image v))
       ∙ rw (at, drop-append-add (image-words v) rest (tag-words + tag-words)))
@@ -175,7 +176,7 @@ module _ (ws : List ℕ) (st : Store) (says : Says ws st) (p : ℕ) (fits : p �
   -- the row that is numbered
   pub both-row : Row-in (added (added-at ws st p t) (suc (count st)) (count st) (u .mate) (u .up) (kind-word (u .kind) (u .marked))) (suc (suc (count st))) q
   both-row =
-      row-in q (record { image = both; rest = drop (words-for (suc (suc (count st)))) ws; words-are = added-both; proper = proper-both; counted = count-both })
+      row-in q (record { image = both; rest = drop (words-for header-words (suc (suc (count st)))) ws; words-are = added-both; proper = proper-both; counted = count-both })
       (widths-of ws) (width st) (k .r) (d .before) (insert-at (d .offset) (no-tag ∷ no-tag ∷ []) old) new (d .beside) (d .after) ((k .s - 1) * width st (suc h)) right
 
   -- BOTH TAGS: the words
@@ -191,9 +192,9 @@ module _ (ws : List ℕ) (st : Store) (says : Says ws st) (p : ℕ) (fits : p �
       raised-image (with-labels (labels-of (width st) (book-with-two p st)) both) rest (q .height) _ height-after
       ∙ ap (λ (us : List ℕ). us ++ rest) (image-is _ (grown (suc p) u (grown p t st)) (alike-two own p fits t u _ refl))
 
-  pub both-words : put-two ws st p t u .words ≡ words-of (grown (suc p) u (grown p t st)) ++ drop (words-for (suc (suc (count st)))) ws
+  pub both-words : put-two ws st p t u .words ≡ words-of (grown (suc p) u (grown p t st)) ++ drop (words-for header-words (suc (suc (count st)))) ws
   unfolding put-words
-  both-words = rw (added-both, numbered-words (drop (words-for (suc (suc (count st)))) ws)) (raised-said (drop (words-for (suc (suc (count st)))) ws))
+  both-words = rw (added-both, numbered-words (drop (words-for header-words (suc (suc (count st)))) ws)) (raised-said (drop (words-for header-words (suc (suc (count st)))) ws))
 
   -- how many tags moved: the new ones count as moved where they are numbered
   new-differ : differ (no-tag ∷ no-tag ∷ []) (take 2 (drop p (labels-of (width st) (book-with-two p st)))) ≡ 2
@@ -229,6 +230,6 @@ module _ (ws : List ℕ) (st : Store) (says : Says ws st) (p : ℕ) (fits : p �
         added-both,
         ← count-both,
         renumbered-moved proper-both few-both (widths-of ws) (width st) (k .r) q (d .before) (insert-at (d .offset) (no-tag ∷ no-tag ∷ []) old) new (d .beside) (d .after) ((k .s - 1) * width st (suc h))
-            right (labels-of (width st) (book-with-two p st)) labels-now (label-below own p fits labels-fit) shift-least (drop (words-for (length (both .facts))) ws),
+            right (labels-of (width st) (book-with-two p st)) labels-now (label-below own p fits labels-fit) shift-least (drop (words-for header-words (length (both .facts))) ws),
       )
       (omega (arith, moved-said))

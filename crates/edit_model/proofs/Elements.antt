@@ -9,14 +9,14 @@ use borrow.Author.Tests.{ltb-true}
 use lib.Dec.{ltb}
 use lib.ListN.{length, drop}
 use Rattle.store_types.specs.Limits.{label-limit, most-tags}
+use Rattle.lists.proofs.Tests.{by-test}
+use Rattle.store_types.specs.Layout.{at-count, header-words, word-at, words-for}
 use Rattle.tree.specs.Book.{height, inserted-row, split-of, split-of-row, moved}
-use Rattle.tree_laws.proofs.Rows.{by-test}
 use Rattle.calls.specs.Kind.{begin, end, code, kind-word}
 use Rattle.calls.specs.Store.{Store, Fact, count, width}
 use Rattle.calls.specs.Nesting.{closing, new-facts}
-use Rattle.calls.specs.Load.{words-for}
 use Rattle.calls.specs.Insert.{insert-kinds, position, up-at, book-after, insert-store, insert-moved, insert-split, insert-refusal}
-use Rattle.calls.specs.Words.{words-of, Says, word-at, in-front}
+use Rattle.calls.specs.Words.{words-of, Says, in-front}
 use Rattle.calls_laws.proofs.Tests.{Sound, sane}
 use Rattle.calls_laws.proofs.Fields.{length-words, header-says}
 use Rattle.calls_laws.proofs.Inserts.{labels-kept, Row-accepted}
@@ -59,7 +59,7 @@ module _ (ws : List ℕ) (st : Store) (says : Says ws st) (y : ℕ) (accepted : 
   few : suc (suc (count st)) ≤ most-tags
   few = omega (arith, a .few)
 
-  room : words-for (suc (suc (count st))) ≤ length ws
+  room : words-for header-words (suc (suc (count st))) ≤ length ws
   unfolding words-for
   room = omega (arith, a .room)
 
@@ -79,12 +79,12 @@ module _ (ws : List ℕ) (st : Store) (says : Says ws st) (y : ℕ) (accepted : 
   new-store = rw (one-more (st .facts) (begin-fact st y), append-assoc (st .facts) (begin-fact st y ∷ []) (end-fact st y ∷ []))
 
   -- words with it in front are right once they are stamped
-  words-right : (us : List ℕ) → us ≡ words-of after ++ drop (words-for (suc (suc (count st)))) ws → stamped us ≡ in-front (words-of (insert-store (insert-kinds 1) y st)) ws
+  words-right : (us : List ℕ) → us ≡ words-of after ++ drop (words-for header-words (suc (suc (count st)))) ws → stamped us ≡ in-front (words-of (insert-store (insert-kinds 1) y st)) ws
   unfolding in-front stamped-store grown
   words-right us e =
       let counted : count (stamped-store after) ≡ suc (suc (count st)) = one-more (st .facts ++ (begin-fact st y ∷ [])) (end-fact st y) ∙ ap suc (one-more (st .facts) (begin-fact st y)) in
-      let long : length (words-of (stamped-store after)) ≡ words-for (suc (suc (count st))) = length-words (stamped-store after) ∙ ap words-for counted in
-      rw (e, ← new-store, long) (stamped-words after (drop (words-for (suc (suc (count st)))) ws))
+      let long : length (words-of (stamped-store after)) ≡ words-for header-words (suc (suc (count st))) = length-words (stamped-store after) ∙ ap (words-for header-words) counted in
+      rw (e, ← new-store, long) (stamped-words after (drop (words-for header-words (suc (suc (count st)))) ws))
 
   moved-right : (n : ℕ) → n ≡ moved (width st) (st .book) (book-with-two p st) → n ≡ insert-moved (insert-kinds 1) y st
   unfolding insert-moved book-after insert-kinds inserted-row
@@ -121,7 +121,7 @@ module _ (ws : List ℕ) (st : Store) (says : Says ws st) (y : ℕ) (accepted : 
 
   -- the row that is numbered then
   pub element-row : (h : ℕ) → plan-of ws 2 y .height ≡ suc h → plan-of ws 1 y .height < suc h →
-      Row-in (added (added ws (word-at ws 4) y (suc (word-at ws 4)) (up-word ws y) 1) (suc (word-at ws 4)) (word-at ws 4) (word-at ws 4) (up-word ws y) 2) (suc (suc (word-at ws 4))) (plan-of ws 2 y)
+      Row-in (added (added ws (word-at ws at-count) y (suc (word-at ws at-count)) (up-word ws y) 1) (suc (word-at ws at-count)) (word-at ws at-count) (word-at ws at-count) (up-word ws y) 2) (suc (suc (word-at ws at-count))) (plan-of ws 2 y)
   unfolding kind-word code
   element-row h top lower =
       let head = header-said ws st says in
@@ -131,11 +131,11 @@ module _ (ws : List ℕ) (st : Store) (says : Says ws st) (y : ℕ) (accepted : 
       (rw place-is at (both-row ws st says p fits h top-said lower-said (begin-fact st y) (end-fact st y) few room labels-fit-both))
 
   -- IN TURN
-  turn-said : split-of (suc p) (book-with p st) ≡ 0 → in-turn-edit y ws .words ≡ words-of after ++ drop (words-for (suc (suc (count st)))) ws
+  turn-said : split-of (suc p) (book-with p st) ≡ 0 → in-turn-edit y ws .words ≡ words-of after ++ drop (words-for header-words (suc (suc (count st)))) ws
   unfolding in-turn-edit end-edit kind-word code grown
   turn-said none =
       let head = header-said ws st says in
-      let rest = drop (words-for (suc (count st))) ws in
+      let rest = drop (words-for header-words (suc (count st))) ws in
       let next = header-says (grown p (begin-fact st y) st) rest in
       rw (begin-words ws st says y accepted, head .issued, up-said ws st says begin (end ∷ []) y a, next .levels, next .degree-r)
       (turn-words ws st says p fits none (begin-fact st y) (end-fact st y) few room labels-fit)

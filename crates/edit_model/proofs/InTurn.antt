@@ -8,16 +8,16 @@ use native.Mathlib.Nat.{mul-le-mul}
 use native.Mathlib.Omega.{arith}
 use lib.ListN.{length, getD, drop, length-drop}
 use lib.Seq.{drop-drop}
-use Rattle.store_types.specs.Limits.{no-tag, tag-words, label-limit, most-tags}
+use Rattle.store_types.specs.Limits.{no-tag, label-limit, most-tags}
+use Rattle.store_types.specs.Layout.{header-words, tag-words, words-for}
+use Rattle.lists.proofs.Tests.{fails}
 use Rattle.tree.specs.Book.{height, tags, labels-of, base, power-width, root-full, inserted, split-of, moved}
 use Rattle.tree.specs.Promise.{Widths, Step, Second-tag}
-use Rattle.tree_laws.proofs.Rows.{fails}
 use Rattle.tree_laws.proofs.Labels.{power-widths}
 use Rattle.tree_laws.proofs.Insertion.{tags-inserted, inserted-s, inserted-r, inserted-under, split-of-split}
 use Rattle.tree_laws.proofs.Second.{second-tag}
 use Rattle.calls.specs.Kind.{kind-word}
 use Rattle.calls.specs.Store.{Store, Fact, count, row, width}
-use Rattle.calls.specs.Load.{words-for}
 use Rattle.calls.specs.Words.{words-of, Says}
 use Rattle.calls_laws.proofs.Tests.{Sound, sane}
 use Rattle.walk_model.specs.Levels.{entry}
@@ -68,11 +68,11 @@ module _ (ws : List ℕ) (st : Store) (says : Says ws st) (p : ℕ) (fits : p �
   table-right : (i : ℕ) → i ≤ height (st .book) → entry (widths-of ws) i ≡ power-width (book-with p st .s) (book-with p st .r) i
   table-right i l = rw same-width (widths-right ws st says i l)
 
-  module _ (t u : Fact) (few : suc (suc (count st)) ≤ most-tags) (room : words-for (suc (suc (count st))) ≤ length ws) (labels-fit : width st (height (book-with p st)) ≤ label-limit) where
+  module _ (t u : Fact) (few : suc (suc (count st)) ≤ most-tags) (room : words-for header-words (suc (suc (count st))) ≤ length ws) (labels-fit : width st (height (book-with p st)) ≤ label-limit) where
     few-one : suc (count st) ≤ most-tags
     few-one = omega arith
 
-    room-one : words-for (suc (count st)) ≤ length ws
+    room-one : words-for header-words (suc (count st)) ≤ length ws
     unfolding words-for
     room-one = omega arith
 
@@ -129,11 +129,11 @@ module _ (ws : List ℕ) (st : Store) (says : Says ws st) (p : ℕ) (fits : p �
           facts = refl;
         })
 
-    pub turn-words : applied (added (words-of (grown p t st) ++ drop (words-for (suc (count st))) ws) (suc (count st)) (count st) (u .mate) (u .up) (kind-word (u .kind) (u .marked))) (widths-of ws) (book-with p st .r)
-        (suc (suc (count st))) (plain-plan (words-of (grown p t st) ++ drop (words-for (suc (count st))) ws) (widths-of ws) (book-with p st .under) (count st)) .words
-        ≡ words-of (grown (suc p) u (grown p t st)) ++ drop (words-for (suc (suc (count st)))) ws
+    pub turn-words : applied (added (words-of (grown p t st) ++ drop (words-for header-words (suc (count st))) ws) (suc (count st)) (count st) (u .mate) (u .up) (kind-word (u .kind) (u .marked))) (widths-of ws) (book-with p st .r)
+        (suc (suc (count st))) (plain-plan (words-of (grown p t st) ++ drop (words-for header-words (suc (count st))) ws) (widths-of ws) (book-with p st .under) (count st)) .words
+        ≡ words-of (grown (suc p) u (grown p t st)) ++ drop (words-for header-words (suc (suc (count st)))) ws
     unfolding words-for
     turn-words =
-        let rest = drop (words-for (suc (count st))) ws in
-        let further : words-for (suc (count st)) + tag-words ≡ words-for (suc (suc (count st))) = omega arith in
-        rw (store-image (grown p t st), next-said rest (rw length-drop (omega arith)), image-is _ (grown (suc p) u (grown p t st)) alike-after, drop-drop tag-words (words-for (suc (count st))) ws, further)
+        let rest = drop (words-for header-words (suc (count st))) ws in
+        let further : words-for header-words (suc (count st)) + tag-words ≡ words-for header-words (suc (suc (count st))) = omega arith in
+        rw (store-image (grown p t st), next-said rest (rw length-drop (omega arith)), image-is _ (grown (suc p) u (grown p t st)) alike-after, drop-drop tag-words (words-for header-words (suc (count st))) ws, further)

@@ -11,14 +11,15 @@ use borrow.Author.Tests.{eq-eqb, ne-eqb}
 use lib.Dec.{leb, ltb, eqb}
 use lib.ListN.{length, drop}
 use Rattle.store_types.specs.Limits.{no-tag, label-limit, most-tags}
+use Rattle.lists.proofs.Tests.{or-left-false}
+use Rattle.store_types.specs.Layout.{at-r, at-count, header-words, word-at, words-for}
 use Rattle.tree.specs.Book.{height, power-width, inserted, inserted-row, split-of, split-of-row, moved}
-use Rattle.tree_laws.proofs.Rows.{or-left-false, getD-place}
+use Rattle.tree_laws.proofs.Rows.{getD-place}
 use Rattle.calls.specs.Kind.{Kind, begin, end, text, code, kind-word, is-begin}
 use Rattle.calls.specs.Store.{Store, Fact, fact, count, row, width}
 use Rattle.calls.specs.Nesting.{new-facts}
-use Rattle.calls.specs.Load.{words-for}
 use Rattle.calls.specs.Insert.{insert-kinds, position, up-at, book-after, insert-store, insert-moved, insert-split, labels-run-out, insert-refusal}
-use Rattle.calls.specs.Words.{words-of, Says, word-at, in-front}
+use Rattle.calls.specs.Words.{words-of, Says, in-front}
 use Rattle.calls_laws.proofs.Tests.{Sound, sane}
 use Rattle.calls_laws.proofs.Fields.{length-words, Tag-says, tag-says, header-says}
 use Rattle.calls_laws.proofs.Sections.{in-row}
@@ -58,7 +59,7 @@ stamped-words st rest =
 -- ONE TAG with its facts behind a place, as the words say
 abbrev pub edit-of : (ws : List ℕ) → (place : ℕ) → Fact → Edited
 edit-of ws y t =
-    put-words (added ws (word-at ws 4) y (t .mate) (t .up) (kind-word (t .kind) (t .marked))) (widths-of ws) (word-at ws 2) (suc (word-at ws 4)) 1 (plan-of ws 1 y)
+    put-words (added ws (word-at ws at-count) y (t .mate) (t .up) (kind-word (t .kind) (t .marked))) (widths-of ws) (word-at ws at-r) (suc (word-at ws at-count)) 1 (plan-of ws 1 y)
 
 -- AN ACCEPTED ROW of new tags, of which the first goes in
 module _ (ws : List ℕ) (st : Store) (says : Says ws st) (c : Kind) (ks : List Kind) (y : ℕ) (a : Row-accepted (length ws) (c ∷ ks) y st) where
@@ -91,7 +92,7 @@ module _ (ws : List ℕ) (st : Store) (says : Says ws st) (c : Kind) (ks : List 
   pub few-said : suc (count st) ≤ most-tags
   few-said = omega (arith, a .few)
 
-  pub room-said : words-for (suc (count st)) ≤ length ws
+  pub room-said : words-for header-words (suc (count st)) ≤ length ws
   unfolding words-for
   room-said = omega (arith, a .room)
 
@@ -106,7 +107,7 @@ module _ (ws : List ℕ) (st : Store) (says : Says ws st) (c : Kind) (ks : List 
   -- ONE TAG with its facts at the place
   module _ (t : Fact) where
     pub one-words : edit-of ws y t .words
-        ≡ words-of (grown (position y st) t st) ++ drop (words-for (suc (count st))) ws
+        ≡ words-of (grown (position y st) t st) ++ drop (words-for header-words (suc (count st))) ws
     one-words =
         let head = header-said ws st says in
         rw (head .issued, head .degree-r) (rw place-said at (single-words ws st says (position y st) position-said t few-said room-said labels-said))
@@ -148,8 +149,8 @@ module _ (ws : List ℕ) (st : Store) (says : Says ws st) (y : ℕ) (accepted : 
   text-words =
       let su = grown (position y st) (text-fact st y) st in
       let counted : count (stamped-store su) ≡ suc (count st) = one-more (st .facts) (text-fact st y) in
-      let long : length (words-of (stamped-store su)) ≡ words-for (suc (count st)) = length-words (stamped-store su) ∙ ap words-for counted in
-      rw (text-is, one-words ws st says text [] y row-accepted (text-fact st y), ← new-store, long) (stamped-words su (drop (words-for (suc (count st))) ws))
+      let long : length (words-of (stamped-store su)) ≡ words-for header-words (suc (count st)) = length-words (stamped-store su) ∙ ap (words-for header-words) counted in
+      rw (text-is, one-words ws st says text [] y row-accepted (text-fact st y), ← new-store, long) (stamped-words su (drop (words-for header-words (suc (count st))) ws))
 
   text-moved : text-edit y ws .moved ≡ insert-moved (insert-kinds 3) y st
   unfolding insert-moved book-after insert-kinds inserted-row
@@ -176,7 +177,7 @@ module _ (ws : List ℕ) (st : Store) (says : Says ws st) (y : ℕ) (accepted : 
   unfolding begin-edit kind-word code
   begin-is = let head = header-said ws st says in rw (head .issued, up-said ws st says begin (end ∷ []) y element-accepted)
 
-  pub begin-words : begin-edit y ws .words ≡ words-of (grown (position y st) (begin-fact st y) st) ++ drop (words-for (suc (count st))) ws
+  pub begin-words : begin-edit y ws .words ≡ words-of (grown (position y st) (begin-fact st y) st) ++ drop (words-for header-words (suc (count st))) ws
   begin-words = rw begin-is (one-words ws st says begin (end ∷ []) y element-accepted (begin-fact st y))
 
   pub begin-moved : begin-edit y ws .moved ≡ moved (width st) (st .book) (inserted (position y st) (count st) (st .book))

@@ -1,4 +1,3 @@
-pub mod Fields
 pub mod Image
 pub mod Along
 pub mod Differ

@@ -6,9 +6,10 @@ use native.Mathlib.Omega.{arith}
 use lib.Dec.{eqb}
 use lib.ListN.{length, take, drop, length-map, take-append-drop}
 use lib.Seq.{length-take-le, ext-getD, take-at, drop-at, drop-drop}
+use Rattle.lists.proofs.Tests.{by-test}
 use Rattle.tree.specs.Row.{insert-at}
 use Rattle.tree.specs.Book.{Book, tags, labels-of, label-of, moved-among, moved}
-use Rattle.tree_laws.proofs.Rows.{Distinct, Apart, by-test, place-getD, length-insert, distinct-insert}
+use Rattle.tree_laws.proofs.Rows.{Distinct, Apart, place-getD, length-insert, distinct-insert}
 use Rattle.tree_laws.proofs.Labels.{length-labels}
 use Rattle.calls_laws.proofs.Reader.{getD-map}
 use Rattle.edit_model.proofs.Differ.{differ, differ-around}

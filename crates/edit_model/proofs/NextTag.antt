@@ -8,7 +8,8 @@ use native.Mathlib.Omega.{arith}
 use borrow.Author.Tests.{ne-eqb}
 use lib.Dec.{eqb}
 use lib.ListN.{length, getD, drop, replicate}
-use Rattle.store_types.specs.Limits.{no-tag, tag-words, most-tags}
+use Rattle.store_types.specs.Limits.{no-tag, most-tags}
+use Rattle.store_types.specs.Layout.{tag-words, label-at}
 use Rattle.tree.specs.Row.{insert-at}
 use Rattle.tree.specs.Forest.{size, labels}
 use Rattle.tree.specs.Book.{Book, height, tags, labels-of, power-width, inserted, split-of}
@@ -20,14 +21,13 @@ use Rattle.tree_laws.proofs.Root.{whole, labels-whole, flat-whole, split-flat, 
 use Rattle.tree_laws.proofs.Border.{Cut, cut-flat}
 use Rattle.calls.specs.Kind.{kind-word}
 use Rattle.calls.specs.Store.{Fact}
-use Rattle.calls.specs.Words.{field}
 use Rattle.walk_model.specs.Levels.{entry}
 use Rattle.walk_model.specs.Watch.{ancestor-numbers}
 use Rattle.walk_model.proofs.Numbers.{numbers-whole}
 use Rattle.edit_model.specs.Image.{Image, image-words, with-labels}
 use Rattle.edit_model.specs.Insert.{Plan, added, applied, place-label, numbers-at, plain-plan}
 use Rattle.edit_model.proofs.Image.{Proper, tag-below}
-use Rattle.edit_model.proofs.Along.{label-at}
+use Rattle.edit_model.proofs.Along.{label-of-place}
 use Rattle.edit_model.proofs.Added.{with-tag, one-more, tag-before, added-image, proper-with-tag}
 use Rattle.edit_model.proofs.Plans.{cut-low}
 use Rattle.edit_model.proofs.Single.{flat-labels, flat-with}
@@ -58,8 +58,8 @@ module _ (m : Book) (fine : Sane m) (p : ℕ) (fits : suc p ≤ size (m .root)) 
   is-tag : eqb place no-tag ≡ false
   is-tag = ne-eqb place no-tag (λ e. omega (arith, tag-below h p no-tag in-row))
 
-  own-label : field words place 0 ≡ getD (labels-of w m) p 0
-  own-label = label-at h rest p no-tag in-row ∙ rw labels-are
+  own-label : label-at words place ≡ getD (labels-of w m) p 0
+  own-label = label-of-place h rest p no-tag in-row ∙ rw labels-are
 
   -- the numbers of its ancestors
   numbers-are : numbers-at words table (m .under) place ≡ ancestor-numbers table (m .under) (getD (labels-of w m) (suc p - 1) 0) 0 (replicate 24 0)

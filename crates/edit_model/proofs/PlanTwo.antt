@@ -8,10 +8,10 @@ use native.Mathlib.Omega.{arith}
 use borrow.Author.Tests.{eq-eqb, ne-eqb, le-ltb, lt-ltb, eqb-true}
 use lib.Dec.{ltb, eqb}
 use lib.ListN.{length, getD}
+use Rattle.lists.proofs.Tests.{by-test}
 use Rattle.tree.specs.Forest.{nil, size, labels}
 use Rattle.tree.specs.Book.{Book, height, root-full, inserted, split-of}
 use Rattle.tree.specs.Reach.{size-in}
-use Rattle.tree_laws.proofs.Rows.{by-test}
 use Rattle.tree_laws.proofs.Labels.{rising-from, power-widths}
 use Rattle.tree_laws.proofs.Insertion.{rooted, root-at-limit, split-of-split, split-of-inside}
 use Rattle.tree_laws.proofs.Ancestors.{at-here, at-inside}

@@ -9,11 +9,13 @@ use lib.Dec.{eqb}
 use lib.ListN.{length, getD, replicate, length-append, List·getD-append, List·getD-eq-default}
 use lib.Seq.{getD-append-add}
 use Rattle.store_types.specs.Limits.{no-tag}
+use Rattle.store_types.specs.Layout.{label-at}
+use Rattle.lists.proofs.Tests.{by-test}
+use Rattle.tree.specs.Good.{Good}
 use Rattle.tree.specs.Forest.{Forest, nil, leaf, node, leaves, size, labels, split-height}
 use Rattle.tree.specs.Book.{height, labels-of, root-full, split-of}
 use Rattle.tree.specs.Reach.{left-in, size-in}
-use Rattle.tree_laws.proofs.Good.{Good}
-use Rattle.tree_laws.proofs.Rows.{by-test, member-getD}
+use Rattle.tree_laws.proofs.Rows.{member-getD}
 use Rattle.tree_laws.proofs.Spread.{some-power}
 use Rattle.tree_laws.proofs.Labels.{length-labels, rising-from, rising-below, power-widths}
 use Rattle.tree_laws.proofs.Insertion.{rooted, root-at-limit, split-of-split, split-of-inside}
@@ -22,7 +24,7 @@ use Rattle.tree_laws.proofs.Flat.{Piece, Flat, split-at-most}
 use Rattle.tree_laws.proofs.Root.{whole, labels-whole, split-flat}
 use Rattle.tree_laws.proofs.Border.{Cut, cut-flat}
 use Rattle.calls.specs.Store.{Store, count, row, width}
-use Rattle.calls.specs.Words.{Says, field}
+use Rattle.calls.specs.Words.{Says}
 use Rattle.calls_laws.proofs.Tests.{Sound, sane, facts-of}
 use Rattle.calls_laws.proofs.Sections.{row-below}
 use Rattle.calls_laws.proofs.WordSteps.{header-said}
@@ -38,7 +40,7 @@ use Rattle.edit_model.specs.Image.{image-words, image-of}
 use Rattle.edit_model.specs.Split.{highest-full, left-of}
 use Rattle.edit_model.specs.Insert.{Plan, behind, place-label, numbers-at, plain-plan, root-plan, split-plan, plan, widths-of, highs-of, plan-of}
 use Rattle.edit_model.proofs.Image.{store-image, proper-image}
-use Rattle.edit_model.proofs.Along.{label-at}
+use Rattle.edit_model.proofs.Along.{label-of-place}
 use Rattle.edit_model.proofs.Splits.{Highest, Fills, highest-one, split-highest, full-found}
 use Rattle.edit_model.proofs.Added.{behind-place}
 use Rattle.edit_model.proofs.Borders.{left-ancestor}
@@ -130,9 +132,9 @@ module _ (ws : List ℕ) (st : Store) (says : Says ws st) where
   behind-said p fits =
       rw (image-said .1) (behind-place (proper-image sound-said) (sound-said .few) (image-said .0) p (omega (arith, sound-said .as-many)))
 
-  pub label-said : (i : ℕ) → i < count st → field ws (getD (row st) i no-tag) 0 ≡ getD (labels-of (width st) (st .book)) i 0
+  pub label-said : (i : ℕ) → i < count st → label-at ws (getD (row st) i no-tag) ≡ getD (labels-of (width st) (st .book)) i 0
   unfolding image-of
-  label-said i l = rw (image-said .1) (label-at (proper-image sound-said) (image-said .0) i no-tag (omega (arith, sound-said .as-many)))
+  label-said i l = rw (image-said .1) (label-of-place (proper-image sound-said) (image-said .0) i no-tag (omega (arith, sound-said .as-many)))
 
   first-said : getD (labels-of (width st) (st .book)) 0 0 ≡ 0
   first-said =
@@ -165,7 +167,7 @@ module _ (ws : List ℕ) (st : Store) (says : Says ws st) where
 
   -- the label right behind it
   pub next-number : (p n : ℕ) → p ≤ count st → (p ≡ 0 → n ≡ 0) → ((q : ℕ) → p ≡ suc q → n ≡ getD (labels-of (width st) (st .book)) q 0 + width st 0) →
-      cond (eqb (place-tag st p) no-tag) 0 (field ws (place-tag st p) 0 + entry (widths-of ws) 0) ≡ n
+      cond (eqb (place-tag st p) no-tag) 0 (label-at ws (place-tag st p) + entry (widths-of ws) 0) ≡ n
   next-number zero n fits front next = sym (front refl)
   next-number (suc q) n fits front next = rw (is-tag q fits, label-said q fits, widths-right 0 (omega arith)) (sym (next q refl))
 

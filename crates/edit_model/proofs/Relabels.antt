@@ -10,14 +10,13 @@ use lib.Dec.{leb, ltb, eqb}
 use lib.ListN.{length, getD, take, drop, set, length-set, length-drop, length-map, List·getD-eq-default}
 use lib.Seq.{length-take-le, drop-cons, getD-set-other, drop-set-lt, sets, length-sets, sets-eq}
 use Rattle.store_types.specs.Limits.{no-tag, word-limit, most-tags}
+use Rattle.lists.proofs.Tests.{by-test}
+use Rattle.store_types.specs.Layout.{at-next, field, label-at, with-label}
 use Rattle.tree.specs.Forest.{Forest, nil, leaf, node, labels}
-use Rattle.tree_laws.proofs.Rows.{by-test}
-use Rattle.calls.specs.Words.{field}
-use Rattle.words.specs.Fields.{with-field}
 use Rattle.edit_model.specs.Image.{Image, image-words, with-labels}
 use Rattle.edit_model.specs.Relabel.{relabel, cut, shift}
 use Rattle.edit_model.proofs.Image.{Proper, proper-with-labels, tag-below, label-written}
-use Rattle.edit_model.proofs.Along.{label-at, next-at}
+use Rattle.edit_model.proofs.Along.{label-of-place, next-at}
 use Rattle.edit_model.proofs.Differ.{differ}
 
 -- ONE ROW AFTER ANOTHER
@@ -27,7 +26,7 @@ unfolding relabel
 relabel-append-words [] ys [] ms ws e = refl
 relabel-append-words [] ys (l ∷ ls) ms ws e = absurd (omega arith)
 relabel-append-words (x ∷ xs) ys [] ms ws e = absurd (omega arith)
-relabel-append-words (x ∷ xs) ys (l ∷ ls) ms ws e = relabel-append-words xs ys ls ms (with-field ws x 0 l) (omega arith)
+relabel-append-words (x ∷ xs) ys (l ∷ ls) ms ws e = relabel-append-words xs ys ls ms (with-label ws x l) (omega arith)
 
 pub relabel-append-moved : (xs ys ls ms ws : List ℕ) → length xs ≡ length ls →
     relabel (xs ++ ys) (ls ++ ms) ws .moved ≡ relabel xs ls ws .moved + relabel ys ms (relabel xs ls ws .words) .moved
@@ -36,12 +35,12 @@ relabel-append-moved [] ys [] ms ws e = omega arith
 relabel-append-moved [] ys (l ∷ ls) ms ws e = absurd (omega arith)
 relabel-append-moved (x ∷ xs) ys [] ms ws e = absurd (omega arith)
 relabel-append-moved (x ∷ xs) ys (l ∷ ls) ms ws e =
-    omega (arith, relabel-append-moved xs ys ls ms (with-field ws x 0 l) (omega arith))
+    omega (arith, relabel-append-moved xs ys ls ms (with-label ws x l) (omega arith))
 
 -- ALONG A ROW: from place i on as many tags as there are new labels
 next-label : (x l : ℕ) (xs ls ws : List ℕ) →
     relabel (x ∷ xs) (l ∷ ls) ws
-    ≡ record { words = relabel xs ls (with-field ws x 0 l) .words; moved = cond (eqb (field ws x 0) l) 0 1 + relabel xs ls (with-field ws x 0 l) .moved }
+    ≡ record { words = relabel xs ls (with-label ws x l) .words; moved = cond (eqb (label-at ws x) l) 0 1 + relabel xs ls (with-label ws x l) .moved }
 unfolding relabel
 next-label x l xs ls ws = refl
 
@@ -56,7 +55,7 @@ relabel-sets {v} h rest (l ∷ ls) i fits =
       drop-cons (v .tags) i no-tag inside,
       drop-cons (v .labels) i 0 (omega (arith, h .labelled)),
       next-label,
-      label-at h rest i no-tag inside,
+      label-of-place h rest i no-tag inside,
       label-written h i no-tag l inside rest,
       relabel-sets (proper-with-labels h (set (v .labels) i l) (length-set (v .labels) i l)) rest ls (suc i) (omega arith),
       drop-set-lt (suc i) (v .labels) i l (omega arith),
@@ -128,15 +127,15 @@ stretch-next ls i m b d l inside e =
     }
 
 -- the clauses of shift
-shift-stays : (k n x b d : ℕ) (ws : List ℕ) → (leb n x || leb b (field ws x 0)) ≡ true → shift (suc k) n ws x b d ≡ record { words = ws; moved = 0 }
+shift-stays : (k n x b d : ℕ) (ws : List ℕ) → (leb n x || leb b (label-at ws x)) ≡ true → shift (suc k) n ws x b d ≡ record { words = ws; moved = 0 }
 unfolding shift
 shift-stays k n x b d ws e = rw e
 
-shift-goes : (k n x b d : ℕ) (ws : List ℕ) → (leb n x || leb b (field ws x 0)) ≡ false →
+shift-goes : (k n x b d : ℕ) (ws : List ℕ) → (leb n x || leb b (label-at ws x)) ≡ false →
     shift (suc k) n ws x b d
     ≡ record {
-      words = shift k n (with-field ws x 0 (cut (field ws x 0 + d))) (field ws x 1) b d .words;
-      moved = suc (shift k n (with-field ws x 0 (cut (field ws x 0 + d))) (field ws x 1) b d .moved);
+      words = shift k n (with-label ws x (cut (label-at ws x + d))) (field ws x at-next) b d .words;
+      moved = suc (shift k n (with-label ws x (cut (label-at ws x + d))) (field ws x at-next) b d .moved);
     }
 unfolding shift
 shift-goes k n x b d ws e = rw e
@@ -144,21 +143,21 @@ shift-goes k n x b d ws e = rw e
 -- the test at the end of a stretch and inside it
 module _ {v : Image} (h : Proper v) (rest : List ℕ) (i m b d : ℕ) (e : Stretch (v .labels) i m b d) where
   ends : length (v .facts) ≤ most-tags →
-      (leb (length (v .facts)) (getD (v .tags) m no-tag) || leb b (field (image-words v ++ rest) (getD (v .tags) m no-tag) 0)) ≡ true
+      (leb (length (v .facts)) (getD (v .tags) m no-tag) || leb b (label-at (image-words v ++ rest) (getD (v .tags) m no-tag))) ≡ true
   ends few =
       by-test (ltb m (length (v .tags)))
       (λ t. let inside = ltb-true m (length (v .tags)) t in
-      rw (label-at h rest m no-tag inside, le-leb b (getD (v .labels) m 0) (e .stop (omega (arith, h .labelled)))) (or-true (leb (length (v .facts)) (getD (v .tags) m no-tag))))
+      rw (label-of-place h rest m no-tag inside, le-leb b (getD (v .labels) m 0) (e .stop (omega (arith, h .labelled)))) (or-true (leb (length (v .facts)) (getD (v .tags) m no-tag))))
       (λ t. let outside = ltb-false m (length (v .tags)) t in
       rw (List·getD-eq-default (v .tags) no-tag outside, le-leb (length (v .facts)) no-tag (omega arith)))
 
   goes-on : i < m →
-      (leb (length (v .facts)) (getD (v .tags) i no-tag) || leb b (field (image-words v ++ rest) (getD (v .tags) i no-tag) 0)) ≡ false
+      (leb (length (v .facts)) (getD (v .tags) i no-tag) || leb b (label-at (image-words v ++ rest) (getD (v .tags) i no-tag))) ≡ false
   goes-on first =
       let inside : i < length (v .tags) = omega (arith, e .last, h .labelled) in
       rw (
         lt-leb (length (v .facts)) (getD (v .tags) i no-tag) (tag-below h i no-tag inside),
-        label-at h rest i no-tag inside,
+        label-of-place h rest i no-tag inside,
         lt-leb b (getD (v .labels) i 0) (e .low i (omega arith) first),
       )
 
@@ -180,7 +179,7 @@ shift-sets (suc k) (suc c) {v} h rest i m b d few e sum enough =
     rw (
       shift-goes k (length (v .facts)) x b d (image-words v ++ rest) (goes-on h rest i m b d e first),
       drop-cons (v .labels) i 0 (omega (arith, h .labelled)),
-      label-at h rest i no-tag inside,
+      label-of-place h rest i no-tag inside,
       next-at h rest i no-tag inside,
       cut-below (l + d) (e .fit i (omega arith) first),
       label-written h i no-tag (l + d) inside rest,

@@ -9,19 +9,20 @@ use borrow.Author.Tests.{eq-eqb, ne-eqb}
 use lib.Dec.{eqb}
 use lib.ListN.{length, getD, take, drop, length-append, length-map}
 use lib.Seq.{drop-cons, drop-append-add}
-use Rattle.store_types.specs.Limits.{no-tag, tag-words, label-limit, most-tags}
+use Rattle.store_types.specs.Limits.{no-tag, label-limit, most-tags}
+use Rattle.store_types.specs.Layout.{header-words, tag-words, words-for}
+use Rattle.lists.proofs.Tests.{by-test}
 use Rattle.tree.specs.Row.{insert-at}
 use Rattle.tree.specs.Forest.{Forest, leaves, size, labels, leaf-row, spread}
 use Rattle.tree.specs.Book.{Book, height, labels-of, root-full, inserted, split-of, moved}
 use Rattle.tree.specs.Promise.{Widths}
-use Rattle.tree_laws.proofs.Rows.{by-test, length-insert, insert-left, insert-right, getD-before}
+use Rattle.tree_laws.proofs.Rows.{length-insert, insert-left, insert-right, getD-before}
 use Rattle.tree_laws.proofs.Insertion.{split-length, rooted, split-of-split, split-of-inside, inserted-under, tags-inserted, size-inserted, sane-inserted, inserted-s, inserted-r}
 use Rattle.tree_laws.proofs.Labels.{length-labels, width-least, power-widths}
 use Rattle.tree_laws.proofs.Flat.{Piece, Flat, split-at-most}
 use Rattle.tree_laws.proofs.Root.{labels-whole, split-flat, labels-put-whole, flat-whole}
 use Rattle.calls.specs.Kind.{kind-word}
 use Rattle.calls.specs.Store.{Store, Fact, count, row, width}
-use Rattle.calls.specs.Load.{words-for}
 use Rattle.calls.specs.Words.{words-of, Says}
 use Rattle.calls_laws.proofs.Tests.{Sound, sane}
 use Rattle.calls_laws.proofs.Sections.{distinct-row}
@@ -110,7 +111,7 @@ abbrev pub put-one : (ws : List ℕ) → Store → (p : ℕ) → Fact → Edited
 put-one ws st p t = put-words (added-at ws st p t) (widths-of ws) (st .book .r) (suc (count st)) 1 (plan-at ws st p)
 
 module _ (ws : List ℕ) (st : Store) (says : Says ws st) (p : ℕ) (fits : p ≤ count st) (t : Fact) (few : suc (count st) ≤ most-tags)
-    (room : words-for (suc (count st)) ≤ length ws) (labels-fit : width st (height (book-with p st)) ≤ label-limit) where
+    (room : words-for header-words (suc (count st)) ≤ length ws) (labels-fit : width st (height (book-with p st)) ≤ label-limit) where
   own : Sound st
   own = sound-said ws st says
 
@@ -130,14 +131,14 @@ module _ (ws : List ℕ) (st : Store) (says : Says ws st) (p : ℕ) (fits : p �
   single-split = right-plan .height-is ∙ sym (split-flat in-book d)
 
   -- the new tag, not numbered yet
-  added-said : added-at ws st p t ≡ image-words (image-with p t st) ++ drop (words-for (suc (count st))) ws
+  added-said : added-at ws st p t ≡ image-words (image-with p t st) ++ drop (words-for header-words (suc (count st))) ws
   unfolding image-of words-for
   added-said =
       let v = image-of st in
       let rest = image-said ws st says .0 in
       let is = image-said ws st says .1 in
       let many = ap length is ∙ length-append (image-words v) rest in
-      let at : words-for (suc (count st)) ≡ length (image-words v) + tag-words = omega (arith, length-image v) in
+      let at : words-for header-words (suc (count st)) ≡ length (image-words v) + tag-words = omega (arith, length-image v) in
       rw is
       (added-image (proper-image own) (own .few) p (omega (arith, own .as-many)) t rest (omega (arith, length-image v))
       ∙ rw (at, drop-append-add (image-words v) rest tag-words))
@@ -200,7 +201,7 @@ module _ (ws : List ℕ) (st : Store) (says : Says ws st) (p : ℕ) (fits : p �
   -- the row that is numbered
   pub single-row : Row-in (added-at ws st p t) (suc (count st)) (plan-at ws st p)
   single-row =
-      let g : Words-in (added-at ws st p t) (suc (count st)) = record { image = image-with p t st; rest = drop (words-for (suc (count st))) ws; words-are = added-said; proper = proper-added; counted = counted-tags } in
+      let g : Words-in (added-at ws st p t) (suc (count st)) = record { image = image-with p t st; rest = drop (words-for header-words (suc (count st))) ws; words-are = added-said; proper = proper-added; counted = counted-tags } in
       row-in (plan-at ws st p) g (widths-of ws) (width st) (st .book .r) (d .before) old-with-new (d .new) (d .beside) (d .after) (d .shift) right
 
   -- the words and how many labels are others, with anything behind
@@ -267,9 +268,9 @@ module _ (ws : List ℕ) (st : Store) (says : Says ws st) (p : ℕ) (fits : p �
       ∙ ap (λ (us : List ℕ). us ++ rest) (image-is _ (grown p t st) alike-after)
 
   -- ONE TAG: the words
-  pub single-words : put-one ws st p t .words ≡ words-of (grown p t st) ++ drop (words-for (suc (count st))) ws
+  pub single-words : put-one ws st p t .words ≡ words-of (grown p t st) ++ drop (words-for header-words (suc (count st))) ws
   unfolding put-words
-  single-words = rw (added-said, numbered-words (drop (words-for (suc (count st))) ws)) (raised-said (drop (words-for (suc (count st))) ws))
+  single-words = rw (added-said, numbered-words (drop (words-for header-words (suc (count st))) ws)) (raised-said (drop (words-for header-words (suc (count st))) ws))
 
   -- how many tags moved: the new one counts as moved where it is numbered
   new-differs : differ (no-tag ∷ []) (take 1 (drop p (labels-with p st))) ≡ 1
@@ -287,4 +288,4 @@ module _ (ws : List ℕ) (st : Store) (says : Says ws st) (p : ℕ) (fits : p �
 
   pub single-moved : put-one ws st p t .moved ≡ moved (width st) (st .book) (book-with p st)
   unfolding put-words
-  single-moved = rw (added-said, numbered-moved (drop (words-for (suc (count st))) ws)) (omega (arith, moved-said))
+  single-moved = rw (added-said, numbered-moved (drop (words-for header-words (suc (count st))) ws)) (omega (arith, moved-said))

@@ -8,13 +8,13 @@ use native.Mathlib.Omega.{arith}
 use borrow.Author.Tests.{ltb-true, ltb-false, eqb-true, eqb-false}
 use lib.Dec.{ltb, eqb}
 use lib.ListN.{length}
+use Rattle.lists.proofs.Tests.{by-test}
+use Rattle.tree.specs.Good.{Good}
 use Rattle.tree.specs.Row.{insert-at}
 use Rattle.tree.specs.Forest.{Forest, nil, leaf, node, leaves, size, spread, put, split-height}
 use Rattle.tree.specs.Book.{Book, height, inserted, split-of, root-full, put-inside}
 use Rattle.tree.specs.Reach.{size-in}
 use Rattle.tree.specs.Promise.{Sane}
-use Rattle.tree_laws.proofs.Good.{Good}
-use Rattle.tree_laws.proofs.Rows.{by-test}
 use Rattle.tree_laws.proofs.Spread.{leaves-spread, complete-spread, some-power, far-from-limit}
 use Rattle.tree_laws.proofs.Insertion.{Turn, right, split, below, turn, put-right, put-split, put-below, height-right, height-split, height-below, size-node, split-length, size-put, inserted-inside, split-of-inside, rooted}
 use Rattle.tree_laws.proofs.Ancestors.{at-right, at-here, at-inside}

@@ -7,12 +7,14 @@ use native.Mathlib.Omega.{arith}
 use borrow.Author.Tests.{ne-eqb}
 use lib.ListN.{length, getD, drop, length-drop}
 use lib.Seq.{drop-drop}
-use Rattle.store_types.specs.Limits.{no-tag, tag-words, label-limit, most-tags}
+use Rattle.store_types.specs.Limits.{no-tag, label-limit, most-tags}
+use Rattle.store_types.specs.Layout.{tag-words}
+use Rattle.lists.proofs.Tests.{fails}
 use Rattle.tree.specs.Row.{member, insert-at}
 use Rattle.tree.specs.Forest.{size}
 use Rattle.tree.specs.Book.{Book, height, tags, labels-of, inserted}
 use Rattle.tree.specs.Promise.{Sane}
-use Rattle.tree_laws.proofs.Rows.{Distinct, Apart, fails, member-nil, member-other, member-cases, member-insert, length-insert, insert-two, getD-before}
+use Rattle.tree_laws.proofs.Rows.{Distinct, Apart, member-nil, member-other, member-cases, member-insert, length-insert, insert-two, getD-before}
 use Rattle.tree_laws.proofs.Insertion.{tags-inserted, size-inserted, sane-inserted, inserted-s, inserted-r}
 use Rattle.calls.specs.Kind.{kind-word}
 use Rattle.calls.specs.Store.{Store, Fact, count, row, width}

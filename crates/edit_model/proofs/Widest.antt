@@ -8,10 +8,9 @@ use borrow.Author.Tests.{eqb-true, eqb-false, not-true}
 use lib.Dec.{eqb}
 use lib.ListN.{length, getD}
 use Rattle.store_types.specs.Limits.{no-tag, label-limit}
+use Rattle.lists.proofs.Tests.{and-left, and-right, by-test}
 use Rattle.tree.specs.Book.{Book, height, labels-of, base, power-width}
 use Rattle.tree.specs.Promise.{Widths, Sane, Labels-rise}
-use Rattle.tree_laws.proofs.Good.{and-left, and-right}
-use Rattle.tree_laws.proofs.Rows.{by-test}
 use Rattle.tree_laws.proofs.Labels.{rising-of, rising-below, labels-rise, power-widths}
 use Rattle.calls_laws.proofs.Tests.{Degrees}
 use Rattle.walk_model.proofs.Shapes.{low-enough}

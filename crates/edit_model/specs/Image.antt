@@ -1,10 +1,11 @@
 -- Words while a store is being changed: like words-of (crate calls), with any labels along the row. The words of a store are
 -- the image of its row, labels and facts. Assumes nothing: these are definitions.
-use mathlib.Core.List.{List, [], _∷_, _++_}
+use mathlib.Core.List.{List, [], _∷_, _++_, flatMap}
 use Prim.Native.Nat.{ℕ}
 use lib.ListN.{length, getD}
 use Rattle.store_types.specs.Limits.{no-tag}
-use Rattle.tree.specs.Row.{numbers, place}
+use Rattle.lists.specs.Lists.{numbers}
+use Rattle.tree.specs.Row.{place}
 use Rattle.tree.specs.Book.{height, labels-of}
 use Rattle.calls.specs.Kind.{kind-word}
 use Rattle.calls.specs.Store.{Store, Fact, fact-in, row, width, next-in, prior-in}
@@ -29,12 +30,8 @@ image-record v x =
     let t = fact-in (v .facts) x in
     getD (v .labels) (place x (v .tags)) 0 ∷ next-in (v .tags) x ∷ prior-in (v .tags) x ∷ t .mate ∷ t .up ∷ kind-word (t .kind) (t .marked) ∷ []
 
-unfoldable pub image-records : Image → (tags : List ℕ) → List ℕ
-image-records v [] = []
-image-records v (x ∷ xs) = image-record v x ++ image-records v xs
-
 unfoldable pub image-words : Image → List ℕ
-image-words v = image-header v ++ image-records v (numbers 0 (length (v .facts)))
+image-words v = image-header v ++ flatMap (image-record v) (numbers 0 (length (v .facts)))
 
 unfoldable pub image-of : Store → Image
 image-of st =

@@ -5,9 +5,9 @@ use Prim.Native.Nat.{ℕ, suc, pred, _+_, _*_, _-_}
 use lib.Dec.{ltb, eqb}
 use lib.ListN.{replicate, set}
 use Rattle.store_types.specs.Limits.{no-tag}
+use Rattle.store_types.specs.Layout.{at-s, at-r, at-height, at-count, at-first, at-stamp, at-next, at-prior, at-mate, at-up, at-kind, word-at, field, label-at, with-field, with-label}
 use Rattle.tree.specs.Forest.{labels, spread}
-use Rattle.calls.specs.Words.{word-at, field, follow}
-use Rattle.words.specs.Fields.{with-field}
+use Rattle.calls.specs.Words.{follow}
 use Rattle.walk_model.specs.Levels.{entry}
 use Rattle.walk_model.specs.Walk.{table}
 use Rattle.walk_model.specs.Watch.{ancestor-numbers, sizes-at}
@@ -16,24 +16,24 @@ use Rattle.edit_model.specs.Split.{highest-full, left-of}
 
 -- the tag behind a place: the first where the place is the front
 unfoldable pub behind : List ℕ → (place : ℕ) → ℕ
-behind ws y = cond (eqb y no-tag) (word-at ws 5) (field ws y 1)
+behind ws y = cond (eqb y no-tag) (word-at ws at-first) (field ws y at-next)
 
 -- A NEW TAG n with its record, linked behind a place. Its label is none that a tag can have, so that it counts as moved
 -- where it is numbered.
 unfoldable pub with-record : List ℕ → (tag next prior mate up kind : ℕ) → List ℕ
 with-record ws x next prior mate up kind =
-    with-field (with-field (with-field (with-field (with-field (with-field ws x 0 no-tag) x 1 next) x 2 prior) x 3 mate) x 4 up) x 5 kind
+    with-field (with-field (with-field (with-field (with-field (with-label ws x no-tag) x at-next next) x at-prior prior) x at-mate mate) x at-up up) x at-kind kind
 
 unfoldable pub linked-place : List ℕ → (place n : ℕ) → List ℕ
-linked-place ws y n = cond (eqb y no-tag) (set ws 5 n) (with-field ws y 1 n)
+linked-place ws y n = cond (eqb y no-tag) (set ws at-first n) (with-field ws y at-next n)
 
 unfoldable pub linked-next : List ℕ → (next n : ℕ) → List ℕ
-linked-next ws x n = cond (eqb x no-tag) ws (with-field ws x 2 n)
+linked-next ws x n = cond (eqb x no-tag) ws (with-field ws x at-prior n)
 
 unfoldable pub added : List ℕ → (n place mate up kind : ℕ) → List ℕ
 added ws n y mate up kind =
     let next = behind ws y in
-    set (linked-next (linked-place (with-record ws n next y mate up kind) y n) next n) 4 (suc n)
+    set (linked-next (linked-place (with-record ws n next y mate up kind) y n) next n) at-count (suc n)
 
 -- A RENUMBERING: from the tag behind `left` on, `count` tags as trees of a height from a number on; then the labels below
 -- a bound are shifted
@@ -55,7 +55,7 @@ applied ws w r n p =
 
 -- the label of a place; the front's is 0, that of the first leaf
 unfoldable pub place-label : List ℕ → (place : ℕ) → ℕ
-place-label ws y = cond (eqb y no-tag) 0 (field ws y 0)
+place-label ws y = cond (eqb y no-tag) 0 (label-at ws y)
 
 unfoldable pub numbers-at : List ℕ → (widths : List ℕ) → (under place : ℕ) → List ℕ
 numbers-at ws w u y = ancestor-numbers w u (place-label ws y) 0 (replicate 24 0)
@@ -67,7 +67,7 @@ plain-plan ws w u y =
     record {
       height = 0;
       left = y;
-      number = cond (eqb y no-tag) 0 (field ws y 0 + entry w 0);
+      number = cond (eqb y no-tag) 0 (label-at ws y + entry w 0);
       count = 1;
       bound = entry ns 1 + entry w 1;
       by = entry w 0;
@@ -98,11 +98,11 @@ plan ws s w hi sz n k u y =
 
 -- the up of new tags: the place if it is a begin, else its up; at the front none
 unfoldable pub up-word : List ℕ → (place : ℕ) → ℕ
-up-word ws y = cond (eqb y no-tag) no-tag (cond (eqb (field ws y 5) 1) y (field ws y 4))
+up-word ws y = cond (eqb y no-tag) no-tag (cond (eqb (field ws y at-kind) 1) y (field ws y at-up))
 
 -- H is one higher where the root was split
 unfoldable pub raised-words : List ℕ → (split : ℕ) → List ℕ
-raised-words ws h = cond (eqb h (word-at ws 3)) (set ws 3 (suc (word-at ws 3))) ws
+raised-words ws h = cond (eqb h (word-at ws at-height)) (set ws at-height (suc (word-at ws at-height))) ws
 
 -- THE CHANGE: the words afterwards, how many tags moved, and the split height
 pub record Edited : Type 0 where
@@ -111,14 +111,14 @@ pub record Edited : Type 0 where
   pub split : ℕ
 
 unfoldable pub widths-of : List ℕ → List ℕ
-widths-of ws = table 1 (word-at ws 1 * word-at ws 2 - 1) (word-at ws 3)
+widths-of ws = table 1 (word-at ws at-s * word-at ws at-r - 1) (word-at ws at-height)
 
 unfoldable pub highs-of : List ℕ → List ℕ
-highs-of ws = table (word-at ws 1) (word-at ws 2) (word-at ws 3)
+highs-of ws = table (word-at ws at-s) (word-at ws at-r) (word-at ws at-height)
 
 unfoldable pub plan-of : List ℕ → (k place : ℕ) → Plan
 plan-of ws k y =
-    plan ws (word-at ws 1) (widths-of ws) (highs-of ws) (sizes-at ws y (replicate 24 0)) (word-at ws 4) k (pred (word-at ws 3)) y
+    plan ws (word-at ws at-s) (widths-of ws) (highs-of ws) (sizes-at ws y (replicate 24 0)) (word-at ws at-count) k (pred (word-at ws at-height)) y
 
 -- one tag goes in behind a place by a plan made before; c of the numbered tags are new
 unfoldable pub put-words : List ℕ → (widths : List ℕ) → (r n c : ℕ) → Plan → Edited
@@ -128,31 +128,31 @@ put-words ws w r n c p =
 
 unfoldable pub text-edit : (place : ℕ) → List ℕ → Edited
 text-edit y ws =
-    let n = word-at ws 4 in
-    put-words (added ws n y n (up-word ws y) 3) (widths-of ws) (word-at ws 2) (suc n) 1 (plan-of ws 1 y)
+    let n = word-at ws at-count in
+    put-words (added ws n y n (up-word ws y) 3) (widths-of ws) (word-at ws at-r) (suc n) 1 (plan-of ws 1 y)
 
 -- both tags at once, where the second splits
 unfoldable pub both-edit : (place : ℕ) → List ℕ → Edited
 both-edit y ws =
-    let n = word-at ws 4 in
+    let n = word-at ws at-count in
     let u = up-word ws y in
-    put-words (added (added ws n y (suc n) u 1) (suc n) n n u 2) (widths-of ws) (word-at ws 2) (suc (suc n)) 2 (plan-of ws 2 y)
+    put-words (added (added ws n y (suc n) u 1) (suc n) n n u 2) (widths-of ws) (word-at ws at-r) (suc (suc n)) 2 (plan-of ws 2 y)
 
 -- else one after the other; the second shifts only what the first has moved
 unfoldable pub begin-edit : (place : ℕ) → List ℕ → Edited
 begin-edit y ws =
-    let n = word-at ws 4 in
-    put-words (added ws n y (suc n) (up-word ws y) 1) (widths-of ws) (word-at ws 2) (suc n) 1 (plan-of ws 1 y)
+    let n = word-at ws at-count in
+    put-words (added ws n y (suc n) (up-word ws y) 1) (widths-of ws) (word-at ws at-r) (suc n) 1 (plan-of ws 1 y)
 
 unfoldable pub end-edit : (widths : List ℕ) → (n up : ℕ) → List ℕ → List ℕ
 end-edit w n u ws =
-    let p = plain-plan ws w (pred (word-at ws 3)) n in
-    applied (added ws (suc n) n n u 2) w (word-at ws 2) (suc (suc n)) p .words
+    let p = plain-plan ws w (pred (word-at ws at-height)) n in
+    applied (added ws (suc n) n n u 2) w (word-at ws at-r) (suc (suc n)) p .words
 
 unfoldable pub in-turn-edit : (place : ℕ) → List ℕ → Edited
 in-turn-edit y ws =
     let q = begin-edit y ws in
-    record { words = end-edit (widths-of ws) (word-at ws 4) (up-word ws y) (q .words); moved = q .moved; split = q .split }
+    record { words = end-edit (widths-of ws) (word-at ws at-count) (up-word ws y) (q .words); moved = q .moved; split = q .split }
 
 unfoldable pub element-edit : (place : ℕ) → List ℕ → Edited
 element-edit y ws =
@@ -162,4 +162,4 @@ element-edit y ws =
 
 -- the words of an accepted insertion: the stamp is raised
 unfoldable pub stamped : List ℕ → List ℕ
-stamped ws = set ws 7 (suc (word-at ws 7))
+stamped ws = set ws at-stamp (suc (word-at ws at-stamp))

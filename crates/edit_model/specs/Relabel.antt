@@ -4,8 +4,7 @@ use mathlib.Core.List.{List, [], _∷_}
 use Prim.Native.Nat.{ℕ, zero, suc, _+_, _%_}
 use lib.Dec.{leb, eqb}
 use Rattle.store_types.specs.Limits.{word-limit}
-use Rattle.calls.specs.Words.{field}
-use Rattle.words.specs.Fields.{with-field}
+use Rattle.store_types.specs.Layout.{at-next, field, label-at, with-label}
 
 -- the words afterwards, and how many tags held another label before
 pub record Relabelled : Type 0 where
@@ -17,13 +16,13 @@ unfoldable pub relabel : (tags labels : List ℕ) → (words : List ℕ) → Rel
 relabel [] ls ws = record { words = ws; moved = 0 }
 relabel (x ∷ xs) [] ws = record { words = ws; moved = 0 }
 relabel (x ∷ xs) (l ∷ ls) ws =
-    let rest = relabel xs ls (with-field ws x 0 l) in
-    record { words = rest .words; moved = cond (eqb (field ws x 0) l) 0 1 + rest .moved }
+    let rest = relabel xs ls (with-label ws x l) in
+    record { words = rest .words; moved = cond (eqb (label-at ws x) l) 0 1 + rest .moved }
 
 -- the tag behind so many along next
 unfoldable pub along : (steps : ℕ) → List ℕ → (tag : ℕ) → ℕ
 along zero ws x = x
-along (suc n) ws x = along n ws (field ws x 1)
+along (suc n) ws x = along n ws (field ws x at-next)
 
 -- a label as a word: what a sum of numbers leaves of 32 bits (in a sound store every label fits, and this changes nothing)
 unfoldable pub cut : ℕ → ℕ
@@ -35,6 +34,6 @@ unfoldable pub shift : (most n : ℕ) → List ℕ → (tag bound by : ℕ) → 
 shift zero n ws x b d = record { words = ws; moved = 0 }
 shift (suc k) n ws x b d =
     let stays : Relabelled = record { words = ws; moved = 0 } in
-    let rest = shift k n (with-field ws x 0 (cut (field ws x 0 + d))) (field ws x 1) b d in
+    let rest = shift k n (with-label ws x (cut (label-at ws x + d))) (field ws x at-next) b d in
     let goes : Relabelled = record { words = rest .words; moved = suc (rest .moved) } in
-    cond (leb n x || leb b (field ws x 0)) stays goes
+    cond (leb n x || leb b (label-at ws x)) stays goes

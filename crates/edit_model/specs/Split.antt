@@ -4,7 +4,7 @@ use mathlib.Core.Bool.{_||_, cond}
 use mathlib.Core.List.{List}
 use Prim.Native.Nat.{ℕ, zero, suc, _+_}
 use lib.Dec.{leb, ltb, eqb}
-use Rattle.calls.specs.Words.{field}
+use Rattle.store_types.specs.Layout.{at-prior, field, label-at}
 use Rattle.walk_model.specs.Levels.{entry}
 
 -- the highest height from h on whose ancestor comes to its limit with k leaves more; `left` heights are left below the
@@ -18,4 +18,4 @@ highest-full hi sz k (suc m) h q = highest-full hi sz k m (suc h) (cond (eqb (en
 unfoldable pub left-of : (most n : ℕ) → List ℕ → (low : ℕ) → (tag : ℕ) → ℕ
 left-of zero n ws low x = x
 left-of (suc k) n ws low x =
-    let further = left-of k n ws low (field ws x 2) in cond (leb n x || ltb (field ws x 0) low) x further
+    let further = left-of k n ws low (field ws x at-prior) in cond (leb n x || ltb (label-at ws x) low) x further

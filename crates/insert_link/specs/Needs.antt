@@ -3,8 +3,8 @@ use mathlib.Core.Path.{_≡_}
 use mathlib.Core.List.{List}
 use Prim.Native.Nat.{ℕ, suc, _<_}
 use Rattle.store_types.specs.Limits.{no-tag}
+use Rattle.store_types.specs.Layout.{Records}
 use Rattle.edit_model.specs.Insert.{behind}
-use Rattle.renumber.specs.Needs.{Records}
 
 -- no tag, or one of n
 abbrev pub Tag-or-none : (n tag : ℕ) → Type 0

@@ -1,9 +1,9 @@
 // A new tag's record, and its place along next.
 ghost use mathlib.Core.Path.{_≡_};
-ghost use Prim.Native.Nat.{suc, _+_, _*_, _≤_, _<_};
+ghost use Prim.Native.Nat.{suc, _+_, _≤_, _<_};
 ghost use lib.ListN.{length};
+ghost use Rattle.store_types.specs.Layout.{at-height, header-words, word-at, Room};
 ghost use Rattle.edit_model.specs.Insert.{behind as tag-behind, with-record, linked-place, linked-next, added, up-word, raised-words};
-ghost use Rattle.calls.specs.Words.{word-at};
 ghost use Rattle.insert_link.specs.Needs.{Place-there, Tag-fits};
 use store_types::Label;
 use store_types::TagId;
@@ -43,7 +43,7 @@ fn write_record(
     up: TagId,
     kind: u32,
 )
-    requires { ⌜ 8 + 6 * suc (x .0) ≤ length (now words) ⌝ }
+    requires { ⌜ Room (now words) (x .0) ⌝ }
     ensures { λ _. ⌜ now (words .exit) ≡ with-record (now (words .entry)) (x .0) (next .0) (prior .0) (mate .0) (up .0) kind ⌝ }
 {
     words::set_label(words, x, Label(4294967295));
@@ -89,7 +89,7 @@ pub fn add_tag(words: &mut [u32], n: u32, place: TagId, mate: TagId, up: TagId, 
 
 // H is one higher where the root was split.
 pub fn raise(words: &mut [u32], split: usize)
-    requires { ⌜ (8 ≤ length (now words)) × (word-at (now words) 3 < 4294967295) ⌝ }
+    requires { ⌜ (header-words ≤ length (now words)) × (word-at (now words) at-height < 4294967295) ⌝ }
     ensures { λ _. ⌜ now (words .exit) ≡ raised-words (now (words .entry)) split ⌝ }
 {
     if split == words[3] as usize {

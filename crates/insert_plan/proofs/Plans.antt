@@ -11,10 +11,10 @@ use borrow.Author.Tests.{eq-eqb, ne-eqb, eqb-true}
 use lib.Dec.{leb, eqb}
 use lib.ListN.{replicate}
 use Rattle.store_types.specs.Limits.{no-tag, label-limit}
-use Rattle.tree_laws.proofs.Rows.{by-test}
+use Rattle.lists.proofs.Tests.{by-test}
+use Rattle.store_types.specs.Layout.{at-next, field, label-at, with-label}
 use Rattle.tree.specs.Forest.{spread}
-use Rattle.calls.specs.Words.{field, follow}
-use Rattle.words.specs.Fields.{with-field}
+use Rattle.calls.specs.Words.{follow}
 use Rattle.walk_model.specs.Levels.{entry}
 use Rattle.edit_model.specs.Relabel.{Relabelled, cut, shift}
 use Rattle.walk_model.specs.Watch.{ancestor-numbers}
@@ -31,7 +31,7 @@ module _ (ws : List ℕ) (y : ℕ) {t : Bool} (e : t ≡ eqb y no-tag) where
   unfolding place-label
   label-front p = rw (← e, p)
 
-  pub label-tag : {l : ℕ} → t ≡ false → l ≡ field ws y 0 → l ≡ place-label ws y
+  pub label-tag : {l : ℕ} → t ≡ false → l ≡ label-at ws y → l ≡ place-label ws y
   unfolding place-label
   label-tag p q = rw (← e, p) q
 
@@ -39,7 +39,7 @@ module _ (ws : List ℕ) (y : ℕ) {t : Bool} (e : t ≡ eqb y no-tag) where
   unfolding next-label
   next-front v p = rw (← e, p)
 
-  pub next-tag : {l : ℕ} (v : ℕ) → t ≡ false → l ≡ field ws y 0 → l + v ≡ next-label ws y v
+  pub next-tag : {l : ℕ} (v : ℕ) → t ≡ false → l ≡ label-at ws y → l + v ≡ next-label ws y v
   unfolding next-label
   next-tag v p q = rw (← e, p, q)
 
@@ -94,7 +94,7 @@ shift-few : (k n : ℕ) (ws : List ℕ) (x b d : ℕ) → shift k n ws x b d .mo
 unfolding shift
 shift-few zero n ws x b d = omega arith
 shift-few (suc k) n ws x b d =
-    by-test (leb n x || leb b (field ws x 0)) (λ e. rw e (omega arith)) (λ e. rw e (omega (arith, shift-few k n (with-field ws x 0 (cut (field ws x 0 + d))) (field ws x 1) b d)))
+    by-test (leb n x || leb b (label-at ws x)) (λ e. rw e (omega arith)) (λ e. rw e (omega (arith, shift-few k n (with-label ws x (cut (label-at ws x + d))) (field ws x at-next) b d)))
 
 -- A PLAN DONE: the row is numbered from x on, and the tags from `next` on are shifted
 module _ (ws w : List ℕ) (r n : ℕ) (p : Plan) {x next m : ℕ} {vs : List ℕ} (start : x ≡ behind ws (p .left))

@@ -4,7 +4,7 @@ use mathlib.Core.List.{List}
 use Prim.Native.Nat.{ℕ, _+_}
 use lib.Dec.{eqb}
 use Rattle.store_types.specs.Limits.{no-tag}
-use Rattle.calls.specs.Words.{field}
+use Rattle.store_types.specs.Layout.{label-at}
 use Rattle.walk_model.specs.Levels.{entry}
 use Rattle.edit_model.specs.Split.{left-of}
 use Rattle.edit_model.specs.Insert.{Plan, numbers-at, plain-plan, split-plan}
@@ -16,7 +16,7 @@ plan-record p = record { height = p .height; left = p .left .0; number = p .numb
 
 -- the number behind a place
 unfoldable pub next-label : List ℕ → (place width : ℕ) → ℕ
-next-label ws y v = cond (eqb y no-tag) 0 (field ws y 0 + v)
+next-label ws y v = cond (eqb y no-tag) 0 (label-at ws y + v)
 
 -- the plan where the root does not come to its limit: the ancestor of height h is split, or none where that is 0
 unfoldable pub inner-plan : List ℕ → (s : ℕ) → (widths highs : List ℕ) → (n under h place : ℕ) → Plan

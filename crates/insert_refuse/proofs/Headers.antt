@@ -6,10 +6,11 @@ use native.Mathlib.Nat.{mul-le-mul, mul-le-mul-right, pow-le-pow-left, pow-le-po
 use native.Mathlib.Omega.{arith}
 use lib.ListN.{length}
 use Rattle.store_types.specs.Limits.{word-limit, label-limit}
+use Rattle.lists.proofs.Tests.{and-left}
+use Rattle.store_types.specs.Layout.{at-s, at-r, at-height, at-count, at-book, header-words, word-at, words-for}
+use Rattle.words.proofs.Fields.{header-fits}
 use Rattle.tree.specs.Book.{base, power-width}
-use Rattle.tree_laws.proofs.Good.{and-left}
-use Rattle.calls.specs.Load.{words-for}
-use Rattle.calls.specs.Words.{Says, word-at}
+use Rattle.calls.specs.Words.{Says}
 use Rattle.calls.specs.Replies.{said}
 use Rattle.calls_laws.proofs.Tests.{Degrees, facts-of}
 use Rattle.calls_laws.proofs.WordSteps.{header-said}
@@ -45,13 +46,13 @@ pub record Ranges (s r h n : ℕ) : Type 0 where
   pub below : n < s * r ^ h
 
 module _ (ws : List ℕ) (h : Says ws (said ws)) where
-  pub header-of : Header ws (word-at ws 1) (word-at ws 2) (pred (word-at ws 3)) (word-at ws 4)
+  pub header-of : Header ws (word-at ws at-s) (word-at ws at-r) (pred (word-at ws at-height)) (word-at ws at-count)
   unfolding Says words-pass Walk-right
   header-of =
-      let fits : word-at ws 6 < word-limit = omega (arith, header-said ws (said ws) h .number, facts-of (said ws) (h .0) .number-fits) in
-      header-facts ws (and-left (header-passes ws) (walk ws (shape-of ws) (word-at ws 4) 0 (start ws)) (walk-right ws fits .1 (said ws, h)))
+      let fits : word-at ws at-book < word-limit = omega (arith, header-said ws (said ws) h .number, facts-of (said ws) (h .0) .number-fits) in
+      header-facts ws (and-left (header-passes ws) (walk ws (shape-of ws) (word-at ws at-count) 0 (start ws)) (walk-right ws fits .1 (said ws, h)))
 
-  pub ranges : Ranges (word-at ws 1) (word-at ws 2) (word-at ws 3) (word-at ws 4)
+  pub ranges : Ranges (word-at ws at-s) (word-at ws at-r) (word-at ws at-height) (word-at ws at-count)
   unfolding power-width base
   ranges =
       let f = header-of in
@@ -60,15 +61,17 @@ module _ (ws : List ℕ) (h : Says ws (said ws)) where
         degrees = f .degrees;
         product = product-range (f .degrees);
         low = omega (arith, f .levels);
-        high = height-range _ (word-at ws 3) (omega (arith, product-range (f .degrees))) fits;
+        high = height-range _ (word-at ws at-height) (omega (arith, product-range (f .degrees))) fits;
         power = fits;
         few = f .few;
         below = rw (f .levels) (f .below);
       }
 
-  pub room : 8 + 6 * word-at ws 4 ≤ length ws
-  unfolding words-for
+  pub room : words-for header-words (word-at ws at-count) ≤ length ws
   room = header-of .room
+
+  pub header-room : header-words ≤ length ws
+  header-room = omega (arith, room, header-fits (word-at ws at-count))
 
 -- TABLES of its powers
 module _ {s r h n : ℕ} (f : Ranges s r h n) where

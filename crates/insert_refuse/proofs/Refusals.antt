@@ -10,13 +10,13 @@ use borrow.Author.Tests.{ne-eqb, lt-ltb, le-ltb, le-leb, lt-leb, leb-true, leb-f
 use lib.Dec.{ltb, leb, eqb}
 use lib.ListN.{length}
 use Rattle.store_types.specs.Limits.{no-tag, most-tags, label-limit}
+use Rattle.lists.proofs.Tests.{by-test}
+use Rattle.store_types.specs.Layout.{at-s, at-r, at-height, at-count, at-kind, word-at, words-for, field}
 use Rattle.tree.specs.Book.{base, power-width}
-use Rattle.tree_laws.proofs.Rows.{by-test}
 use Rattle.calls.specs.Kind.{Kind}
 use Rattle.calls.specs.Store.{Store, fact, count}
-use Rattle.calls.specs.Load.{words-for}
 use Rattle.calls.specs.Insert.{insert-kinds, raised, labels-run-out, row-refusal, insert-refusal}
-use Rattle.calls.specs.Words.{Says, word-at, field}
+use Rattle.calls.specs.Words.{Says}
 use Rattle.calls.specs.Replies.{said, insert-refused, refusal-over}
 use Rattle.calls_laws.proofs.WordSteps.{header-said, refusal-said}
 use Rattle.walk_header.specs.Needs.{power-fits}
@@ -32,22 +32,22 @@ module _ (ws : List ℕ) (y : ℕ) {t : Bool} (e : t ≡ eqb y no-tag) where
   place-front p = rw (← e, p)
 
   module _ (h : Says ws (said ws)) (p : t ≡ false) where
-    pub place-beyond : word-at ws 4 ≤ y → 8 ≡ place-refusal y (said ws)
+    pub place-beyond : word-at ws at-count ≤ y → 8 ≡ place-refusal y (said ws)
     unfolding place-refusal
-    place-beyond l = rw (← e, p, ← header-said ws (said ws) h .issued, le-leb (word-at ws 4) y l)
+    place-beyond l = rw (← e, p, ← header-said ws (said ws) h .issued, le-leb (word-at ws at-count) y l)
 
     -- k is its kind word
-    module _ (l : y < word-at ws 4) {k : ℕ} (q : k ≡ field ws y 5) where
+    module _ (l : y < word-at ws at-count) {k : ℕ} (q : k ≡ field ws y at-kind) where
       tag : Tag-said ws y
       tag = record { says = h; tag = rw (header-said ws (said ws) h .issued) at l }
 
       pub place-marked : 16 ≤ k → 9 ≡ place-refusal y (said ws)
       unfolding place-refusal
-      place-marked m = rw (← e, p, ← header-said ws (said ws) h .issued, lt-leb (word-at ws 4) y l, ← kind-of-tag tag .marks, ← q, le-leb 16 k m)
+      place-marked m = rw (← e, p, ← header-said ws (said ws) h .issued, lt-leb (word-at ws at-count) y l, ← kind-of-tag tag .marks, ← q, le-leb 16 k m)
 
       pub place-fine : k < 16 → 0 ≡ place-refusal y (said ws)
       unfolding place-refusal
-      place-fine m = rw (← e, p, ← header-said ws (said ws) h .issued, lt-leb (word-at ws 4) y l, ← kind-of-tag tag .marks, ← q, lt-leb 16 k m)
+      place-fine m = rw (← e, p, ← header-said ws (said ws) h .issued, lt-leb (word-at ws at-count) y l, ← kind-of-tag tag .marks, ← q, lt-leb 16 k m)
 
 -- LABELS: where n tags are below the root's limit L, those of one or two tags more run out just where n + k comes to L
 -- and the next power of b is too large
@@ -89,30 +89,30 @@ module _ (s r n h : ℕ) (s-least : 2 ≤ s) (r-least : 2 ≤ r) (below : n < s 
 
 -- THE ROOM for k tags more: n are there, and L is the root's limit
 module _ (ws : List ℕ) (h : Says ws (said ws)) (k : ℕ) (l : k ≤ 2) where
-  pub room-many : most-tags < word-at ws 4 + k → 6 ≡ room-refusal (length ws) k (said ws)
+  pub room-many : most-tags < word-at ws at-count + k → 6 ≡ room-refusal (length ws) k (said ws)
   unfolding room-refusal
-  room-many m = rw (← header-said ws (said ws) h .issued, lt-ltb most-tags (word-at ws 4 + k) m)
+  room-many m = rw (← header-said ws (said ws) h .issued, lt-ltb most-tags (word-at ws at-count + k) m)
 
-  module _ (few : word-at ws 4 + k ≤ most-tags) where
-    pub room-short : length ws < 8 + 6 * (word-at ws 4 + k) → 6 ≡ room-refusal (length ws) k (said ws)
+  module _ (few : word-at ws at-count + k ≤ most-tags) where
+    pub room-short : length ws < 8 + 6 * (word-at ws at-count + k) → 6 ≡ room-refusal (length ws) k (said ws)
     unfolding room-refusal words-for
-    room-short m = rw (← header-said ws (said ws) h .issued, le-ltb most-tags (word-at ws 4 + k) few, lt-ltb (length ws) (8 + 6 * (word-at ws 4 + k)) m)
+    room-short m = rw (← header-said ws (said ws) h .issued, le-ltb most-tags (word-at ws at-count + k) few, lt-ltb (length ws) (8 + 6 * (word-at ws at-count + k)) m)
 
-    module _ (long : 8 + 6 * (word-at ws 4 + k) ≤ length ws) where
-      by-labels : (t : Bool) → labels-run-out (word-at ws 1) (word-at ws 2) k (word-at ws 4) (word-at ws 3) ≡ t → cond t 7 0 ≡ room-refusal (length ws) k (said ws)
+    module _ (long : 8 + 6 * (word-at ws at-count + k) ≤ length ws) where
+      by-labels : (t : Bool) → labels-run-out (word-at ws at-s) (word-at ws at-r) k (word-at ws at-count) (word-at ws at-height) ≡ t → cond t 7 0 ≡ room-refusal (length ws) k (said ws)
       unfolding room-refusal words-for
       by-labels t e =
           let f = header-said ws (said ws) h in
-          rw (← f .issued, le-ltb most-tags (word-at ws 4 + k) few, le-ltb (length ws) (8 + 6 * (word-at ws 4 + k)) long, ← f .degree-s, ← f .degree-r, ← f .levels, e)
+          rw (← f .issued, le-ltb most-tags (word-at ws at-count + k) few, le-ltb (length ws) (8 + 6 * (word-at ws at-count + k)) long, ← f .degree-s, ← f .degree-r, ← f .levels, e)
 
-      pub room-below : word-at ws 4 + k < word-at ws 1 * word-at ws 2 ^ word-at ws 3 → 0 ≡ room-refusal (length ws) k (said ws)
+      pub room-below : word-at ws at-count + k < word-at ws at-s * word-at ws at-r ^ word-at ws at-height → 0 ≡ room-refusal (length ws) k (said ws)
       room-below m =
           let f = ranges ws h in
           by-labels false (run-none _ _ _ _ (f .degrees .s-least) (f .degrees .r-least) (f .below) k l m)
 
       -- where n + k comes to the limit, t says whether the next power fits
-      module _ {t : Bool} (e : t ≡ power-fits (word-at ws 1 * word-at ws 2 - 1) (word-at ws 3 + 1)) where
-        power-next : t ≡ leb (power-width (word-at ws 1) (word-at ws 2) (suc (word-at ws 3))) label-limit
+      module _ {t : Bool} (e : t ≡ power-fits (word-at ws at-s * word-at ws at-r - 1) (word-at ws at-height + 1)) where
+        power-next : t ≡ leb (power-width (word-at ws at-s) (word-at ws at-r) (suc (word-at ws at-height))) label-limit
         unfolding power-fits power-width base
         power-next = e ∙ rw add-one
 
@@ -121,7 +121,7 @@ module _ (ws : List ℕ) (h : Says ws (said ws)) (k : ℕ) (l : k ≤ 2) where
             let f = ranges ws h in
             by-labels false (run-fits _ _ _ _ (f .degrees .s-least) (f .degrees .r-least) (f .below) k l (leb-true _ _ (sym power-next ∙ p)))
 
-        pub room-none : t ≡ false → word-at ws 1 * word-at ws 2 ^ word-at ws 3 ≤ word-at ws 4 + k → 7 ≡ room-refusal (length ws) k (said ws)
+        pub room-none : t ≡ false → word-at ws at-s * word-at ws at-r ^ word-at ws at-height ≤ word-at ws at-count + k → 7 ≡ room-refusal (length ws) k (said ws)
         room-none p m =
             let f = ranges ws h in
             by-labels true (run-over _ _ _ _ (f .degrees .s-least) (f .degrees .r-least) (f .below) k l m (leb-false _ _ (sym power-next ∙ p)))

@@ -3,9 +3,9 @@ use mathlib.Core.Bool.{_&&_, _||_, not, cond}
 use Prim.Native.Nat.{ℕ, _+_}
 use lib.Dec.{ltb, leb, eqb}
 use Rattle.store_types.specs.Limits.{no-tag, most-tags}
+use Rattle.store_types.specs.Layout.{header-words, words-for}
 use Rattle.tree.specs.Book.{height}
 use Rattle.calls.specs.Store.{Store, fact, count}
-use Rattle.calls.specs.Load.{words-for}
 use Rattle.calls.specs.Insert.{labels-run-out}
 
 -- THE REFUSALS of a row of k tags in two parts: 8 and 9 of its place, 6 and 7 of its room; 0 where there is none
@@ -16,7 +16,7 @@ place-refusal y st =
 unfoldable pub room-refusal : (w k : ℕ) → Store → ℕ
 room-refusal w k st =
     let n = count st in
-    cond (ltb most-tags (n + k) || ltb w (words-for (n + k))) 6
+    cond (ltb most-tags (n + k) || ltb w (words-for header-words (n + k))) 6
     (cond (labels-run-out (st .book .s) (st .book .r) k n (height (st .book))) 7 0)
 
 unfoldable pub tags-refusal : (w k place : ℕ) → Store → ℕ

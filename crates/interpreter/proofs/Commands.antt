@@ -9,14 +9,15 @@ use borrow.Author.Tests.{ltb-false}
 use lib.Dec.{ltb}
 use lib.ListN.{length, take, length-map}
 use lib.Seq.{take-at}
-use Rattle.store_types.specs.Limits.{no-tag, header-words}
+use Rattle.store_types.specs.Limits.{no-tag}
 use Rattle.store_types.specs.declared.ListReply.{ListReply}
 use Rattle.store_types.specs.declared.ListReply.the-variants.{Listed, Refused}
+use Rattle.store_types.specs.Layout.{header-words}
+use Rattle.lists.specs.Lists.{same}
 use Rattle.calls.specs.Store.{Store, label}
 use Rattle.calls.specs.Listing.{list-refusal, listed-tags, listed-labels}
 use Rattle.calls.specs.Words.{read, in-front}
 use Rattle.calls.specs.Replies.{on-store, refusal-over, store-or, said, written, list-outcome, load-words, list-refused, list-reply, list-tags, list-labels}
-use Rattle.tree.specs.Specimens.{same}
 use Rattle.console.specs.Line.{Parsed, unknown, plain, parsed, fields, number-of, place-of, all-letters, letter-kind, load-of, insert-of, mark-of, command-of, line-limit, load-word, list-word, element-word, text-word, mark-word}
 use Rattle.reply_text.specs.Text.{reply-line, tag-lines, end-line}
 use Rattle.console.specs.Post.{Gives}

@@ -7,7 +7,7 @@ use native.Mathlib.Omega.{arith}
 use lib.Dec.{eqb}
 use lib.ListN.{length, take, drop}
 use lib.Seq.{take-all, take-take}
-use Rattle.console.specs.Line.{with-first}
+use Rattle.lists.specs.Lists.{with-first}
 use Rattle.line_reader.specs.Lines.{lines}
 use Rattle.line_reader.specs.Gather.{stretch, has-feed}
 use Rattle.line_reader.specs.Reads.{whole, last-line, in-hand, rest-of, Reads, ends, next, line}

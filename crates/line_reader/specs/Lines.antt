@@ -4,7 +4,7 @@ use mathlib.Core.Bool.{cond}
 use mathlib.Core.List.{List, [], _∷_}
 use Prim.Native.Nat.{ℕ}
 use lib.Dec.{eqb}
-use Rattle.console.specs.Line.{with-first}
+use Rattle.lists.specs.Lists.{with-first}
 
 -- a line ends at a line feed, which the last may lack: behind the last line feed there is a line only where there is a byte
 unfoldable pub lines : (input : List ℕ) → List (List ℕ)

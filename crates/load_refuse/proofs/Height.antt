@@ -6,8 +6,8 @@ use native.Mathlib.Numerals.{add-one}
 use native.Mathlib.Omega.{arith}
 use borrow.Author.Tests.{ltb-true, ltb-false}
 use lib.Dec.{ltb}
+use Rattle.lists.proofs.Tests.{by-test}
 use Rattle.tree.specs.Book.{load-under}
-use Rattle.tree_laws.proofs.Rows.{by-test}
 use Rattle.tree_laws.proofs.Load.{Least, load-least, steps-suffice}
 
 more : (r h m : ℕ) → 2 ≤ r → h ≤ m → r ^ h ≤ r ^ m

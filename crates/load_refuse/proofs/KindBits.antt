@@ -5,8 +5,7 @@ use Prim.Native.Nat.{ℕ, _+_, _-_, _%_, _≤_, _<_}
 use native.Mathlib.Omega.{arith}
 use borrow.Author.Tests.{eq-eqb, eqb-true, leb-true}
 use lib.Dec.{eqb, leb}
-use Rattle.tree_laws.proofs.Rows.{by-test}
-use Rattle.tree_laws.proofs.Good.{and-left, and-right}
+use Rattle.lists.proofs.Tests.{by-test, and-left, and-right}
 use Rattle.calls.specs.Kind.{is-kind}
 use Rattle.kind_pick.specs.Needs.{Kind-word}
 use Rattle.load_refuse.specs.Refusals.{depth-behind}

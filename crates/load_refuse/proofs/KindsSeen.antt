@@ -9,7 +9,7 @@ use borrow.Author.Tests.{eqb-true}
 use lib.Dec.{eqb}
 use lib.ListN.{length, getD, drop, drop-of-length-le}
 use lib.Seq.{drop-cons}
-use Rattle.tree_laws.proofs.Rows.{by-test}
+use Rattle.lists.proofs.Tests.{by-test}
 use Rattle.calls.specs.Kind.{Kind, end, is-kind, kind-of}
 use Rattle.calls.specs.Nesting.{nests}
 use Rattle.calls.specs.Load.{all-kinds}

@@ -5,10 +5,11 @@ use Prim.Native.Nat.{ℕ, _+_, _-_, _≤_}
 use lib.Dec.{ltb, eqb}
 use lib.ListN.{length}
 use Rattle.store_types.specs.Limits.{most-tags}
+use Rattle.store_types.specs.Layout.{header-words, words-for}
 use Rattle.calls.specs.Kind.{kind-of}
 use Rattle.calls.specs.Nesting.{nests}
 use Rattle.calls.specs.Sound.{degrees-fit}
-use Rattle.calls.specs.Load.{words-for, all-kinds}
+use Rattle.calls.specs.Load.{all-kinds}
 
 -- 4 and 5 of the kinds that are left where so many begins are open; 0 where there is neither
 unfoldable pub kinds-refusal : (open-begins : ℕ) → List ℕ → ℕ
@@ -25,7 +26,7 @@ depth-behind d c = cond (eqb c 1) (d + 1) (cond (eqb c 2) (d - 1) d)
 -- 3, 6, 1, 4 and 5 in this order, 0 where there is none
 unfoldable pub refusal-before : (w s r : ℕ) → (kinds : List ℕ) → ℕ
 refusal-before w s r cs =
-    cond (not (degrees-fit s r)) 3 (cond (ltb most-tags (length cs)) 6 (cond (ltb w (words-for (length cs))) 1 (kinds-refusal 0 cs)))
+    cond (not (degrees-fit s r)) 3 (cond (ltb most-tags (length cs)) 6 (cond (ltb w (words-for header-words (length cs))) 1 (kinds-refusal 0 cs)))
 
 -- what the search for the height is asked of
 pub record Height-fits (n r : ℕ) : Type 0 where

@@ -11,11 +11,10 @@ use borrow.Author.Tests.{eqb-true, eqb-false}
 use lib.Dec.{eqb}
 use lib.ListN.{length}
 use Rattle.store_types.specs.Limits.{no-tag, most-tags}
-use Rattle.tree_laws.proofs.Rows.{by-test}
+use Rattle.lists.proofs.Tests.{by-test}
+use Rattle.store_types.specs.Layout.{header-words, at-next, at-prior, at-mate, at-up, at-kind, words-for, field}
 use Rattle.calls.specs.Kind.{Kind, begin, end, text, code, kind-word}
 use Rattle.calls.specs.Store.{Fact, fact-in}
-use Rattle.calls.specs.Load.{words-for}
-use Rattle.calls.specs.Words.{field}
 use Rattle.calls_laws.proofs.Nesting.{Ends, Step, begins, ends, stands}
 use Rattle.load_tags.specs.Tags.{tag-written, open-behind, Placed, Around}
 use Rattle.load_tags.proofs.OneTag.{around-both, One-more, inner-more, end-more, end-mates, end-opens, begin-opens, text-opens}
@@ -38,7 +37,7 @@ pub record Filled (n : ℕ) (fs : List Fact) (before : List ℕ) (x : ℕ) (ws :
   pub around : Around before ws n
   pub below : (y : ℕ) → Open fs u y → y < x
   pub places : (y : ℕ) → y < x → Placed ws n y (fact-in fs y)
-  pub mates : (y : ℕ) → y < x → (field ws y 3 ≡ fact-in fs y .mate) ⊎ Open fs u y
+  pub mates : (y : ℕ) → y < x → (field ws y at-mate ≡ fact-in fs y .mate) ⊎ Open fs u y
 
 -- below x + 1: x itself, or below x
 up-to : {P : ℕ → Type 0} (x : ℕ) → P x → ((y : ℕ) → (y ≡ x → ⊥) → y < x → P y) → (y : ℕ) → y < suc x → P y
@@ -47,7 +46,7 @@ up-to {P} x own before y l =
 
 -- ONE TAG MORE, of kind number c
 module _ (n : ℕ) (fs : List Fact) (before : List ℕ) (few : n ≤ most-tags) (x : ℕ) (ws : List ℕ) (u : ℕ) (f : Filled n fs before x ws u)
-    (own : x < n) (c : ℕ) (long : words-for n ≤ length before) (number : c ≡ code (fact-in fs x .kind)) (unmarked : fact-in fs x .marked ≡ false) where
+    (own : x < n) (c : ℕ) (long : words-for header-words n ≤ length before) (number : c ≡ code (fact-in fs x .kind)) (unmarked : fact-in fs x .marked ≡ false) where
   tag : x ≡ no-tag → ⊥
   tag e = omega arith
 
@@ -55,7 +54,7 @@ module _ (n : ℕ) (fs : List Fact) (before : List ℕ) (few : n ≤ most-tags) 
   unfolding kind-word
   is-word = rw unmarked (number ∙ sym (add-zero (code (fact-in fs x .kind))))
 
-  still-long : words-for n ≤ length ws
+  still-long : words-for header-words n ≤ length ws
   still-long = rw (f .around .size) long
 
   -- all but mates
@@ -66,19 +65,19 @@ module _ (n : ℕ) (fs : List Fact) (before : List ℕ) (few : n ≤ most-tags) 
       (λ y other l.
       let p = f .places y l in
       record {
-        label-word = t .kept y 0 (omega arith) other (λ s i. omega arith) ∙ p .label-word;
-        next-word = t .kept y 1 (omega arith) other (λ s i. omega arith) ∙ p .next-word;
-        prior-word = t .kept y 2 (omega arith) other (λ s i. omega arith) ∙ p .prior-word;
-        up-word = t .kept y 4 (omega arith) other (λ s i. omega arith) ∙ p .up-word;
-        kind-is = t .kept y 5 (omega arith) other (λ s i. omega arith) ∙ p .kind-is;
+        label-word = t .label-kept y other ∙ p .label-word;
+        next-word = t .kept y at-next (omega arith) (omega arith) other (λ s i. omega arith) ∙ p .next-word;
+        prior-word = t .kept y at-prior (omega arith) (omega arith) other (λ s i. omega arith) ∙ p .prior-word;
+        up-word = t .kept y at-up (omega arith) (omega arith) other (λ s i. omega arith) ∙ p .up-word;
+        kind-is = t .kept y at-kind (omega arith) (omega arith) other (λ s i. omega arith) ∙ p .kind-is;
       })
 
   -- a begin or text, under u: the mates that were right are, and those that were open may be so still
   module _ (vs : List ℕ) (t : One-more n x c x u x ws vs) (is-up : u ≡ fact-in fs x .up) where
     inner-mates : {m : ℕ} → ((y : ℕ) → Open fs u y → Open fs m y) → (y : ℕ) → (y ≡ x → ⊥) → y < x →
-        (field vs y 3 ≡ fact-in fs y .mate) ⊎ Open fs m y
+        (field vs y at-mate ≡ fact-in fs y .mate) ⊎ Open fs m y
     inner-mates still y other l =
-        ⊎-elim (λ e. inl (t .kept y 3 (omega arith) other (λ s i. other s) ∙ e)) (λ o. inr (still y o)) (f .mates y l)
+        ⊎-elim (λ e. inl (t .kept y at-mate (omega arith) (omega arith) other (λ s i. other s) ∙ e)) (λ o. inr (still y o)) (f .mates y l)
 
     turned-begin : Filled n fs before (suc x) vs x
     turned-begin =
@@ -103,19 +102,19 @@ module _ (n : ℕ) (fs : List Fact) (before : List ℕ) (few : n ≤ most-tags) 
         }
 
   -- an end of u, whose mate is right now
-  turned-end : (m : ℕ) (vs : List ℕ) → (u ≡ no-tag → ⊥) → One-more n x c u (field ws u 4) u ws vs → field vs u 3 ≡ x → Ends fs u x m →
+  turned-end : (m : ℕ) (vs : List ℕ) → (u ≡ no-tag → ⊥) → One-more n x c u (field ws u at-up) u ws vs → field vs u at-mate ≡ x → Ends fs u x m →
       Filled n fs before (suc x) vs (fact-in fs u .up)
   turned-end m vs shut t back h =
-      let up-is : field ws u 4 ≡ fact-in fs u .up = f .places u (f .below u (here shut refl)) .up-word in
+      let up-is : field ws u at-up ≡ fact-in fs u .up = f .places u (f .below u (here shut refl)) .up-word in
       record {
         around = around-both before ws vs n (f .around) (t .around);
         below = λ y o. omega (arith, f .below y (out shut o));
-        places = places-more u (field ws u 4) u vs t (up-is ∙ sym (h .up));
+        places = places-more u (field ws u at-up) u vs t (up-is ∙ sym (h .up));
         mates = up-to x (inl (t .mate-word ∙ sym (h .mate)))
             (λ y other l. by-test (eqb y u)
             (λ e. inl (rw (eqb-true y u e) (back ∙ sym (h .back))))
             (λ e. let apart = eqb-false y u e in
-            ⊎-elim (λ e. inl (t .kept y 3 (omega arith) other (λ s i. apart s) ∙ e)) (λ o. inr (further-out fs u y apart o)) (f .mates y l)));
+            ⊎-elim (λ e. inl (t .kept y at-mate (omega arith) (omega arith) other (λ s i. apart s) ∙ e)) (λ o. inr (further-out fs u y apart o)) (f .mates y l)));
       }
 
   -- BY THE STEP of the pass along the row

@@ -11,8 +11,9 @@ use borrow.Author.Tests.{leb-true}
 use lib.Dec.{leb}
 use lib.ListN.{length, getD, length-map}
 use Rattle.store_types.specs.Limits.{no-tag}
-use Rattle.tree.specs.Row.{numbers}
-use Rattle.tree_laws.proofs.Good.{and-left, and-right}
+use Rattle.lists.proofs.Tests.{and-left, and-right}
+use Rattle.lists.specs.Lists.{numbers}
+use Rattle.words.proofs.Fields.{records-kept}
 use Rattle.calls.specs.Kind.{Kind, begin, end, text, code, is-kind, kind-of}
 use Rattle.calls.specs.Store.{Fact, fact-in}
 use Rattle.calls.specs.Nesting.{new-facts}
@@ -62,7 +63,7 @@ module _ (cs before : List ℕ) (h : Tags-fit before cs) where
   pub row-starts : Filling cs before 0 before no-tag
   row-starts =
       let fs = facts-new cs in
-      let few : length fs ≤ no-tag = omega (arith, count-new cs, h .few) in
+      let few : length fs ≤ no-tag = omega (arith, count-new cs, h .records .few) in
       let free : fact-in fs no-tag .marked ≡ false = ap (λ (t : Fact). t .marked) (no-tag-fact fs few) in
       record {
         filled = record {
@@ -87,18 +88,17 @@ module _ (cs before : List ℕ) (h : Tags-fit before cs) where
     number : getD cs x 0 ≡ code (fact-in (facts-new cs) x .kind)
     number = rw (fact-is .kind) (sym (code-is (getD cs x 0) (kind-at cs x (h .kinds) own)))
 
-    pub tag-fits : Tag-fits (length ws) (length cs) x (getD cs x 0) u
+    pub tag-fits : Tag-fits ws (length cs) x (getD cs x 0) u
     tag-fits =
         record {
-          few = h .few;
-          long = rw (f .filled .around .size) (h .long);
+          records = records-kept (h .records) (f .filled .around .size);
           below = own;
-          begun = begun (length cs) (facts-new cs) before (h .few) x ws u (f .filled) own (getD cs x 0) (h .long) number (fact-is .unmarked) (step .0) (step .1);
+          begun = begun (length cs) (facts-new cs) before (h .records .few) x ws u (f .filled) own (getD cs x 0) (h .records .long) number (fact-is .unmarked) (step .0) (step .1);
         }
 
     pub row-turns : Filling cs before (x + 1) (tag-written x (length cs) (getD cs x 0) u ws) (open-behind x (length cs) (getD cs x 0) u ws)
     row-turns =
-        let t = turned (length cs) (facts-new cs) before (h .few) x ws u (f .filled) own (getD cs x 0) (h .long) number (fact-is .unmarked) (step .0) (step .1) in
+        let t = turned (length cs) (facts-new cs) before (h .records .few) x ws u (f .filled) own (getD cs x 0) (h .records .long) number (fact-is .unmarked) (step .0) (step .1) in
         rw (t .1) (record { filled = rw add-one (t .0); rest = step .2 })
 
   pub row-ends : (x : ℕ) (ws : List ℕ) (u : ℕ) → Filling cs before x ws u → x ≡ length cs → Tags-written before ws cs

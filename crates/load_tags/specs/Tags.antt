@@ -5,13 +5,12 @@ use mathlib.Core.List.{List, [], map}
 use Prim.Native.Nat.{ℕ, _+_, _-_, _≤_, _<_}
 use lib.Dec.{ltb, eqb}
 use lib.ListN.{length, drop}
-use Rattle.store_types.specs.Limits.{no-tag, header-words, most-tags}
+use Rattle.store_types.specs.Limits.{no-tag}
+use Rattle.store_types.specs.Layout.{header-words, at-next, at-prior, at-mate, at-up, at-kind, word-at, words-for, field, label-at, with-field, with-label, Records}
 use Rattle.calls.specs.Kind.{kind-of, kind-word}
 use Rattle.calls.specs.Store.{Fact, fact-in}
 use Rattle.calls.specs.Nesting.{nests, new-facts}
-use Rattle.calls.specs.Load.{words-for, all-kinds}
-use Rattle.calls.specs.Words.{word-at, field}
-use Rattle.words.specs.Fields.{with-field}
+use Rattle.calls.specs.Load.{all-kinds}
 
 -- the tag behind and the tag before tag x of n, numbered in book order, or no tag
 unfoldable pub next-number : (x n : ℕ) → ℕ
@@ -23,15 +22,15 @@ prior-number x = cond (ltb 0 x) (x - 1) no-tag
 -- label 0, kind, next and prior of tag x
 unfoldable pub place-written : (x n kind : ℕ) → List ℕ → List ℕ
 place-written x n c ws =
-    with-field (with-field (with-field (with-field ws x 0 0) x 5 c) x 1 (next-number x n)) x 2 (prior-number x)
+    with-field (with-field (with-field (with-label ws x 0) x at-kind c) x at-next (next-number x n)) x at-prior (prior-number x)
 
 -- mate and up of a begin or text, where o is the innermost open begin
 unfoldable pub inner-written : (x o : ℕ) → List ℕ → List ℕ
-inner-written x o ws = with-field (with-field ws x 3 x) x 4 o
+inner-written x o ws = with-field (with-field ws x at-mate x) x at-up o
 
 -- mate and up of an end, and its begin's mate
 unfoldable pub end-written : (x o : ℕ) → List ℕ → List ℕ
-end-written x o ws = with-field (with-field (with-field ws x 3 o) o 3 x) x 4 (field ws o 4)
+end-written x o ws = with-field (with-field (with-field ws x at-mate o) o at-mate x) x at-up (field ws o at-up)
 
 -- the whole record, but for its label
 unfoldable pub tag-written : (x n kind o : ℕ) → List ℕ → List ℕ
@@ -39,35 +38,33 @@ tag-written x n c o ws = let placed = place-written x n c ws in cond (eqb c 2) (
 
 -- the innermost open begin behind tag x
 unfoldable pub open-behind : (x n kind o : ℕ) → List ℕ → ℕ
-open-behind x n c o ws = cond (eqb c 2) (field (place-written x n c ws) o 4) (cond (eqb c 1) x o)
+open-behind x n c o ws = cond (eqb c 2) (field (place-written x n c ws) o at-up) (cond (eqb c 1) x o)
 
 -- what a tag is asked of: the records of n tags are there, x is one of them, and an end has a begin
-pub record Tag-fits (length n x kind o : ℕ) : Type 0 where
-  pub few : n ≤ most-tags
-  pub long : words-for n ≤ length
+pub record Tag-fits (ws : List ℕ) (n x kind o : ℕ) : Type 0 where
+  pub records : Records ws n
   pub below : x < n
   pub begun : kind ≡ 2 → o < n
 
 -- THE ROW: what all tags are asked of
 pub record Tags-fit (ws cs : List ℕ) : Type 0 where
-  pub few : length cs ≤ most-tags
-  pub long : words-for (length cs) ≤ length ws
+  pub records : Records ws (length cs)
   pub kinds : all-kinds cs ≡ true
   pub nesting : nests 0 (map kind-of cs) ≡ true
 
 -- of tag x of n, with this fact: all but the mate
 pub record Placed (ws : List ℕ) (n x : ℕ) (t : Fact) : Type 0 where
-  pub label-word : field ws x 0 ≡ 0
-  pub next-word : field ws x 1 ≡ next-number x n
-  pub prior-word : field ws x 2 ≡ prior-number x
-  pub up-word : field ws x 4 ≡ t .up
-  pub kind-is : field ws x 5 ≡ kind-word (t .kind) (t .marked)
+  pub label-word : label-at ws x ≡ 0
+  pub next-word : field ws x at-next ≡ next-number x n
+  pub prior-word : field ws x at-prior ≡ prior-number x
+  pub up-word : field ws x at-up ≡ t .up
+  pub kind-is : field ws x at-kind ≡ kind-word (t .kind) (t .marked)
 
 -- words outside the records of n tags are as before
 pub record Around (before after : List ℕ) (n : ℕ) : Type 0 where
   pub size : length after ≡ length before
   pub header : (i : ℕ) → i < header-words → word-at after i ≡ word-at before i
-  pub rest : drop (words-for n) after ≡ drop (words-for n) before
+  pub rest : drop (words-for header-words n) after ≡ drop (words-for header-words n) before
 
 -- the facts of tags of these kinds
 abbrev pub facts-new : (kinds : List ℕ) → List Fact
@@ -77,4 +74,4 @@ facts-new cs = new-facts no-tag [] 0 (map kind-of cs)
 pub record Tags-written (before after cs : List ℕ) : Type 0 where
   pub around : Around before after (length cs)
   pub places : (x : ℕ) → x < length cs → Placed after (length cs) x (fact-in (facts-new cs) x)
-  pub mates : (x : ℕ) → x < length cs → field after x 3 ≡ fact-in (facts-new cs) x .mate
+  pub mates : (x : ℕ) → x < length cs → field after x at-mate ≡ fact-in (facts-new cs) x .mate

@@ -2,8 +2,7 @@
 ghost use mathlib.Core.Path.{_≡_};
 ghost use Prim.Native.Nat.{_<_, _≤_};
 ghost use lib.ListN.{length};
-ghost use Rattle.calls.specs.Words.{field};
-ghost use Rattle.words.specs.Fields.{Room};
+ghost use Rattle.store_types.specs.Layout.{at-up, field, Room};
 ghost use Rattle.load_tags.specs.Tags.{next-number, prior-number, place-written, inner-written, end-written, tag-written, open-behind, Tag-fits, Tags-fit, Tags-written};
 use store_types::Label;
 use store_types::TagId;
@@ -30,7 +29,7 @@ fn prior_tag(i: u32) -> TagId
 
 // Tag i by its place and kind.
 fn write_place(words: &mut [u32], i: u32, n: u32, kind: u8)
-    requires { ⌜ (i < n) × Room (length (now words)) i 5 ⌝ }
+    requires { ⌜ (i < n) × Room (now words) i ⌝ }
     ensures { λ _. ⌜ now (words .exit) ≡ place-written i n kind (now (words .entry)) ⌝ }
 {
     let x = TagId(i);
@@ -42,7 +41,7 @@ fn write_place(words: &mut [u32], i: u32, n: u32, kind: u8)
 
 // A begin is its own mate until its end is met; a text stays so.
 fn write_inner(words: &mut [u32], x: TagId, parent: TagId)
-    requires { ⌜ Room (length (now words)) (x .0) 5 ⌝ }
+    requires { ⌜ Room (now words) (x .0) ⌝ }
     ensures { λ _. ⌜ now (words .exit) ≡ inner-written (x .0) (parent .0) (now (words .entry)) ⌝ }
 {
     words::set_mate(words, x, x);
@@ -51,9 +50,9 @@ fn write_inner(words: &mut [u32], x: TagId, parent: TagId)
 
 // An end, and its begin's mate. What stood around the begin stands around both.
 fn write_end(words: &mut [u32], x: TagId, parent: TagId) -> TagId
-    requires { ⌜ Room (length (now words)) (x .0) 5 × Room (length (now words)) (parent .0) 5 ⌝ }
+    requires { ⌜ Room (now words) (x .0) × Room (now words) (parent .0) ⌝ }
     ensures words { λ _. ⌜ now (words .exit) ≡ end-written (x .0) (parent .0) (now (words .entry)) ⌝ }
-    ensures up { λ o. ⌜ o .0 ≡ field (now (words .entry)) (parent .0) 4 ⌝ }
+    ensures up { λ o. ⌜ o .0 ≡ field (now (words .entry)) (parent .0) at-up ⌝ }
 {
     let up = words::up_of(words, parent);
     words::set_mate(words, x, parent);
@@ -64,7 +63,7 @@ fn write_end(words: &mut [u32], x: TagId, parent: TagId) -> TagId
 
 // Tag i with its record; the innermost open begin behind it.
 fn write_tag(words: &mut [u32], i: u32, n: u32, kind: u8, parent: TagId) -> TagId
-    requires { ⌜ Tag-fits (length (now words)) n i kind (parent .0) ⌝ }
+    requires { ⌜ Tag-fits (now words) n i kind (parent .0) ⌝ }
     ensures words { λ _. ⌜ now (words .exit) ≡ tag-written i n kind (parent .0) (now (words .entry)) ⌝ }
     ensures open { λ o. ⌜ o .0 ≡ open-behind i n kind (parent .0) (now (words .entry)) ⌝ }
 {

@@ -8,60 +8,53 @@ use native.Mathlib.Omega.{arith}
 use borrow.Author.Tests.{eq-eqb, ne-eqb}
 use lib.Dec.{eqb}
 use lib.ListN.{length, take, drop, take-append-drop}
-use Rattle.store_types.specs.Limits.{word-limit, tag-words}
+use Rattle.store_types.specs.Limits.{word-limit}
+use Rattle.store_types.specs.Layout.{at-next, field, label-at, with-label, Room}
+use Rattle.words.proofs.Fields.{room, records-kept, field-past-label, length-with-label}
 use Rattle.tree.specs.Forest.{labels, leaf-row}
-use Rattle.calls.specs.Words.{field, follow}
-use Rattle.words.specs.Fields.{with-field, Room}
+use Rattle.calls.specs.Words.{follow}
 use Rattle.edit_model.specs.Relabel.{Relabelled, relabel, along, cut}
-use Rattle.edit_model.proofs.Fields.{field-other-word, length-with-field}
 use Rattle.edit_model.proofs.Relabels.{labels-cut}
-use Rattle.renumber.specs.Needs.{Records, Row-there, Row-numbered, leaves-numbered}
-
--- THE RECORDS of n tags have room for each of their words
-pub room : {ws : List ℕ} {n x : ℕ} → Records ws n → x < n → (k : ℕ) → k < tag-words → Room (length ws) x k
-room h below k l = omega (arith, h .long)
-
-pub records-kept : {ws vs : List ℕ} {n : ℕ} → Records ws n → length vs ≡ length ws → Records vs n
-records-kept h e = record { few = h .few; long = rw e (h .long) }
+use Rattle.renumber.specs.Needs.{Row-there, Row-numbered, leaves-numbered}
 
 -- THE ROW is the same by words in which each tag has the same next
 abbrev pub Same-next : (ws vs : List ℕ) → Type 0
-Same-next ws vs = (y : ℕ) → field ws y 1 ≡ field vs y 1
+Same-next ws vs = (y : ℕ) → field ws y at-next ≡ field vs y at-next
 
 pub follow-same : (k : ℕ) (ws vs : List ℕ) (x : ℕ) → Same-next ws vs → follow k ws x ≡ follow k vs x
 unfolding follow
 follow-same zero ws vs x same = refl
-follow-same (suc k) ws vs x same = rw (same x, follow-same k ws vs (field vs x 1) same)
+follow-same (suc k) ws vs x same = rw (same x, follow-same k ws vs (field vs x at-next) same)
 
 pub along-same : (k : ℕ) (ws vs : List ℕ) (x : ℕ) → Same-next ws vs → along k ws x ≡ along k vs x
 unfolding along
 along-same zero ws vs x same = refl
-along-same (suc k) ws vs x same = rw (same x) (along-same k ws vs (field vs x 1) same)
+along-same (suc k) ws vs x same = rw (same x) (along-same k ws vs (field vs x at-next) same)
 
-pub label-keeps-next : (ws : List ℕ) (x l : ℕ) → Same-next (with-field ws x 0 l) ws
-label-keeps-next ws x l y = field-other-word ws x y 0 1 l (omega arith) (omega arith) (λ e. omega arith)
+pub label-keeps-next : (ws : List ℕ) (x l : ℕ) → Same-next (with-label ws x l) ws
+label-keeps-next ws x l y = field-past-label ws x y l at-next (omega arith) (omega arith)
 
 pub relabel-keeps-next : (xs ls ws : List ℕ) → Same-next (relabel xs ls ws .words) ws
 unfolding relabel
 relabel-keeps-next [] ls ws y = refl
 relabel-keeps-next (x ∷ xs) [] ws y = refl
-relabel-keeps-next (x ∷ xs) (l ∷ ls) ws y = relabel-keeps-next xs ls (with-field ws x 0 l) y ∙ label-keeps-next ws x l y
+relabel-keeps-next (x ∷ xs) (l ∷ ls) ws y = relabel-keeps-next xs ls (with-label ws x l) y ∙ label-keeps-next ws x l y
 
 -- SO MANY TAGS of a row, and those behind them
 pub length-follow : (k : ℕ) (ws : List ℕ) (x : ℕ) → length (follow k ws x) ≡ k
 unfolding follow
 length-follow zero ws x = refl
-length-follow (suc k) ws x = ap suc (length-follow k ws (field ws x 1))
+length-follow (suc k) ws x = ap suc (length-follow k ws (field ws x at-next))
 
 pub take-follow : (e d : ℕ) (ws : List ℕ) (x : ℕ) → take e (follow (e + d) ws x) ≡ follow e ws x
 unfolding follow
 take-follow zero d ws x = refl
-take-follow (suc e) d ws x = rw (suc-add, take-follow e d ws (field ws x 1))
+take-follow (suc e) d ws x = rw (suc-add, take-follow e d ws (field ws x at-next))
 
 pub drop-follow : (e d : ℕ) (ws : List ℕ) (x : ℕ) → drop e (follow (e + d) ws x) ≡ follow d ws (along e ws x)
 unfolding follow along
 drop-follow zero d ws x = rw zero-add
-drop-follow (suc e) d ws x = rw suc-add (drop-follow e d ws (field ws x 1))
+drop-follow (suc e) d ws x = rw suc-add (drop-follow e d ws (field ws x at-next))
 
 pub follow-add : (e d : ℕ) (ws : List ℕ) (x : ℕ) → follow (e + d) ws x ≡ follow e ws x ++ follow d ws (along e ws x)
 follow-add e d ws x = sym (take-append-drop e (follow (e + d) ws x)) ∙ rw (take-follow, drop-follow)
@@ -69,7 +62,7 @@ follow-add e d ws x = sym (take-append-drop e (follow (e + d) ws x)) ∙ rw (tak
 pub along-add : (e d : ℕ) (ws : List ℕ) (x : ℕ) → along (e + d) ws x ≡ along d ws (along e ws x)
 unfolding along
 along-add zero d ws x = rw zero-add
-along-add (suc e) d ws x = rw suc-add (along-add e d ws (field ws x 1))
+along-add (suc e) d ws x = rw suc-add (along-add e d ws (field ws x at-next))
 
 -- NEW LABELS: none, and how many may be others
 pub relabel-none : (xs ws : List ℕ) → relabel xs [] ws ≡ record { words = ws; moved = 0 }
@@ -85,7 +78,7 @@ pub moved-most : (xs ls ws : List ℕ) → relabel xs ls ws .moved ≤ length xs
 unfolding relabel
 moved-most [] ls ws = omega arith
 moved-most (x ∷ xs) [] ws = omega arith
-moved-most (x ∷ xs) (l ∷ ls) ws = omega (arith, moved-one (eqb (field ws x 0) l), moved-most xs ls (with-field ws x 0 l))
+moved-most (x ∷ xs) (l ∷ ls) ws = omega (arith, moved-one (eqb (label-at ws x) l), moved-most xs ls (with-label ws x l))
 
 -- one more has moved where the label that was read, o, is not the new one
 pub same-label : {o f l : ℕ} → o ≡ f → o ≡ l → _≡_ {A = ℕ} 0 (cond (eqb f l) 0 1)
@@ -117,9 +110,9 @@ pub record On-way (whole rest : Relabelled) (before ws : List ℕ) (n first coun
   pub long : length ws ≡ length before
 
 -- the tag where it stands has a record
-pub tag-room : {ws : List ℕ} {n x count : ℕ} → Row-there ws n x count → 1 ≤ count → (k : ℕ) → k < tag-words → Room (length ws) x k
+pub tag-room : {ws : List ℕ} {n x count : ℕ} → Row-there ws n x count → 1 ≤ count → Room ws x
 unfolding along
-tag-room h some k l = room (h .records) (h .below 0 some) k l
+tag-room h some = room (h .records) (h .below 0 some)
 
 pub start : (q : Relabelled) (ws : List ℕ) (n x count a : ℕ) → Row-there ws n x count → a < word-limit → On-way q q ws ws n x count x count a 0
 start q ws n x count a row small =
@@ -166,31 +159,31 @@ arrived h none nothing =
 pub leaves-turn : (ws : List ℕ) (v a x k : ℕ) →
     leaves-numbered ws v a x (suc k)
     ≡ record {
-      words = leaves-numbered (with-field ws x 0 (cut a)) v (cut (a + v)) (field ws x 1) k .words;
-      moved = cond (eqb (field ws x 0) (cut a)) 0 1 + leaves-numbered (with-field ws x 0 (cut a)) v (cut (a + v)) (field ws x 1) k .moved;
+      words = leaves-numbered (with-label ws x (cut a)) v (cut (a + v)) (field ws x at-next) k .words;
+      moved = cond (eqb (label-at ws x) (cut a)) 0 1 + leaves-numbered (with-label ws x (cut a)) v (cut (a + v)) (field ws x at-next) k .moved;
     }
 unfolding leaves-numbered follow leaf-row labels relabel
 leaves-turn ws v a x k =
-    rw (follow-same k (with-field ws x 0 (cut a)) ws (field ws x 1) (label-keeps-next ws x (cut a)), labels-cut (leaf-row (follow k ws (field ws x 1))) (λ i. v) 0 (a + v))
+    rw (follow-same k (with-label ws x (cut a)) ws (field ws x at-next) (label-keeps-next ws x (cut a)), labels-cut (leaf-row (follow k ws (field ws x at-next))) (λ i. v) 0 (a + v))
     refl
 
 pub leaf-on : {whole : Relabelled} {before ws : List ℕ} {n first count tag left at done : ℕ} (v : ℕ) →
     On-way whole (leaves-numbered ws v at tag left) before ws n first count tag left at done → 1 ≤ left → (vs : List ℕ) (m next : ℕ) →
-    vs ≡ with-field ws tag 0 (cut at) → m ≡ cond (eqb (field ws tag 0) (cut at)) 0 1 → next ≡ field vs tag 1 →
+    vs ≡ with-label ws tag (cut at) → m ≡ cond (eqb (label-at ws tag) (cut at)) 0 1 → next ≡ field vs tag at-next →
     On-way whole (leaves-numbered vs v (cut (at + v)) next (left - 1)) before vs n first count next (left - 1) (cut (at + v)) (done + m)
 unfolding along
 leaf-on {ws = ws} {tag = tag} {left = left} {at = at} v h some vs m next e f g =
     let same : Same-next vs ws = rw e (label-keeps-next ws tag (cut at)) in
-    let step : next ≡ field ws tag 1 = g ∙ same tag in
+    let step : next ≡ field ws tag at-next = g ∙ same tag in
     let all : suc (left - 1) ≡ left = omega arith in
     let turn = rw all at (leaves-turn ws v at tag (left - 1)) in
     on h (leaves-numbered vs v (cut (at + v)) next (left - 1)) vs 1 m next (cut (at + v))
     some
-    (rw f (moved-one (eqb (field ws tag 0) (cut at))))
+    (rw f (moved-one (eqb (label-at ws tag) (cut at))))
     (cut-small (at + v))
     step
     same
-    (rw e (length-with-field ws tag 0 (cut at)))
+    (rw e (length-with-label ws tag (cut at)))
     (rw (step, e) (rw turn))
     (rw (step, f, e) (rw turn))
 

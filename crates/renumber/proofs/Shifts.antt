@@ -7,12 +7,10 @@ use native.Mathlib.Omega.{arith}
 use borrow.Author.Tests.{le-leb, lt-leb}
 use lib.Dec.{leb}
 use lib.ListN.{length}
-use Rattle.calls.specs.Words.{field}
-use Rattle.words.specs.Fields.{with-field}
+use Rattle.store_types.specs.Layout.{at-next, field, label-at, with-label, Records}
 use Rattle.edit_model.specs.Relabel.{Relabelled, shift, cut}
-use Rattle.edit_model.proofs.Fields.{length-with-field}
-use Rattle.renumber.specs.Needs.{Records}
-use Rattle.renumber.proofs.Rows.{label-keeps-next, records-kept}
+use Rattle.words.proofs.Fields.{records-kept, length-with-label}
+use Rattle.renumber.proofs.Rows.{label-keeps-next}
 
 -- IT ENDS after its last step, at no tag of n, or at a label that is not below the bound
 pub shift-spent : (k n : ℕ) (ws : List ℕ) (x b d : ℕ) → k ≡ 0 → shift k n ws x b d ≡ record { words = ws; moved = 0 }
@@ -24,17 +22,17 @@ unfolding shift
 shift-out zero n ws x b d h = refl
 shift-out (suc k) n ws x b d h = rw (le-leb n x h)
 
-pub shift-far : (k n : ℕ) (ws : List ℕ) (x b d : ℕ) → b ≤ field ws x 0 → shift k n ws x b d ≡ record { words = ws; moved = 0 }
+pub shift-far : (k n : ℕ) (ws : List ℕ) (x b d : ℕ) → b ≤ label-at ws x → shift k n ws x b d ≡ record { words = ws; moved = 0 }
 unfolding shift
 shift-far zero n ws x b d h = refl
-shift-far (suc k) n ws x b d h = rw (le-leb b (field ws x 0) h, or-true (leb n x))
+shift-far (suc k) n ws x b d h = rw (le-leb b (label-at ws x) h, or-true (leb n x))
 
 -- ONE STEP
-shift-step : (k n : ℕ) (ws : List ℕ) (x b d : ℕ) → x < n → field ws x 0 < b →
-    let rest = shift k n (with-field ws x 0 (cut (field ws x 0 + d))) (field ws x 1) b d in
+shift-step : (k n : ℕ) (ws : List ℕ) (x b d : ℕ) → x < n → label-at ws x < b →
+    let rest = shift k n (with-label ws x (cut (label-at ws x + d))) (field ws x at-next) b d in
     shift (suc k) n ws x b d ≡ record { words = rest .words; moved = suc (rest .moved) }
 unfolding shift
-shift-step k n ws x b d below small = rw (lt-leb n x below, lt-leb b (field ws x 0) small)
+shift-step k n ws x b d below small = rw (lt-leb n x below, lt-leb b (label-at ws x) small)
 
 -- A LOOP ON ITS WAY: so many labels are shifted; what it does from here, with those, comes to the whole
 pub record Shifting (whole : Relabelled) (before ws : List ℕ) (n tag bound by done : ℕ) : Type 0 where
@@ -48,13 +46,13 @@ pub shift-start : (ws : List ℕ) (n x b d : ℕ) → Records ws n → Shifting 
 shift-start ws n x b d there = let all : n - 0 ≡ n = omega arith in record { records = there; fits = omega arith; long = refl; words = rw all; moved = rw all (omega arith) }
 
 module _ {whole : Relabelled} {before ws : List ℕ} {n tag bound by done : ℕ} (h : Shifting whole before ws n tag bound by done) where
-  pub shift-on : done < n → tag < n → field ws tag 0 < bound → (vs : List ℕ) (next : ℕ) → vs ≡ with-field ws tag 0 (cut (field ws tag 0 + by)) →
-      next ≡ field vs tag 1 → Shifting whole before vs n next bound by (done + 1)
+  pub shift-on : done < n → tag < n → label-at ws tag < bound → (vs : List ℕ) (next : ℕ) → vs ≡ with-label ws tag (cut (label-at ws tag + by)) →
+      next ≡ field vs tag at-next → Shifting whole before vs n next bound by (done + 1)
   shift-on more below small vs next e f =
-      let step : next ≡ field ws tag 1 = f ∙ rw e (label-keeps-next ws tag (cut (field ws tag 0 + by)) tag) in
+      let step : next ≡ field ws tag at-next = f ∙ rw e (label-keeps-next ws tag (cut (label-at ws tag + by)) tag) in
       let left : n - done ≡ suc (n - (done + 1)) = omega arith in
       let turn = rw (← left) at (shift-step (n - (done + 1)) n ws tag bound by below small) in
-      let long : length vs ≡ length ws = rw e (length-with-field ws tag 0 (cut (field ws tag 0 + by))) in
+      let long : length vs ≡ length ws = rw e (length-with-label ws tag (cut (label-at ws tag + by))) in
       record {
         records = records-kept (h .records) long;
         fits = omega arith;

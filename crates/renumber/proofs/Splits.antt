@@ -7,8 +7,8 @@ use native.Mathlib.Numerals.{add-one}
 use native.Mathlib.Omega.{arith}
 use borrow.Author.Tests.{le-leb, lt-leb, lt-ltb, le-ltb, leb-true, leb-false, not-true, not-false}
 use lib.Dec.{leb, ltb, eqb}
-use Rattle.tree_laws.proofs.Rows.{by-test, or-left-false}
-use Rattle.calls.specs.Words.{field}
+use Rattle.lists.proofs.Tests.{by-test, or-left-false}
+use Rattle.store_types.specs.Layout.{at-prior, field, label-at}
 use Rattle.walk_model.specs.Levels.{entry}
 use Rattle.edit_model.specs.Split.{highest-full, left-of}
 
@@ -37,20 +37,20 @@ module _ {whole n : ℕ} {ws : List ℕ} {low x steps : ℕ} (a : Leftward whole
   unfolding left-of
   left-spent all = let none : n - steps ≡ 0 = omega arith in rw none at (a .comes)
 
-  module _ {t : Bool} (more : steps < n) (test : t ≡ not (leb n x || ltb (field ws x 0) low)) where
+  module _ {t : Bool} (more : steps < n) (test : t ≡ not (leb n x || ltb (label-at ws x) low)) where
     pub left-below : t ≡ true → x < n
-    left-below e = leb-false n x (or-left-false (leb n x) (ltb (field ws x 0) low) (not-true (leb n x || ltb (field ws x 0) low) (sym test ∙ e)))
+    left-below e = leb-false n x (or-left-false (leb n x) (ltb (label-at ws x) low) (not-true (leb n x || ltb (label-at ws x) low) (sym test ∙ e)))
 
-    turn : cond (leb n x || ltb (field ws x 0) low) x (left-of (n - (steps + 1)) n ws low (field ws x 2)) ≡ whole
+    turn : cond (leb n x || ltb (label-at ws x) low) x (left-of (n - (steps + 1)) n ws low (field ws x at-prior)) ≡ whole
     unfolding left-of
     turn = let left : n - steps ≡ suc (n - (steps + 1)) = omega arith in rw left at (a .comes)
 
-    pub left-on : {y : ℕ} → t ≡ true → y ≡ field ws x 2 → Leftward whole n ws low y (steps + 1)
+    pub left-on : {y : ℕ} → t ≡ true → y ≡ field ws x at-prior → Leftward whole n ws low y (steps + 1)
     left-on e f =
-        record { fits = omega arith; comes = rw f (rw (not-true (leb n x || ltb (field ws x 0) low) (sym test ∙ e)) at turn) }
+        record { fits = omega arith; comes = rw f (rw (not-true (leb n x || ltb (label-at ws x) low) (sym test ∙ e)) at turn) }
 
     pub left-stops : t ≡ false → x ≡ whole
-    left-stops e = rw (not-false (leb n x || ltb (field ws x 0) low) (sym test ∙ e)) at turn
+    left-stops e = rw (not-false (leb n x || ltb (label-at ws x) low) (sym test ∙ e)) at turn
 
 -- HEIGHTS one by one: a loop has come to height h and found a height below it; what it does from here comes to the whole
 pub record Climbing (whole : ℕ) (hi sz : List ℕ) (k under h found : ℕ) : Type 0 where

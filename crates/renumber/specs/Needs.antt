@@ -3,7 +3,8 @@ use mathlib.Core.Path.{_≡_}
 use mathlib.Core.List.{List, map}
 use Prim.Native.Nat.{ℕ, _+_, _*_, _^_, _≤_, _<_}
 use lib.ListN.{length}
-use Rattle.store_types.specs.Limits.{most-tags, header-words, tag-words, word-limit}
+use Rattle.store_types.specs.Limits.{most-tags, word-limit}
+use Rattle.store_types.specs.Layout.{Records}
 use Rattle.tree.specs.Forest.{labels, leaf-row, spread}
 use Rattle.calls.specs.Words.{follow}
 use Rattle.walk_model.specs.Levels.{entry}
@@ -12,11 +13,6 @@ use Rattle.edit_model.specs.Relabel.{Relabelled, relabel, along, cut}
 -- no number, width or limit in a table passes this, so that sums of a few fit 64 bits
 abbrev pub table-limit : ℕ
 table-limit = 1099511627776
-
--- the records of n tags are there
-pub record Records (ws : List ℕ) (n : ℕ) : Type 0 where
-  pub few : n ≤ most-tags
-  pub long : header-words + tag-words * n ≤ length ws
 
 -- so many tags along next are tags of n
 pub record Row-there (ws : List ℕ) (n x count : ℕ) : Type 0 where

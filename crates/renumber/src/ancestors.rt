@@ -3,15 +3,14 @@ ghost use mathlib.Core.Path.{_≡_};
 ghost use mathlib.Core.Bool.{cond, not, _||_};
 ghost use Prim.Native.Nat.{_+_, _≤_};
 ghost use lib.Dec.{leb, ltb, eqb};
-ghost use Rattle.calls.specs.Words.{field};
+ghost use Rattle.store_types.specs.Layout.{label-at, Records};
 ghost use Rattle.edit_model.specs.Split.{highest-full, left-of};
-ghost use Rattle.renumber.specs.Needs.{Records};
 use store_types::TagId;
 
 // Whether x is a tag of n with a label of at least low.
 fn at_least(words: &[u32], n: u32, x: TagId, low: u64) -> bool
     requires { ⌜ Records (now words) n ⌝ }
-    ensures { λ t. ⌜ t ≡ not (leb n (x .0) || ltb (field (now (words .entry)) (x .0) 0) low) ⌝ }
+    ensures { λ t. ⌜ t ≡ not (leb n (x .0) || ltb (label-at (now (words .entry)) (x .0)) low) ⌝ }
 {
     x.0 < n && low <= (words::label_of(words, x).0 as u64)
 }

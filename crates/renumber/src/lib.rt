@@ -7,10 +7,9 @@ ghost use Prim.Native.Nat.{_+_, _%_, _≤_, _<_};
 ghost use lib.Dec.{eqb};
 ghost use lib.ListN.{length};
 ghost use Rattle.store_types.specs.Limits.{word-limit};
-ghost use Rattle.calls.specs.Words.{field};
-ghost use Rattle.words.specs.Fields.{with-field, Room};
+ghost use Rattle.store_types.specs.Layout.{label-at, with-label, Room, Records};
 ghost use Rattle.edit_model.specs.Relabel.{cut, shift as shifted};
-ghost use Rattle.renumber.specs.Needs.{Row-there, Trees-fit, Row-numbered, Records, Part-size, leaves-numbered, trees-numbered, table-limit};
+ghost use Rattle.renumber.specs.Needs.{Row-there, Trees-fit, Row-numbered, Part-size, leaves-numbered, trees-numbered, table-limit};
 use store_types::Label;
 use store_types::TagId;
 
@@ -22,9 +21,9 @@ pub struct Numbered {
 
 // One leaf. A number is a label by its low 32 bits: in a sound store that is all of it.
 fn number_leaf(words: &mut [u32], tag: TagId, at: u64) -> u32
-    requires { ⌜ Room (length (now words)) (tag .0) 0 ⌝ }
-    ensures words { λ _. ⌜ now (words .exit) ≡ with-field (now (words .entry)) (tag .0) 0 (cut at) ⌝ }
-    ensures moved { λ m. ⌜ m ≡ cond (eqb (field (now (words .entry)) (tag .0) 0) (cut at)) 0 1 ⌝ }
+    requires { ⌜ Room (now words) (tag .0) ⌝ }
+    ensures words { λ _. ⌜ now (words .exit) ≡ with-label (now (words .entry)) (tag .0) (cut at) ⌝ }
+    ensures moved { λ m. ⌜ m ≡ cond (eqb (label-at (now (words .entry)) (tag .0)) (cut at)) 0 1 ⌝ }
 {
     let old = words::label_of(words, tag);
     let new = (at % 4294967296) as u32;

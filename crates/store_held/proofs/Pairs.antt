@@ -13,13 +13,13 @@ use Rattle.store_types.specs.declared.Answer.the-variants.{Yes, No, Stale}
 use Rattle.store_types.specs.declared.HoldReply.the-variants as hold
 use Rattle.store_types.specs.declared.QuestionReply.{QuestionReply}
 use Rattle.store_types.specs.declared.QuestionReply.the-variants as asked
-use Rattle.tree_laws.proofs.Good.{and-left, and-right}
-use Rattle.tree_laws.proofs.Rows.{by-test}
+use Rattle.lists.proofs.Tests.{and-left, and-right, by-test}
+use Rattle.store_types.specs.Layout.{at-count, at-book, at-kind, word-at, field, label-at}
 use Rattle.calls.specs.Kind.{is-begin}
 use Rattle.calls.specs.Store.{fact, count, label}
 use Rattle.calls.specs.Mark.{section-refusal}
 use Rattle.calls.specs.Held.{hold-pair, encloses, current, question}
-use Rattle.calls.specs.Words.{Says, word-at, field}
+use Rattle.calls.specs.Words.{Says}
 use Rattle.calls.specs.Replies.{refusal-over, said, hold-outcome, hold-reply, question-outcome, question-reply}
 use Rattle.calls.specs.Promise.{Labels-tell}
 use Rattle.calls_laws.proofs.Marks.{accepted-section}
@@ -53,8 +53,8 @@ section-tag ws x e =
       tag = accepted-section x (said ws) (accepted-store ws (section-refusal x) e) .tag;
     }
 
-pub hold-held : (ws : List ℕ) (t : TagId) (a b : Label) → refusal-over ws (section-refusal (t .0)) ≡ 0 → a .0 ≡ field ws (t .0) 0 →
-    b .0 ≡ label (said ws) (fact (said ws) (t .0) .mate) → hold.Held (record { book = word-at ws 6; tag = t; start = a; end = b }) ≡ hold-reply (t .0) ws
+pub hold-held : (ws : List ℕ) (t : TagId) (a b : Label) → refusal-over ws (section-refusal (t .0)) ≡ 0 → a .0 ≡ label-at ws (t .0) →
+    b .0 ≡ label (said ws) (fact (said ws) (t .0) .mate) → hold.Held (record { book = word-at ws at-book; tag = t; start = a; end = b }) ≡ hold-reply (t .0) ws
 unfolding hold-reply hold-outcome hold-pair
 hold-held ws t a b e s f =
     let h = section-tag ws (t .0) e in
@@ -77,21 +77,21 @@ module _ (ws : List ℕ) (p : HeldPair) (d : ℕ) where
   unfolding question-reply question-outcome
   replies says = rw (refused-said ws (λ st. 0) says)
 
-  pub other-book : Says ws (said ws) → (p .book ≡ word-at ws 6 → ⊥) → asked.Answered Stale ≡ question-reply p d ws
+  pub other-book : Says ws (said ws) → (p .book ≡ word-at ws at-book → ⊥) → asked.Answered Stale ≡ question-reply p d ws
   unfolding question
   other-book says n = sym (replies says ∙ rw (ne-eqb (p .book) (said ws .number) (λ e. n (e ∙ sym (header-said ws (said ws) says .number)))))
 
   -- the book, then 8 and 10
-  this-book : Says ws (said ws) → p .book ≡ word-at ws 6 → p .book ≡ said ws .number
+  this-book : Says ws (said ws) → p .book ≡ word-at ws at-book → p .book ≡ said ws .number
   this-book says e = e ∙ header-said ws (said ws) says .number
 
-  pub no-such-tag : Says ws (said ws) → p .book ≡ word-at ws 6 → (word-at ws 4 ≤ p .tag .0) ⊎ (word-at ws 4 ≤ d) → asked.Refused 8 ≡ question-reply p d ws
+  pub no-such-tag : Says ws (said ws) → p .book ≡ word-at ws at-book → (word-at ws at-count ≤ p .tag .0) ⊎ (word-at ws at-count ≤ d) → asked.Refused 8 ≡ question-reply p d ws
   unfolding question
   no-such-tag says e (inl l) = sym (replies says ∙ rw (eq-eqb (p .book) (said ws .number) (this-book says e), no-tag-from ws says (p .tag .0) l))
   no-such-tag says e (inr l) =
       sym (replies says ∙ rw (eq-eqb (p .book) (said ws .number) (this-book says e), no-tag-from ws says d l, or-true (leb (count (said ws)) (p .tag .0))))
 
-  pub not-begin : Tag-said ws (p .tag .0) → Tag-said ws d → p .book ≡ word-at ws 6 → (field ws (p .tag .0) 5 % 16 ≡ 1 → ⊥) →
+  pub not-begin : Tag-said ws (p .tag .0) → Tag-said ws d → p .book ≡ word-at ws at-book → (field ws (p .tag .0) at-kind % 16 ≡ 1 → ⊥) →
       asked.Refused 10 ≡ question-reply p d ws
   unfolding question
   not-begin x y e n =
@@ -103,14 +103,14 @@ module _ (ws : List ℕ) (p : HeldPair) (d : ℕ) where
         begins,
       ))
 
-  pub pair-asked : Tag-said ws (p .tag .0) → Tag-said ws d → p .book ≡ word-at ws 6 → field ws (p .tag .0) 5 % 16 ≡ 1 → Pair-asked ws p d
+  pub pair-asked : Tag-said ws (p .tag .0) → Tag-said ws d → p .book ≡ word-at ws at-book → field ws (p .tag .0) at-kind % 16 ≡ 1 → Pair-asked ws p d
   pair-asked x y e b =
-      record { section = x; other = y; book = this-book (x .says) e; begins = sym (kind-of-tag x .begins) ∙ eq-eqb (field ws (p .tag .0) 5 % 16) 1 b }
+      record { section = x; other = y; book = this-book (x .says) e; begins = sym (kind-of-tag x .begins) ∙ eq-eqb (field ws (p .tag .0) at-kind % 16) 1 b }
 
   -- then stale, 9, yes or no
   module _ (h : Pair-asked ws p d) where
     if-asked : question-reply p d ws ≡ cond (not (current (said ws) p)) (asked.Answered Stale)
-        (cond (leb 16 (field ws d 5)) (asked.Refused 9) (asked.Answered (cond (encloses (said ws) (p .tag .0) d) Yes No)))
+        (cond (leb 16 (field ws d at-kind)) (asked.Refused 9) (asked.Answered (cond (encloses (said ws) (p .tag .0) d) Yes No)))
     unfolding question
     if-asked =
         replies (h .other .says)
@@ -125,11 +125,11 @@ module _ (ws : List ℕ) (p : HeldPair) (d : ℕ) where
     pub outdated : current (said ws) p ≡ false → asked.Answered Stale ≡ question-reply p d ws
     outdated c = sym (if-asked ∙ rw c)
 
-    pub other-marked : current (said ws) p ≡ true → 16 ≤ field ws d 5 → asked.Refused 9 ≡ question-reply p d ws
-    other-marked c m = sym (if-asked ∙ rw (c, le-leb 16 (field ws d 5) m))
+    pub other-marked : current (said ws) p ≡ true → 16 ≤ field ws d at-kind → asked.Refused 9 ≡ question-reply p d ws
+    other-marked c m = sym (if-asked ∙ rw (c, le-leb 16 (field ws d at-kind) m))
 
     -- by the labels of a current pair, which are its section's
-    by-labels : current (said ws) p ≡ true → encloses (said ws) (p .tag .0) d ≡ (ltb (p .start .0) (field ws d 0) && ltb (field ws d 0) (p .end .0))
+    by-labels : current (said ws) p ≡ true → encloses (said ws) (p .tag .0) d ≡ (ltb (p .start .0) (label-at ws d) && ltb (label-at ws d) (p .end .0))
     unfolding encloses current Labels-tell Says
     by-labels c =
         let st = said ws in
@@ -146,9 +146,9 @@ module _ (ws : List ℕ) (p : HeldPair) (d : ℕ) where
           eqb-true (p .end .0) (label st m) (and-right starts ends labels),
         )
 
-    pub tells : current (said ws) p ≡ true → field ws d 5 < 16 → (t : Bool) → (ltb (p .start .0) (field ws d 0) && ltb (field ws d 0) (p .end .0)) ≡ t →
+    pub tells : current (said ws) p ≡ true → field ws d at-kind < 16 → (t : Bool) → (ltb (p .start .0) (label-at ws d) && ltb (label-at ws d) (p .end .0)) ≡ t →
         asked.Answered (cond t Yes No) ≡ question-reply p d ws
-    tells c m t e = sym (if-asked ∙ rw (c, lt-leb 16 (field ws d 5) m, by-labels c, e))
+    tells c m t e = sym (if-asked ∙ rw (c, lt-leb 16 (field ws d at-kind) m, by-labels c, e))
 
 -- WHETHER A PAIR IS CURRENT
 not-leb : (a b : ℕ) → not (leb a b) ≡ ltb b a
@@ -159,15 +159,15 @@ module _ (ws : List ℕ) (p : HeldPair) (h : Tag-said ws (p .tag .0)) where
   abbrev end-now : ℕ
   end-now = label (said ws) (fact (said ws) (p .tag .0) .mate)
 
-  by-words : current (said ws) p ≡ ((eqb (p .start .0) (field ws (p .tag .0) 0) && eqb (p .end .0) end-now) && ltb (field ws (p .tag .0) 5) 16)
+  by-words : current (said ws) p ≡ ((eqb (p .start .0) (label-at ws (p .tag .0)) && eqb (p .end .0) end-now) && ltb (field ws (p .tag .0) at-kind) 16)
   unfolding current
-  by-words = rw (words-of-tag h .label-word, ← not-leb 16 (field ws (p .tag .0) 5), kind-of-tag h .marks)
+  by-words = rw (words-of-tag h .label-word, ← not-leb 16 (field ws (p .tag .0) at-kind), kind-of-tag h .marks)
 
-  pub start-moved : (p .start .0 ≡ field ws (p .tag .0) 0 → ⊥) → current (said ws) p ≡ false
-  start-moved n = by-words ∙ rw (ne-eqb (p .start .0) (field ws (p .tag .0) 0) n)
+  pub start-moved : (p .start .0 ≡ label-at ws (p .tag .0) → ⊥) → current (said ws) p ≡ false
+  start-moved n = by-words ∙ rw (ne-eqb (p .start .0) (label-at ws (p .tag .0)) n)
 
   pub end-moved : (p .end .0 ≡ end-now → ⊥) → current (said ws) p ≡ false
-  end-moved n = by-words ∙ rw (ne-eqb (p .end .0) end-now n, and-false (eqb (p .start .0) (field ws (p .tag .0) 0)))
+  end-moved n = by-words ∙ rw (ne-eqb (p .end .0) end-now n, and-false (eqb (p .start .0) (label-at ws (p .tag .0))))
 
-  pub unmoved : p .start .0 ≡ field ws (p .tag .0) 0 → p .end .0 ≡ end-now → current (said ws) p ≡ ltb (field ws (p .tag .0) 5) 16
-  unmoved s e = by-words ∙ rw (eq-eqb (p .start .0) (field ws (p .tag .0) 0) s, eq-eqb (p .end .0) end-now e)
+  pub unmoved : p .start .0 ≡ label-at ws (p .tag .0) → p .end .0 ≡ end-now → current (said ws) p ≡ ltb (field ws (p .tag .0) at-kind) 16
+  unmoved s e = by-words ∙ rw (eq-eqb (p .start .0) (label-at ws (p .tag .0)) s, eq-eqb (p .end .0) end-now e)

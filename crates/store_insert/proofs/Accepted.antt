@@ -11,13 +11,13 @@ use borrow.Author.Tests.{ne-eqb, eqb-true}
 use lib.Dec.{eqb}
 use lib.ListN.{length, getD, replicate}
 use Rattle.store_types.specs.Limits.{no-tag, label-limit, most-tags}
+use Rattle.lists.proofs.Tests.{by-test}
+use Rattle.store_types.specs.Layout.{at-s, at-r, at-height, at-count, word-at, words-for}
 use Rattle.tree.specs.Book.{height}
-use Rattle.tree_laws.proofs.Rows.{by-test}
 use Rattle.calls.specs.Kind.{Kind, kind-word}
 use Rattle.calls.specs.Store.{Fact, fact, count, row}
-use Rattle.calls.specs.Load.{words-for}
 use Rattle.calls.specs.Insert.{insert-kinds, position, insert-refusal}
-use Rattle.calls.specs.Words.{Says, word-at}
+use Rattle.calls.specs.Words.{Says}
 use Rattle.calls.specs.Replies.{said, insert-refused}
 use Rattle.calls_laws.proofs.Inserts.{Row-accepted, accepted-row}
 use Rattle.calls_laws.proofs.Steps.{insert-passed}
@@ -44,40 +44,40 @@ use Rattle.store_insert.proofs.Rows.{records-in, place-or-none, behind-
 
 -- WORDS THAT SAY A STORE: the place is one of its tags or the front
 module _ (ws : List ℕ) (says : Says ws (said ws)) where
-  here : Ranges (word-at ws 1) (word-at ws 2) (word-at ws 3) (word-at ws 4)
+  here : Ranges (word-at ws at-s) (word-at ws at-r) (word-at ws at-height) (word-at ws at-count)
   here = ranges ws says
 
   -- THE TABLES
-  pub widths-at : (h : ℕ) → h ≤ word-at ws 3 → entry (widths-of ws) h ≡ (word-at ws 1 * word-at ws 2 - 1) ^ h
+  pub widths-at : (h : ℕ) → h ≤ word-at ws at-height → entry (widths-of ws) h ≡ (word-at ws at-s * word-at ws at-r - 1) ^ h
   unfolding widths-of
-  widths-at h l = table-at 1 _ (word-at ws 3) h l ∙ one-mul ((word-at ws 1 * word-at ws 2 - 1) ^ h)
+  widths-at h l = table-at 1 _ (word-at ws at-height) h l ∙ one-mul ((word-at ws at-s * word-at ws at-r - 1) ^ h)
 
   pub widths-most : (h : ℕ) → entry (widths-of ws) h ≤ label-limit
   unfolding widths-of
   widths-most h =
-      omega (arith, table-bound 1 (word-at ws 1 * word-at ws 2 - 1) (word-at ws 3) (omega (arith, here .product)) h, one-mul ((word-at ws 1 * word-at ws 2 - 1) ^ word-at ws 3), here .power)
+      omega (arith, table-bound 1 (word-at ws at-s * word-at ws at-r - 1) (word-at ws at-height) (omega (arith, here .product)) h, one-mul ((word-at ws at-s * word-at ws at-r - 1) ^ word-at ws at-height), here .power)
 
-  pub widths-least : (h : ℕ) → h ≤ word-at ws 3 → 1 ≤ entry (widths-of ws) h
+  pub widths-least : (h : ℕ) → h ≤ word-at ws at-height → 1 ≤ entry (widths-of ws) h
   widths-least h l = rw (widths-at h l) (one-le-pow h _ (omega (arith, here .product)))
 
-  pub highs-at : (h : ℕ) → h ≤ word-at ws 3 → entry (highs-of ws) h ≡ word-at ws 1 * word-at ws 2 ^ h
+  pub highs-at : (h : ℕ) → h ≤ word-at ws at-height → entry (highs-of ws) h ≡ word-at ws at-s * word-at ws at-r ^ h
   unfolding highs-of
-  highs-at h l = table-at _ _ (word-at ws 3) h l
+  highs-at h l = table-at _ _ (word-at ws at-height) h l
 
-  pub lows-at : (h : ℕ) → h ≤ word-at ws 3 → entry (lows-of ws) h ≡ word-at ws 2 ^ h
+  pub lows-at : (h : ℕ) → h ≤ word-at ws at-height → entry (lows-of ws) h ≡ word-at ws at-r ^ h
   unfolding lows-of
-  lows-at h l = table-at 1 _ (word-at ws 3) h l ∙ one-mul (word-at ws 2 ^ h)
+  lows-at h l = table-at 1 _ (word-at ws at-height) h l ∙ one-mul (word-at ws at-r ^ h)
 
   -- THE PLAN of k tags
-  pub plan-said : (k y : ℕ) → Plan-fits (word-at ws 2) (word-at ws 3) (plan-of ws k y)
+  pub plan-said : (k y : ℕ) → Plan-fits (word-at ws at-r) (word-at ws at-height) (plan-of ws k y)
   unfolding plan-of
   plan-said k y =
-      let levels : suc (pred (word-at ws 3)) ≡ word-at ws 3 = omega (arith, here .low) in
-      rw levels at (plan-fits ws (word-at ws 1) (word-at ws 2) (widths-of ws) (highs-of ws) (sizes-at ws y (replicate 24 0)) (word-at ws 4) k (pred (word-at ws 3)) y
+      let levels : suc (pred (word-at ws at-height)) ≡ word-at ws at-height = omega (arith, here .low) in
+      rw levels at (plan-fits ws (word-at ws at-s) (word-at ws at-r) (widths-of ws) (highs-of ws) (sizes-at ws y (replicate 24 0)) (word-at ws at-count) k (pred (word-at ws at-height)) y
       (omega (arith, here .degrees .s-least)) (here .degrees .s-most) (λ h l. highs-at h (omega arith)) widths-most)
 
   -- it can be done on words where its row is
-  pub applicable : (k y m : ℕ) (us : List ℕ) → m ≤ most-tags → Row-in us m (plan-of ws k y) → Applicable us m (word-at ws 2) (plan-of ws k y) (widths-of ws) (lows-of ws)
+  pub applicable : (k y m : ℕ) (us : List ℕ) → m ≤ most-tags → Row-in us m (plan-of ws k y) → Applicable us m (word-at ws at-r) (plan-of ws k y) (widths-of ws) (lows-of ws)
   applicable k y m us few e =
       let p = plan-said k y in
       record {
@@ -96,26 +96,26 @@ module _ (ws : List ℕ) (says : Says ws (said ws)) where
 
 -- AN ACCEPTED ROW of new tags
 module _ (ws : List ℕ) (says : Says ws (said ws)) (ks : List Kind) (y : ℕ) (a : Row-accepted (length ws) ks y (said ws)) where
-  issued : word-at ws 4 ≡ count (said ws)
+  issued : word-at ws at-count ≡ count (said ws)
   issued = header-said ws (said ws) says .issued
 
-  words-said : Words-in ws (word-at ws 4)
+  words-said : Words-in ws (word-at ws at-count)
   unfolding image-of
   words-said =
       let g = image-said ws (said ws) says in
       record { image = image-of (said ws); rest = g .0; words-are = g .1; proper = proper-image (sound-said ws (said ws) says); counted = sym issued }
 
-  few-there : word-at ws 4 ≤ most-tags
+  few-there : word-at ws at-count ≤ most-tags
   few-there = ranges ws says .few
 
-  pub place-there : Place-there ws (word-at ws 4) y
+  pub place-there : Place-there ws (word-at ws at-count) y
   place-there = record { records = records-in words-said few-there; place = go (a .place) }
     where
-      go : (y ≡ no-tag) ⊎ ((y < count (said ws)) × (fact (said ws) y .marked ≡ false)) → Tag-or-none (word-at ws 4) y
+      go : (y ≡ no-tag) ⊎ ((y < count (said ws)) × (fact (said ws) y .marked ≡ false)) → Tag-or-none (word-at ws at-count) y
       go (inl e) other = absurd (other e)
       go (inr l) other = rw issued (l .0)
 
-  pub plan-reads : Plan-reads ws (word-at ws 4) (word-at ws 1) (word-at ws 3 - 1) y (widths-of ws)
+  pub plan-reads : Plan-reads ws (word-at ws at-count) (word-at ws at-s) (word-at ws at-height - 1) y (widths-of ws)
   plan-reads =
       let f = ranges ws says in
       record {
@@ -130,10 +130,10 @@ module _ (ws : List ℕ) (says : Says ws (said ws)) (ks : List Kind) (y : ℕ) (
 
 -- of which the first goes in
 module _ (ws : List ℕ) (says : Says ws (said ws)) (c : Kind) (ks : List Kind) (y : ℕ) (a : Row-accepted (length ws) (c ∷ ks) y (said ws)) where
-  count-is : word-at ws 4 ≡ count (said ws)
+  count-is : word-at ws at-count ≡ count (said ws)
   count-is = issued ws says (c ∷ ks) y a
 
-  pub tag-fits : Tag-fits ws (word-at ws 4) y
+  pub tag-fits : Tag-fits ws (word-at ws at-count) y
   unfolding image-of words-for words-said
   tag-fits =
       let p = position y (said ws) in
@@ -147,21 +147,21 @@ module _ (ws : List ℕ) (says : Says ws (said ws)) (c : Kind) (ks : List Kind) 
 
   -- with it in, its plan can be done
   module _ (t : Fact) where
-    row-one : Row-in (added ws (word-at ws 4) y (t .mate) (t .up) (kind-word (t .kind) (t .marked))) (suc (word-at ws 4)) (plan-of ws 1 y)
+    row-one : Row-in (added ws (word-at ws at-count) y (t .mate) (t .up) (kind-word (t .kind) (t .marked))) (suc (word-at ws at-count)) (plan-of ws 1 y)
     row-one =
         rw count-is
         (rw (place-said ws (said ws) says c ks y a) at
         (single-row ws (said ws) says (position y (said ws)) (position-said ws (said ws) says c ks y a) t (few-said ws (said ws) says c ks y a) (room-said ws (said ws) says c ks y a) (labels-said ws (said ws) says c ks y a)))
 
-    few-more : suc (word-at ws 4) ≤ most-tags
+    few-more : suc (word-at ws at-count) ≤ most-tags
     few-more = rw count-is (few-said ws (said ws) says c ks y a)
 
-    pub one-applicable : Applicable (added ws (word-at ws 4) y (t .mate) (t .up) (kind-word (t .kind) (t .marked))) (suc (word-at ws 4)) (word-at ws 2) (plan-of ws 1 y) (widths-of ws) (lows-of ws)
-    one-applicable = applicable ws says 1 y (suc (word-at ws 4)) _ few-more row-one
+    pub one-applicable : Applicable (added ws (word-at ws at-count) y (t .mate) (t .up) (kind-word (t .kind) (t .marked))) (suc (word-at ws at-count)) (word-at ws at-r) (plan-of ws 1 y) (widths-of ws) (lows-of ws)
+    one-applicable = applicable ws says 1 y (suc (word-at ws at-count)) _ few-more row-one
 
     -- a tag right behind it has none or a tag behind it
-    pub next-or-none : Tag-or-none (suc (word-at ws 4)) (behind (added ws (word-at ws 4) y (t .mate) (t .up) (kind-word (t .kind) (t .marked))) (word-at ws 4))
-    next-or-none = behind-or-none (row-one .words-in) few-more (word-at ws 4) (omega arith)
+    pub next-or-none : Tag-or-none (suc (word-at ws at-count)) (behind (added ws (word-at ws at-count) y (t .mate) (t .up) (kind-word (t .kind) (t .marked))) (word-at ws at-count))
+    next-or-none = behind-or-none (row-one .words-in) few-more (word-at ws at-count) (omega arith)
 
 -- AN ACCEPTED CALL of kind c
 module _ (ws : List ℕ) (c y : ℕ) (z : insert-refused c y ws ≡ 0) where
@@ -184,9 +184,9 @@ module _ (ws : List ℕ) (c y : ℕ) (z : insert-refused c y ws ≡ 0) where
       (λ t. let refused : _≡_ {A = ℕ} 4 0 = rw (ne-eqb c 1 other, t) at store-accepted in absurd (omega arith))
 
   -- its place, and what its plans read
-  pub place-accepted : Place-there ws (word-at ws 4) y
+  pub place-accepted : Place-there ws (word-at ws at-count) y
   place-accepted = place-there ws says-accepted (insert-kinds c) y row-accepted
 
-  pub plan-accepted : {w : List ℕ} → w ≡ table 1 (word-at ws 1 * word-at ws 2 - 1) (word-at ws 3) → Plan-reads ws (word-at ws 4) (word-at ws 1) (word-at ws 3 - 1) y w
+  pub plan-accepted : {w : List ℕ} → w ≡ table 1 (word-at ws at-s * word-at ws at-r - 1) (word-at ws at-height) → Plan-reads ws (word-at ws at-count) (word-at ws at-s) (word-at ws at-height - 1) y w
   unfolding widths-of
   plan-accepted e = rw e (plan-reads ws says-accepted (insert-kinds c) y row-accepted)

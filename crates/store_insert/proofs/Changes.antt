@@ -6,8 +6,8 @@ use native.Mathlib.Numerals.{sub-one}
 use native.Mathlib.Omega.{arith}
 use lib.ListN.{replicate}
 use borrow.Author.Tests.{eq-eqb, ne-eqb, lt-ltb, le-ltb}
+use Rattle.store_types.specs.Layout.{at-s, at-r, at-height, at-count, word-at}
 use Rattle.tree.specs.Book.{height}
-use Rattle.calls.specs.Words.{word-at}
 use Rattle.calls.specs.Replies.{insert-refused}
 use Rattle.walk_model.specs.Walk.{table}
 use Rattle.walk_model.specs.Watch.{sizes-at}
@@ -18,18 +18,18 @@ use Rattle.store_insert.proofs.Accepted.{kind-accepted}
 
 -- THE CALL, as the code reads it: the tables, the sizes, the up of new tags and the plans
 module _ (ws : List ℕ) (c y : ℕ) (z : insert-refused c y ws ≡ 0) {u : ℕ} {w l hi sz : List ℕ} (up : u ≡ up-word ws y)
-    (widths : w ≡ table 1 (word-at ws 1 * word-at ws 2 - 1) (word-at ws 3)) (lows : l ≡ table 1 (word-at ws 2) (word-at ws 3))
-    (highs : hi ≡ table (word-at ws 1) (word-at ws 2) (word-at ws 3)) (sizes : sz ≡ sizes-at ws y (replicate 24 0)) where
-  planned : (k : ℕ) {p : Plan} → p ≡ plan ws (word-at ws 1) w hi sz (word-at ws 4) k (word-at ws 3 - 1) y → p ≡ plan-of ws k y
+    (widths : w ≡ table 1 (word-at ws at-s * word-at ws at-r - 1) (word-at ws at-height)) (lows : l ≡ table 1 (word-at ws at-r) (word-at ws at-height))
+    (highs : hi ≡ table (word-at ws at-s) (word-at ws at-r) (word-at ws at-height)) (sizes : sz ≡ sizes-at ws y (replicate 24 0)) where
+  planned : (k : ℕ) {p : Plan} → p ≡ plan ws (word-at ws at-s) w hi sz (word-at ws at-count) k (word-at ws at-height - 1) y → p ≡ plan-of ws k y
   unfolding plan-of widths-of highs-of
-  planned k e = e ∙ rw (widths, highs, sizes, sub-one (word-at ws 3))
+  planned k e = e ∙ rw (widths, highs, sizes, sub-one (word-at ws at-height))
 
-  pub text-ready : (c ≡ 1 → ⊥) → {p : Plan} → p ≡ plan ws (word-at ws 1) w hi sz (word-at ws 4) 1 (word-at ws 3 - 1) y → Ready 3 1 ws (word-at ws 4) y u (word-at ws 2) p w l
+  pub text-ready : (c ≡ 1 → ⊥) → {p : Plan} → p ≡ plan ws (word-at ws at-s) w hi sz (word-at ws at-count) 1 (word-at ws at-height - 1) y → Ready 3 1 ws (word-at ws at-count) y u (word-at ws at-r) p w l
   unfolding widths-of lows-of
   text-ready other e =
       record { accepted = rw (kind-accepted ws c y z other) at z; tags = refl; up-is = up; degree = refl; plan = planned 1 e; widths = widths; lows = lows }
 
-  pub element-ready : c ≡ 1 → (k : ℕ) {p : Plan} → p ≡ plan ws (word-at ws 1) w hi sz (word-at ws 4) k (word-at ws 3 - 1) y → Ready 1 k ws (word-at ws 4) y u (word-at ws 2) p w l
+  pub element-ready : c ≡ 1 → (k : ℕ) {p : Plan} → p ≡ plan ws (word-at ws at-s) w hi sz (word-at ws at-count) k (word-at ws at-height - 1) y → Ready 1 k ws (word-at ws at-count) y u (word-at ws at-r) p w l
   unfolding widths-of lows-of
   element-ready element k e = record { accepted = rw element at z; tags = refl; up-is = up; degree = refl; plan = planned k e; widths = widths; lows = lows }
 

@@ -4,7 +4,8 @@ use mathlib.Core.List.{List}
 use Prim.Native.Nat.{ℕ, suc, _+_, _-_}
 use native.Mathlib.Numerals.{add-one, sub-one}
 use native.Mathlib.Omega.{arith}
-use Rattle.calls.specs.Words.{word-at}
+use Rattle.store_types.specs.Layout.{at-height, word-at}
+use Rattle.words.proofs.Fields.{records-fewer}
 use Rattle.edit_model.specs.Insert.{Plan, added, raised-words, applied, put-words, plain-plan, end-edit}
 use Rattle.insert_link.specs.Needs.{Tag-fits}
 use Rattle.insert_plan.specs.Needs.{Plain-reads, Applicable}
@@ -22,11 +23,11 @@ more-by-two n = omega arith
 
 -- THE END of an element
 module _ {ws w l : List ℕ} {n r : ℕ} (h : End-fits ws n r w l) where
-  pub end-reads : Plain-reads ws (n + 1) (word-at ws 3 - 1) n w
+  pub end-reads : Plain-reads ws (n + 1) (word-at ws at-height - 1) n w
   end-reads =
-      rw (add-one n, sub-one (word-at ws 3)) (record {
+      rw (add-one n, sub-one (word-at ws at-height)) (record {
         place = record {
-          records = record { few = omega (arith, h .tag .records); long = omega (arith, h .tag .records) };
+          records = records-fewer (h .tag .records) (omega arith);
           place = λ e. omega arith;
         };
         ancestors = h .ancestors;
@@ -36,11 +37,11 @@ module _ {ws w l : List ℕ} {n r : ℕ} (h : End-fits ws n r w l) where
   pub end-tag : Tag-fits ws (n + 1) n
   end-tag = rw (add-one n) (h .tag)
 
-  module _ (u : ℕ) {p : Plan} {vs : List ℕ} (plan : p ≡ plain-plan ws w (word-at ws 3 - 1) n) (put : vs ≡ added ws (n + 1) n n u 2) where
+  module _ (u : ℕ) {p : Plan} {vs : List ℕ} (plan : p ≡ plain-plan ws w (word-at ws at-height - 1) n) (put : vs ≡ added ws (n + 1) n n u 2) where
     pub end-applicable : Applicable vs (n + 2) r p w l
     end-applicable =
-        rw (plan, put, add-one n, more-by-two n) (plain-applicable ws (suc n) n n u 2 (h .tag) w l r (word-at ws 3 - 1) (h .degree-least) (h .widths) (h .low))
+        rw (plan, put, add-one n, more-by-two n) (plain-applicable ws (suc n) n n u 2 (h .tag) w l r (word-at ws at-height - 1) (h .degree-least) (h .widths) (h .low))
 
     pub end-edits : {us : List ℕ} → us ≡ applied vs w r (n + 2) p .words → us ≡ end-edit w n u ws
     unfolding end-edit
-    end-edits e = e ∙ rw (plan, put, add-one n, more-by-two n, sub-one (word-at ws 3), h .degree)
+    end-edits e = e ∙ rw (plan, put, add-one n, more-by-two n, sub-one (word-at ws at-height), h .degree)

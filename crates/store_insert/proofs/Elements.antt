@@ -9,13 +9,13 @@ use native.Mathlib.Numerals.{add-one}
 use native.Mathlib.Omega.{arith}
 use lib.ListN.{length, drop}
 use Rattle.store_types.specs.Limits.{label-limit, most-tags}
+use Rattle.store_types.specs.Layout.{at-r, at-height, at-count, header-words, word-at, words-for, Records}
 use Rattle.tree.specs.Book.{height, base, power-width, root-full}
 use Rattle.tree_laws.proofs.Insertion.{inserted-r, inserted-under}
 use Rattle.calls.specs.Kind.{begin, end, code, kind-word}
 use Rattle.calls.specs.Store.{Store, Fact, count, width}
-use Rattle.calls.specs.Load.{words-for}
 use Rattle.calls.specs.Insert.{insert-kinds, position}
-use Rattle.calls.specs.Words.{words-of, Says, word-at}
+use Rattle.calls.specs.Words.{words-of, Says}
 use Rattle.calls.specs.Replies.{said}
 use Rattle.calls_laws.proofs.Inserts.{Row-accepted}
 use Rattle.calls_laws.proofs.Fields.{header-says}
@@ -28,7 +28,6 @@ use Rattle.edit_model.proofs.Single.{grown, book-with, proper-grown}
 use Rattle.edit_model.proofs.Renumbered.{Words-in, Row-in}
 use Rattle.edit_model.proofs.Inserted.{position-said, few-said, room-said, labels-said, begin-fact, begin-words}
 use Rattle.edit_model.proofs.Elements.{element-row}
-use Rattle.renumber.specs.Needs.{Records}
 use Rattle.insert_link.specs.Needs.{Tag-fits}
 use Rattle.store_insert.specs.Needs.{Put-fits, End-fits, Ready, Edits}
 use Rattle.insert_refuse.proofs.Headers.{ranges, height-range}
@@ -51,7 +50,7 @@ module _ {k : ℕ} {ws w l : List ℕ} {n y u r : ℕ} {p : Plan} (h : Ready 1 k
 
   -- the begin, its mate one further
   abbrev first : Fact
-  first = record { kind = begin; marked = false; mate = suc (word-at ws 4); up = u }
+  first = record { kind = begin; marked = false; mate = suc (word-at ws at-count); up = u }
 
   pub begin-tag : Tag-fits ws n y
   begin-tag = rw (h .tags) (tag-fits ws said-now begin (end ∷ []) y both-row)
@@ -60,17 +59,17 @@ module _ {k : ℕ} {ws w l : List ℕ} {n y u r : ℕ} {p : Plan} (h : Ready 1 k
   unfolding words-for
   room-for-two = record { few = omega (arith, issued, both-row .few); long = omega (arith, issued, both-row .room) }
 
-  low-there : word-at ws 3 ≤ 22
+  low-there : word-at ws at-height ≤ 22
   low-there = omega (arith, ranges ws said-now .high)
 
   -- the words with the begin
   module _ {vs : List ℕ} (put : vs ≡ added ws n y (n + 1) u 1) where
-    with-begin : vs ≡ added ws (word-at ws 4) y (suc (word-at ws 4)) u 1
+    with-begin : vs ≡ added ws (word-at ws at-count) y (suc (word-at ws at-count)) u 1
     with-begin = put ∙ rw (add-one, h .tags)
 
-    levels-kept : word-at vs 3 ≤ 22
+    levels-kept : word-at vs at-height ≤ 22
     levels-kept =
-        rw (with-begin, added-header 3 (omega arith) ws (word-at ws 4) y (suc (word-at ws 4)) u 1 (λ e. omega arith) (λ e. omega arith)) low-there
+        rw (with-begin, added-header 3 (omega arith) ws (word-at ws at-count) y (suc (word-at ws at-count)) u 1 (λ e. omega arith) (λ e. omega arith)) low-there
 
     -- its end can go in behind it
     pub end-next : Tag-fits vs (n + 1) n
@@ -78,7 +77,7 @@ module _ {k : ℕ} {ws w l : List ℕ} {n y u r : ℕ} {p : Plan} (h : Ready 1 k
     end-next =
         let room = room-for-two in
         rw add-one (record {
-          records = record { few = room .few; long = rw (with-begin, length-added ws (word-at ws 4) y (suc (word-at ws 4)) u 1) (room .long) };
+          records = record { few = room .few; long = rw (with-begin, length-added ws (word-at ws at-count) y (suc (word-at ws at-count)) u 1) (room .long) };
           place = λ e. omega arith;
           next = rw (with-begin, h .tags) (next-or-none ws said-now begin (end ∷ []) y both-row first);
         })
@@ -87,21 +86,21 @@ module _ {k : ℕ} {ws w l : List ℕ} {n y u r : ℕ} {p : Plan} (h : Ready 1 k
 module _ {ws w l : List ℕ} {n y u r : ℕ} {p : Plan} (h : Ready 1 2 ws n y u r p w l) (lower : plan-of ws 1 y .height < plan-of ws 2 y .height)
     {vs us : List ℕ} (put : vs ≡ added ws n y (n + 1) u 1) (end-put : us ≡ added vs (n + 1) n n u 2) where
   abbrev with-both : List ℕ
-  with-both = added (added ws (word-at ws 4) y (suc (word-at ws 4)) (up-word ws y) 1) (suc (word-at ws 4)) (word-at ws 4) (word-at ws 4) (up-word ws y) 2
+  with-both = added (added ws (word-at ws at-count) y (suc (word-at ws at-count)) (up-word ws y) 1) (suc (word-at ws at-count)) (word-at ws at-count) (word-at ws at-count) (up-word ws y) 2
 
   both-are : us ≡ with-both
   both-are = end-put ∙ rw (put, add-one, h .tags, h .up-is)
 
-  row-both : (m : ℕ) → plan-of ws 2 y .height ≡ m → plan-of ws 1 y .height < m → Row-in with-both (suc (suc (word-at ws 4))) (plan-of ws 2 y)
+  row-both : (m : ℕ) → plan-of ws 2 y .height ≡ m → plan-of ws 1 y .height < m → Row-in with-both (suc (suc (word-at ws at-count))) (plan-of ws 2 y)
   row-both zero top l = absurd (omega arith)
   row-both (suc g) top l = element-row ws (said ws) (said-now h) y (store-accepted ws 1 y (h .accepted)) g top l
 
   pub both-put : Put-fits us (n + 2) r p w l
   both-put =
-      let few : suc (suc (word-at ws 4)) ≤ most-tags = rw (h .tags) at (room-for-two h .few) in
-      let levels : word-at us 3 ≤ 22 = rw (end-put, added-header 3 (omega arith) vs (n + 1) n n u 2 (λ e. omega arith) (λ e. omega arith)) (levels-kept h put) in
+      let few : suc (suc (word-at ws at-count)) ≤ most-tags = rw (h .tags) at (room-for-two h .few) in
+      let levels : word-at us at-height ≤ 22 = rw (end-put, added-header 3 (omega arith) vs (n + 1) n n u 2 (λ e. omega arith) (λ e. omega arith)) (levels-kept h put) in
       rw (more-by-two n) (record {
-        plan = rw (both-are, h .tags, h .degree, h .plan, h .widths, h .lows) (applicable ws (said-now h) 2 y (suc (suc (word-at ws 4))) with-both few (row-both (plan-of ws 2 y .height) refl lower));
+        plan = rw (both-are, h .tags, h .degree, h .plan, h .widths, h .lows) (applicable ws (said-now h) 2 y (suc (suc (word-at ws at-count))) with-both few (row-both (plan-of ws 2 y .height) refl lower));
         levels = levels;
       })
 
@@ -133,7 +132,7 @@ module _ {ws w l : List ℕ} {n y u r : ℕ} {p : Plan} (h : Ready 1 1 ws n y u 
     begun = grown at (begin-fact (said ws) y) (said ws)
 
     abbrev rest : List ℕ
-    rest = drop (words-for (suc (count (said ws)))) ws
+    rest = drop (words-for header-words (suc (count (said ws)))) ws
 
     words-begun : us ≡ words-of begun ++ rest
     words-begun = begin-edits .words-are ∙ begin-words ws (said ws) (said-now h) y (store-accepted ws 1 y (h .accepted))
@@ -156,7 +155,7 @@ module _ {ws w l : List ℕ} {n y u r : ℕ} {p : Plan} (h : Ready 1 1 ws n y u 
         }
 
     -- H at most one higher
-    under-begun : book-with at (said ws) .under ≤ word-at ws 3
+    under-begun : book-with at (said ws) .under ≤ word-at ws at-height
     under-begun =
         rw (inserted-under at (count (said ws)) (said ws .book), header-said ws (said ws) (said-now h) .levels) (go (root-full (said ws .book)))
       where
@@ -177,8 +176,8 @@ module _ {ws w l : List ℕ} {n y u r : ℕ} {p : Plan} (h : Ready 1 1 ws n y u 
         let f = ranges ws (said-now h) in
         let two = room-for-two h in
         let head = header-says begun rest in
-        let levels : word-at us 3 ≡ height (book-with at (said ws)) = rw words-begun (head .levels) in
-        let degree : word-at us 2 ≡ word-at ws 2 =
+        let levels : word-at us at-height ≡ height (book-with at (said ws)) = rw words-begun (head .levels) in
+        let degree : word-at us at-r ≡ word-at ws at-r =
         rw words-begun (head .degree-r) ∙ inserted-r at (count (said ws)) (said ws .book) ∙ sym (header-said ws (said ws) (said-now h) .degree-r) in
         let one-fewer : suc n ≤ most-tags = omega (arith, two .few) in
         record {
@@ -192,7 +191,7 @@ module _ {ws w l : List ℕ} {n y u r : ℕ} {p : Plan} (h : Ready 1 1 ws n y u 
           widths = λ i. rw (h .widths) (omega (arith, widths-most ws (said-now h) i));
           degree = h .degree ∙ sym degree;
           degree-least = rw (h .degree) (f .degrees .r-least);
-          low = rw (h .lows) (lows-at ws (said-now h) 0 (omega arith) ∙ pow-zero (word-at ws 2));
+          low = rw (h .lows) (lows-at ws (said-now h) 0 (omega arith) ∙ pow-zero (word-at ws at-r));
         }
 
     pub turn-edits : {xs : List ℕ} → xs ≡ end-edit w n u us → Edits xs m s (in-turn-edit y ws)

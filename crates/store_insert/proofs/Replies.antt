@@ -8,11 +8,11 @@ use borrow.Author.Tests.{eqb-true, eqb-false}
 use lib.Dec.{eqb}
 use lib.ListN.{length, set, drop}
 use lib.Seq.{getD-set-same}
-use Rattle.store_types.specs.Limits.{header-words}
 use Rattle.store_types.specs.declared.InsertReply.the-variants.{Inserted, Refused}
-use Rattle.tree_laws.proofs.Rows.{by-test}
+use Rattle.store_types.specs.Layout.{at-count, at-stamp, header-words, word-at}
+use Rattle.lists.proofs.Tests.{by-test}
 use Rattle.calls.specs.Insert.{insert-kinds, insert-store}
-use Rattle.calls.specs.Words.{words-of, Says, word-at, in-front}
+use Rattle.calls.specs.Words.{words-of, Says, in-front}
 use Rattle.calls.specs.Replies.{said, written, insert-outcome, insert-refused, insert-reply, insert-words}
 use Rattle.calls_laws.proofs.Fields.{header-says}
 use Rattle.calls_laws.proofs.Marks.{marked-few}
@@ -57,16 +57,16 @@ module _ (ws : List ℕ) (c y : ℕ) (z : insert-refused c y ws ≡ 0) where
     stamped-are = rw (e .words-are) (right .words-are)
 
     -- the stamp is raised by one, and fits
-    pub stamp-fits : header-words ≤ length vs → word-at vs 7 ≤ 400000
+    pub stamp-fits : header-words ≤ length vs → word-at vs at-stamp ≤ 400000
     unfolding stamped in-front insert-store Says
     stamp-fits long =
         let su = insert-store (insert-kinds c) y (said ws) in
         let own = sound-said ws (says-accepted ws c y z) in
-        let there = getD-set-same vs 7 (suc (word-at vs 7)) 0 (omega arith) in
-        let said-there = ap (λ (us : List ℕ). word-at us 7) stamped-are ∙ header-says su (drop (length (words-of su)) ws) .stamp in
+        let there = getD-set-same vs 7 (suc (word-at vs at-stamp)) 0 (omega arith) in
+        let said-there = ap (λ (us : List ℕ). word-at us at-stamp) stamped-are ∙ header-says su (drop (length (words-of su)) ws) .stamp in
         omega (arith, there, said-there, own .stamp-fits, own .few, marked-few (said ws .facts))
 
-    pub accepted-all : (Inserted (record { 0 = word-at ws 4 }) m s ≡ insert-reply c y ws) × (set vs 7 (word-at vs 7 + 1) ≡ insert-words c y ws)
+    pub accepted-all : (Inserted (record { 0 = word-at ws at-count }) m s ≡ insert-reply c y ws) × (set vs 7 (word-at vs at-stamp + 1) ≡ insert-words c y ws)
     unfolding insert-reply insert-words insert-outcome written stamped
     accepted-all =
         (rw (z, header-said ws (said ws) (says-accepted ws c y z) .issued, e .moved-is, e .split-is, right .moved-is, right .split-is), rw (z, add-one) stamped-are)

@@ -7,17 +7,17 @@ use borrow.Author.Tests.{ne-eqb, ltb-true, ltb-false}
 use lib.Dec.{ltb}
 use lib.ListN.{length, getD, length-append, List·getD-eq-default}
 use Rattle.store_types.specs.Limits.{no-tag, most-tags}
+use Rattle.lists.proofs.Tests.{by-test}
+use Rattle.store_types.specs.Layout.{words-for, Records}
 use Rattle.tree.specs.Row.{place}
-use Rattle.tree_laws.proofs.Rows.{by-test}
 use Rattle.calls.specs.Store.{next-in}
-use Rattle.calls.specs.Load.{words-for}
 use Rattle.edit_model.specs.Image.{image-words}
 use Rattle.edit_model.specs.Insert.{Plan, behind}
 use Rattle.edit_model.proofs.Image.{length-image, tag-below, record-says}
 use Rattle.edit_model.proofs.Along.{along-at}
 use Rattle.edit_model.proofs.Added.{tag-before, behind-place}
 use Rattle.edit_model.proofs.Renumbered.{Words-in, Row-in}
-use Rattle.renumber.specs.Needs.{Records, Row-there}
+use Rattle.renumber.specs.Needs.{Row-there}
 use Rattle.insert_link.specs.Needs.{Tag-or-none}
 
 module _ {us : List ℕ} {n : ℕ} (g : Words-in us n) (few : n ≤ most-tags) where

@@ -6,9 +6,10 @@ use Prim.Native.Nat.{ℕ, _+_}
 use native.Mathlib.Numerals.{add-one}
 use native.Mathlib.Omega.{arith}
 use lib.ListN.{length}
+use Rattle.store_types.specs.Layout.{at-count, word-at}
 use Rattle.calls.specs.Kind.{text, code, kind-word}
 use Rattle.calls.specs.Insert.{insert-kinds}
-use Rattle.calls.specs.Words.{Says, word-at}
+use Rattle.calls.specs.Words.{Says}
 use Rattle.calls.specs.Replies.{said}
 use Rattle.calls_laws.proofs.Inserts.{Row-accepted}
 use Rattle.edit_model.specs.Insert.{Plan, added, plan, put-words, text-edit}
@@ -34,9 +35,9 @@ module _ {ws w l : List ℕ} {n y u r : ℕ} {p : Plan} (h : Ready 3 1 ws n y u 
     pub text-put : Put-fits vs (n + 1) r p w l
     unfolding kind-word code
     text-put =
-        let levels = added-header 3 (omega arith) ws (word-at ws 4) y (word-at ws 4) u 3 (λ e. omega arith) (λ e. omega arith) in
+        let levels = added-header 3 (omega arith) ws (word-at ws at-count) y (word-at ws at-count) u 3 (λ e. omega arith) (λ e. omega arith) in
         rw (put, h .tags, add-one, h .degree, h .plan, h .widths, h .lows) (record {
-          plan = one-applicable ws text-said text [] y text-row (record { kind = text; marked = false; mate = word-at ws 4; up = u });
+          plan = one-applicable ws text-said text [] y text-row (record { kind = text; marked = false; mate = word-at ws at-count; up = u });
           levels = omega (arith, levels, ranges ws text-said .high);
         })
 

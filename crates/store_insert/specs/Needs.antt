@@ -2,7 +2,7 @@
 use mathlib.Core.Path.{_≡_}
 use mathlib.Core.List.{List}
 use Prim.Native.Nat.{ℕ, suc, pred, _≤_, _<_}
-use Rattle.calls.specs.Words.{word-at}
+use Rattle.store_types.specs.Layout.{at-r, at-height, at-count, word-at}
 use Rattle.calls.specs.Replies.{insert-refused}
 use Rattle.walk_model.specs.Levels.{entry}
 use Rattle.edit_model.specs.Insert.{Plan, Edited, up-word, widths-of, plan-of}
@@ -21,14 +21,14 @@ pub record Edits (after : List ℕ) (moved split : ℕ) (e : Edited) : Type 0 wh
 -- and H, which may be raised
 pub record Put-fits (ws : List ℕ) (n r : ℕ) (p : Plan) (w l : List ℕ) : Type 0 where
   pub plan : Applicable ws n r p w l
-  pub levels : word-at ws 3 ≤ 22
+  pub levels : word-at ws at-height ≤ 22
 
 -- an accepted insertion of kind c, as the code has read it, with its plan of k tags
 pub record Ready (c k : ℕ) (ws : List ℕ) (n y up r : ℕ) (p : Plan) (w l : List ℕ) : Type 0 where
   pub accepted : insert-refused c y ws ≡ 0
-  pub tags : n ≡ word-at ws 4
+  pub tags : n ≡ word-at ws at-count
   pub up-is : up ≡ up-word ws y
-  pub degree : r ≡ word-at ws 2
+  pub degree : r ≡ word-at ws at-r
   pub plan : p ≡ plan-of ws k y
   pub widths : w ≡ widths-of ws
   pub lows : l ≡ lows-of ws
@@ -39,9 +39,9 @@ Both-ready ws n y u r p w l = Ready 1 2 ws n y u r p w l × (plan-of ws 1 y .hei
 -- an end goes in behind its begin n, in words that hold the begin
 pub record End-fits (ws : List ℕ) (n r : ℕ) (w l : List ℕ) : Type 0 where
   pub tag : Tag-fits ws (suc n) n
-  pub levels : 1 ≤ word-at ws 3
-  pub ancestors : Ancestors-fit (pred (word-at ws 3)) w
+  pub levels : 1 ≤ word-at ws at-height
+  pub ancestors : Ancestors-fit (pred (word-at ws at-height)) w
   pub widths : (h : ℕ) → entry w h ≤ table-limit
-  pub degree : r ≡ word-at ws 2
+  pub degree : r ≡ word-at ws at-r
   pub degree-least : 2 ≤ r
   pub low : entry l 0 ≡ 1

@@ -3,7 +3,7 @@ use mathlib.Core.Bool.{cond}
 use mathlib.Core.List.{List}
 use Prim.Native.Nat.{ℕ}
 use lib.Dec.{eqb}
-use Rattle.calls.specs.Words.{word-at}
+use Rattle.store_types.specs.Layout.{at-r, at-height, word-at}
 use Rattle.walk_model.specs.Walk.{table}
 use Rattle.edit_model.specs.Insert.{Edited, text-edit, element-edit}
 
@@ -12,4 +12,4 @@ unfoldable pub call-edit : (kind place : ℕ) → List ℕ → Edited
 call-edit c y ws = let element = element-edit y ws in let text = text-edit y ws in cond (eqb c 1) element text
 
 unfoldable pub lows-of : List ℕ → List ℕ
-lows-of ws = table 1 (word-at ws 2) (word-at ws 3)
+lows-of ws = table 1 (word-at ws at-r) (word-at ws at-height)

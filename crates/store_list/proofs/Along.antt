@@ -8,9 +8,11 @@ use lib.Dec.{ltb}
 use lib.ListN.{length, getD, List·getD-eq-default}
 use lib.Seq.{slice, slice-empty, slice-cons, length-slice}
 use Rattle.store_types.specs.Limits.{no-tag, most-tags}
-use Rattle.tree_laws.proofs.Rows.{by-test, place-le, member-of-place, place-getD}
+use Rattle.lists.proofs.Tests.{by-test}
+use Rattle.store_types.specs.Layout.{at-next, at-kind, field}
+use Rattle.tree_laws.proofs.Rows.{place-le, member-of-place, place-getD}
 use Rattle.calls.specs.Store.{Store, fact, row, place-of, next-in}
-use Rattle.calls.specs.Words.{Says, field}
+use Rattle.calls.specs.Words.{Says}
 use Rattle.calls.specs.Replies.{said}
 use Rattle.calls_laws.proofs.Tests.{Sound}
 use Rattle.calls_laws.proofs.Sections.{distinct-row, row-below, is-tag}
@@ -53,14 +55,14 @@ module _ {ws : List ℕ} {x y : ℕ} (h : Span-said ws x y) (on : x ≡ y → �
   pub tag-on : Tag-said ws x
   tag-on = record { says = h .says; tag = row-below sound-here x (member-of-place x (row (said ws)) in-row) }
 
-  next-there : field ws x 1 ≡ getD (row (said ws)) (suc (place-of (said ws) x)) no-tag
+  next-there : field ws x at-next ≡ getD (row (said ws)) (suc (place-of (said ws) x)) no-tag
   unfolding next-in
   next-there = words-of-tag tag-on .next-word
 
-  pub place-next : place-of (said ws) (field ws x 1) ≡ suc (place-of (said ws) x)
+  pub place-next : place-of (said ws) (field ws x at-next) ≡ suc (place-of (said ws) x)
   place-next = rw next-there (place-there sound-here (suc (place-of (said ws) x)) in-row)
 
-  pub span-next : Span-said ws (field ws x 1) y
+  pub span-next : Span-said ws (field ws x at-next) y
   span-next =
       record {
         says = h .says;
@@ -81,13 +83,13 @@ unmarked-fewer st (d ∷ ds) =
     by-test (fact st d .marked) (λ m. rw m (omega (arith, unmarked-fewer st ds))) (λ m. rw m (omega (arith, unmarked-fewer st ds)))
 
 -- of one tag, by its kind word
-pub one-marked : {ws : List ℕ} {x : ℕ} → Tag-said ws x → 16 ≤ field ws x 5 → unmarked (said ws) (x ∷ []) ≡ []
+pub one-marked : {ws : List ℕ} {x : ℕ} → Tag-said ws x → 16 ≤ field ws x at-kind → unmarked (said ws) (x ∷ []) ≡ []
 unfolding unmarked
-one-marked {ws} {x} h m = rw (sym (kind-of-tag h .marks) ∙ le-leb 16 (field ws x 5) m)
+one-marked {ws} {x} h m = rw (sym (kind-of-tag h .marks) ∙ le-leb 16 (field ws x at-kind) m)
 
-pub one-unmarked : {ws : List ℕ} {x : ℕ} → Tag-said ws x → field ws x 5 < 16 → unmarked (said ws) (x ∷ []) ≡ x ∷ []
+pub one-unmarked : {ws : List ℕ} {x : ℕ} → Tag-said ws x → field ws x at-kind < 16 → unmarked (said ws) (x ∷ []) ≡ x ∷ []
 unfolding unmarked
-one-unmarked {ws} {x} h m = rw (sym (kind-of-tag h .marks) ∙ lt-leb 16 (field ws x 5) m)
+one-unmarked {ws} {x} h m = rw (sym (kind-of-tag h .marks) ∙ lt-leb 16 (field ws x at-kind) m)
 
 pub between-few : (ws : List ℕ) (x y : ℕ) → Says ws (said ws) → length (unmarked-between (said ws) x y) ≤ most-tags
 unfolding unmarked-between
@@ -108,7 +110,7 @@ unfolding unmarked-between unmarked
 between-done st x = rw (slice-empty (place-of st x) (row st))
 
 pub between-next : {ws : List ℕ} {x y : ℕ} (h : Span-said ws x y) → (x ≡ y → ⊥) →
-    unmarked-between (said ws) x y ≡ unmarked (said ws) (x ∷ []) ++ unmarked-between (said ws) (field ws x 1) y
+    unmarked-between (said ws) x y ≡ unmarked (said ws) (x ∷ []) ++ unmarked-between (said ws) (field ws x at-next) y
 unfolding unmarked-between
 between-next {ws} {x} {y} h on =
     let st = said ws in

@@ -8,10 +8,11 @@ use borrow.Author.Tests.{le-leb, lt-leb, leb-false, ne-eqb}
 use lib.Dec.{ltb, leb, eqb}
 use lib.ListN.{length}
 use Rattle.store_types.specs.Limits.{no-tag}
+use Rattle.store_types.specs.Layout.{at-count, at-kind, word-at, field}
 use Rattle.calls.specs.Kind.{is-begin}
 use Rattle.calls.specs.Store.{Store, fact, count}
 use Rattle.calls.specs.Listing.{listed-tags, list-refusal}
-use Rattle.calls.specs.Words.{Says, word-at, field}
+use Rattle.calls.specs.Words.{Says}
 use Rattle.calls.specs.Replies.{refusal-over, said}
 use Rattle.store_refuse.specs.Needs.{Tag-said}
 use Rattle.store_list.specs.Needs.{inside-else, inside-refusal}
@@ -72,21 +73,21 @@ module _ (ws : List ℕ) (x : ℕ) where
   inside-front says t = refused-said ws (inside-refusal x) says ∙ rw t
 
   module _ (other : eqb x no-tag ≡ false) where
-    pub inside-unknown : Says ws (said ws) → word-at ws 4 ≤ x → refusal-over ws (inside-refusal x) ≡ 8
+    pub inside-unknown : Says ws (said ws) → word-at ws at-count ≤ x → refusal-over ws (inside-refusal x) ≡ 8
     unfolding inside-refusal inside-else
     inside-unknown says l = refused-said ws (inside-refusal x) says ∙ rw (other, no-tag-from ws says x l)
 
-    inside-tag : Tag-said ws x → refusal-over ws (inside-refusal x) ≡ cond (leb 16 (field ws x 5)) 9 (cond (not (eqb (field ws x 5 % 16) 1)) 10 0)
+    inside-tag : Tag-said ws x → refusal-over ws (inside-refusal x) ≡ cond (leb 16 (field ws x at-kind)) 9 (cond (not (eqb (field ws x at-kind % 16) 1)) 10 0)
     unfolding inside-refusal inside-else
     inside-tag h =
         refused-said ws (inside-refusal x) (h .says)
         ∙ rw (other, lt-leb (count (said ws)) x (h .tag), kind-of-tag h .marks, kind-of-tag h .begins)
 
-    pub inside-marked : Tag-said ws x → 16 ≤ field ws x 5 → refusal-over ws (inside-refusal x) ≡ 9
-    inside-marked h m = inside-tag h ∙ rw (le-leb 16 (field ws x 5) m)
+    pub inside-marked : Tag-said ws x → 16 ≤ field ws x at-kind → refusal-over ws (inside-refusal x) ≡ 9
+    inside-marked h m = inside-tag h ∙ rw (le-leb 16 (field ws x at-kind) m)
 
-    pub inside-no-begin : Tag-said ws x → field ws x 5 < 16 → (field ws x 5 ≡ 1 → ⊥) → refusal-over ws (inside-refusal x) ≡ 10
-    inside-no-begin h m n = inside-tag h ∙ rw (lt-leb 16 (field ws x 5) m, ne-eqb (field ws x 5 % 16) 1 (λ e. n (omega arith)))
+    pub inside-no-begin : Tag-said ws x → field ws x at-kind < 16 → (field ws x at-kind ≡ 1 → ⊥) → refusal-over ws (inside-refusal x) ≡ 10
+    inside-no-begin h m n = inside-tag h ∙ rw (lt-leb 16 (field ws x at-kind) m, ne-eqb (field ws x at-kind % 16) 1 (λ e. n (omega arith)))
 
-    pub inside-accepted : Tag-said ws x → field ws x 5 < 16 → field ws x 5 ≡ 1 → refusal-over ws (inside-refusal x) ≡ 0
-    inside-accepted h m e = inside-tag h ∙ rw (lt-leb 16 (field ws x 5) m, e)
+    pub inside-accepted : Tag-said ws x → field ws x at-kind < 16 → field ws x at-kind ≡ 1 → refusal-over ws (inside-refusal x) ≡ 0
+    inside-accepted h m e = inside-tag h ∙ rw (lt-leb 16 (field ws x at-kind) m, e)

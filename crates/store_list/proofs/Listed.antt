@@ -9,13 +9,15 @@ use lib.Dec.{ltb, eqb}
 use lib.ListN.{length, take, drop, take-append-drop, List·getD-eq-default}
 use lib.Seq.{slice, take-length, take-take, length-take-le, length-slice}
 use Rattle.store_types.specs.Limits.{no-tag}
+use Rattle.lists.proofs.Tests.{by-test}
+use Rattle.store_types.specs.Layout.{at-first, at-next, at-mate, word-at, field}
 use Rattle.tree.specs.Row.{member}
-use Rattle.tree_laws.proofs.Rows.{by-test, member-first, member-later, member-append, place-le, place-of-member, getD-place}
+use Rattle.tree_laws.proofs.Rows.{member-first, member-later, member-append, place-le, place-of-member, getD-place}
 use Rattle.calls.specs.Kind.{is-begin}
 use Rattle.calls.specs.Store.{Store, fact, row, place-of, next-in}
 use Rattle.calls.specs.Held.{encloses}
 use Rattle.calls.specs.Listing.{is-listed, listed-of, listed-tags}
-use Rattle.calls.specs.Words.{Says, word-at, field}
+use Rattle.calls.specs.Words.{Says}
 use Rattle.calls.specs.Replies.{refusal-over, said}
 use Rattle.calls_laws.proofs.Tests.{Sound}
 use Rattle.calls_laws.proofs.Nesting.{Step, begins, ends, stands}
@@ -145,11 +147,11 @@ module _ (ws : List ℕ) (x : ℕ) (e : refusal-over ws (inside-refusal x) ≡ 0
   begin-tag t =
       accepted-inside x (said ws) ok-here (λ front. absurd (true≢false (sym front ∙ t))) (λ inner. record { says = says-here; tag = inner .tag })
 
-  pub first-front : eqb x no-tag ≡ true → word-at ws 5 ≡ first-inside x (said ws)
+  pub first-front : eqb x no-tag ≡ true → word-at ws at-first ≡ first-inside x (said ws)
   unfolding first-inside
   first-front t = header-said ws (said ws) says-here .first ∙ rw t
 
-  pub first-behind : (t : eqb x no-tag ≡ false) → field ws x 1 ≡ first-inside x (said ws)
+  pub first-behind : (t : eqb x no-tag ≡ false) → field ws x at-next ≡ first-inside x (said ws)
   unfolding first-inside
   first-behind t = words-of-tag (begin-tag t) .next-word ∙ rw t
 
@@ -157,6 +159,6 @@ module _ (ws : List ℕ) (x : ℕ) (e : refusal-over ws (inside-refusal x) ≡ 0
   unfolding stop-of
   stop-behind t = rw t (eqb-true x no-tag t)
 
-  pub stop-mate : (t : eqb x no-tag ≡ false) → field ws x 3 ≡ stop-of x (said ws)
+  pub stop-mate : (t : eqb x no-tag ≡ false) → field ws x at-mate ≡ stop-of x (said ws)
   unfolding stop-of
   stop-mate t = words-of-tag (begin-tag t) .mate-word ∙ rw t

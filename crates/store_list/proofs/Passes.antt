@@ -7,15 +7,16 @@ use native.Mathlib.Omega.{arith}
 use lib.ListN.{length, set, length-append, length-map}
 use lib.Seq.{sets, sets-eq, length-sets}
 use Rattle.store_types.specs.Limits.{most-tags}
+use Rattle.store_types.specs.Layout.{at-next, field}
 use Rattle.calls.specs.Store.{place-of, label}
-use Rattle.calls.specs.Words.{field, in-front}
+use Rattle.calls.specs.Words.{in-front}
 use Rattle.calls.specs.Replies.{said}
 use Rattle.store_list.specs.Needs.{Span-said, unmarked, unmarked-between}
 use Rattle.store_list.proofs.Along.{not-last, place-next, span-next, between-few, between-next, between-done}
 
 -- each turn comes nearer to the end
 pub pass-falls : {ws : List ℕ} {x y : ℕ} → Span-said ws x y → (x ≡ y → ⊥) →
-    place-of (said ws) y - place-of (said ws) (field ws x 1) < place-of (said ws) y - place-of (said ws) x
+    place-of (said ws) y - place-of (said ws) (field ws x at-next) < place-of (said ws) y - place-of (said ws) x
 pass-falls h on = omega (arith, not-last h on, place-next h on)
 
 -- COUNTING from x₀ to y: at x, after k unmarked tags
@@ -28,11 +29,11 @@ counting-start h = record { span = h; rest = omega arith }
 
 -- what is found here, and then further on
 length-next : {ws : List ℕ} {x y : ℕ} → Span-said ws x y → (x ≡ y → ⊥) →
-    length (unmarked-between (said ws) x y) ≡ length (unmarked (said ws) (x ∷ [])) + length (unmarked-between (said ws) (field ws x 1) y)
-length-next {ws} {x} {y} h on = rw (between-next h on) (length-append (unmarked (said ws) (x ∷ [])) (unmarked-between (said ws) (field ws x 1) y))
+    length (unmarked-between (said ws) x y) ≡ length (unmarked (said ws) (x ∷ [])) + length (unmarked-between (said ws) (field ws x at-next) y)
+length-next {ws} {x} {y} h on = rw (between-next h on) (length-append (unmarked (said ws) (x ∷ [])) (unmarked-between (said ws) (field ws x at-next) y))
 
 pub counting-turn : {ws : List ℕ} {x₀ y x k : ℕ} → Counting ws x₀ y x k → (x ≡ y → ⊥) →
-    Counting ws x₀ y (field ws x 1) (k + length (unmarked (said ws) (x ∷ [])))
+    Counting ws x₀ y (field ws x at-next) (k + length (unmarked (said ws) (x ∷ [])))
 counting-turn h on = record { span = span-next (h .span) on; rest = omega (arith, h .rest, length-next (h .span) on) }
 
 -- no more are counted than there may be tags
@@ -98,11 +99,11 @@ module _ {ws : List ℕ} {x₀ y x i : ℕ} {ts₀ ls₀ ts ls : List ℕ} (h : 
       omega (arith, h .labels .fits, length-map (unmarked-between (said ws) x y) (label (said ws)), length-next (h .span) on)
 
   pub writing-turn : (x ≡ y → ⊥) →
-      Writing ws x₀ y (field ws x 1) (i + length (unmarked (said ws) (x ∷ []))) ts₀ ls₀ (sets ts i (unmarked (said ws) (x ∷ [])))
+      Writing ws x₀ y (field ws x at-next) (i + length (unmarked (said ws) (x ∷ []))) ts₀ ls₀ (sets ts i (unmarked (said ws) (x ∷ [])))
       (sets ls i (map (label (said ws)) (unmarked (said ws) (x ∷ []))))
   writing-turn on =
       let us = unmarked (said ws) (x ∷ []) in
-      let vs = unmarked-between (said ws) (field ws x 1) y in
+      let vs = unmarked-between (said ws) (field ws x at-next) y in
       let f = label (said ws) in
       record {
         span = span-next (h .span) on;

@@ -9,17 +9,20 @@ use native.Mathlib.Omega.{arith}
 use borrow.Author.Tests.{lt-ltb, ltb-true, ltb-false}
 use lib.Dec.{ltb, eqb·suc-zero}
 use lib.ListN.{length, getD, take, drop, replicate, length-replicate, getD-replicate, take-append-drop, List·getD-append, List·getD-eq-default}
-use lib.Seq.{length-take-le, getD-take, drop-append-add, drop-drop}
-use Rattle.store_types.specs.Limits.{no-tag, header-words, tag-words}
-use Rattle.tree.specs.Row.{numbers, place}
-use Rattle.tree_laws.proofs.Rows.{by-test, length-numbers, getD-numbers, distinct-numbers, place-getD, all-below-numbers}
+use lib.Seq.{length-take-le, drop-append-add, drop-drop}
+use Rattle.store_types.specs.Limits.{no-tag}
+use Rattle.store_types.specs.Layout.{header-words, label-words, tag-words, word-at, words-for, field, label-at}
+use Rattle.lists.proofs.Tests.{by-test}
+use Rattle.lists.specs.Lists.{numbers}
+use Rattle.lists.proofs.Numbers.{length-numbers, getD-numbers}
+use Rattle.words.proofs.Fields.{header-fits, word-take, field-take, label-take, fields-tell, by-field}
+use Rattle.tree.specs.Row.{place}
+use Rattle.tree_laws.proofs.Rows.{distinct-numbers, place-getD, all-below-numbers}
 use Rattle.calls.specs.Store.{next-in, prior-in}
-use Rattle.calls.specs.Load.{words-for}
-use Rattle.calls.specs.Words.{word-at, field, in-front}
+use Rattle.calls.specs.Words.{in-front}
 use Rattle.calls_laws.proofs.WordSteps.{length-in-front}
 use Rattle.edit_model.specs.Image.{Image, image-header, image-record, image-words}
-use Rattle.edit_model.proofs.Fields.{fields-tell}
-use Rattle.edit_model.proofs.Image.{Proper, length-image, image-field, image-header-word}
+use Rattle.edit_model.proofs.Image.{Proper, length-image, own-label, own-field, image-header-word}
 use Rattle.load_tags.specs.Tags.{next-number, prior-number, facts-new, Tags-written}
 use Rattle.store_load.specs.Labels.{first-number, header-new}
 use Rattle.load_tags.proofs.Row.{count-new}
@@ -78,41 +81,41 @@ module _ (s r h b : ℕ) (cs : List ℕ) where
   header-is = rw (count-new cs, first-is (length cs))
 
   -- what the header and the tags leave over words ws
-  module _ (ws vs : List ℕ) (room : words-for (length cs) ≤ length ws) (t : Tags-written (in-front (header-new s r h (length cs) b) ws) vs cs) where
+  module _ (ws vs : List ℕ) (room : words-for header-words (length cs) ≤ length ws) (t : Tags-written (in-front (header-new s r h (length cs) b) ws) vs cs) where
     header-word : (i : ℕ) → i < header-words → word-at vs i ≡ word-at (image-header (blank s r h b cs)) i
     unfolding in-front header-new
     header-word i l = t .around .header i l ∙ List·getD-append (header-new s r h (length cs) b) (drop header-words ws) 0 i l ∙ rw header-is
 
-    record-word : (x k : ℕ) → x < length cs → k < tag-words → field vs x k ≡ getD (image-record (blank s r h b cs) x) k 0
-    unfolding image-record
-    record-word x zero l f = t .places x l .label-word ∙ sym (getD-replicate (length cs) _ 0 0 (rw (place-is (length cs) x l) l))
-    record-word x (suc zero) l f = t .places x l .next-word ∙ sym (next-is (length cs) x l)
-    record-word x (suc (suc zero)) l f = t .places x l .prior-word ∙ sym (prior-is (length cs) x l)
-    record-word x (suc (suc (suc zero))) l f = t .mates x l
-    record-word x (suc (suc (suc (suc zero)))) l f = t .places x l .up-word
-    record-word x (suc (suc (suc (suc (suc zero))))) l f = t .places x l .kind-is
-    record-word x (suc (suc (suc (suc (suc (suc k)))))) l f = absurd (omega arith)
+    first-label : (x : ℕ) → x < length cs → label-at vs x ≡ getD (blank s r h b cs .labels) (place x (blank s r h b cs .tags)) 0
+    first-label x l = t .places x l .label-word ∙ sym (getD-replicate (length cs) _ 0 0 (rw (place-is (length cs) x l) l))
 
-    front : take (words-for (length cs)) vs ≡ image-words (blank s r h b cs)
-    unfolding words-for field header-new
+    record-word : (x : ℕ) → x < length cs → (k : ℕ) → label-words ≤ k → k < tag-words → field vs x k ≡ getD (image-record (blank s r h b cs) x) k 0
+    unfolding image-record
+    record-word x l =
+        let p = t .places x l in
+        by-field (λ k. field vs x k ≡ getD (image-record (blank s r h b cs) x) k 0)
+        (p .next-word ∙ sym (next-is (length cs) x l)) (p .prior-word ∙ sym (prior-is (length cs) x l)) (t .mates x l) (p .up-word) (p .kind-is)
+
+    front : take (words-for header-words (length cs)) vs ≡ image-words (blank s r h b cs)
+    unfolding header-new
     front =
         let n = length cs in
         let v = blank s r h b cs in
         let own = append-nil (image-words v) in
-        let size : length vs ≡ length ws = t .around .size ∙ length-in-front (header-new s r h n b) ws (omega arith) in
-        fields-tell n (take (words-for n) vs) (image-words v) (length-take-le (words-for n) vs (omega arith)) (length-image v ∙ rw (count-new cs))
-        (λ i l. getD-take (words-for n) vs i 0 (omega arith) ∙ header-word i l ∙ sym (rw own at (image-header-word v [] i l)))
-        (λ x k l f.
-        getD-take (words-for n) vs (header-words + tag-words * x + k) 0 (omega arith)
-        ∙ record-word x k l f
-        ∙ sym (rw own at (image-field v [] x k (rw (count-new cs) l) f)))
+        let size : length vs ≡ length ws = t .around .size ∙ length-in-front (header-new s r h n b) ws (omega (arith, header-fits n)) in
+        let long : words-for header-words n ≤ length vs = omega arith in
+        let issued : (x : ℕ) → x < n → x < length (v .facts) = λ x l. rw (count-new cs) l in
+        fields-tell n (take (words-for header-words n) vs) (image-words v) (length-take-le (words-for header-words n) vs long) (length-image v ∙ rw (count-new cs))
+        (λ i l. word-take n vs long i l ∙ header-word i l ∙ sym (rw own at (image-header-word v [] i l)))
+        (λ x l. label-take n vs long x l ∙ first-label x l ∙ sym (own-label v x (issued x l)))
+        (λ x k l past f. field-take n vs long x k l f ∙ record-word x l k past f ∙ sym (own-field v x k (issued x l) f))
 
-    behind : drop (words-for (length cs)) vs ≡ drop (words-for (length cs)) ws
+    behind : drop (words-for header-words (length cs)) vs ≡ drop (words-for header-words (length cs)) ws
     unfolding words-for in-front header-new
     behind =
         t .around .rest
         ∙ drop-append-add (header-new s r h (length cs) b) (drop header-words ws) (tag-words * length cs)
         ∙ drop-drop (tag-words * length cs) header-words ws
 
-    pub blank-words : vs ≡ image-words (blank s r h b cs) ++ drop (words-for (length cs)) ws
-    blank-words = sym (take-append-drop (words-for (length cs)) vs) ∙ rw (front, behind)
+    pub blank-words : vs ≡ image-words (blank s r h b cs) ++ drop (words-for header-words (length cs)) ws
+    blank-words = sym (take-append-drop (words-for header-words (length cs)) vs) ∙ rw (front, behind)

@@ -5,7 +5,7 @@ use Prim.Native.Nat.{ℕ, _≤_}
 use native.Mathlib.Nat.{zero-add}
 use lib.ListN.{length}
 use lib.Seq.{sets, sets-eq}
-use Rattle.store_types.specs.Limits.{header-words}
+use Rattle.store_types.specs.Layout.{header-words}
 use Rattle.calls.specs.Words.{in-front}
 use Rattle.store_load.specs.Labels.{first-number, header-new}
 

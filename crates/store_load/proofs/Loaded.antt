@@ -9,14 +9,16 @@ use lib.Dec.{ltb}
 use lib.ListN.{length, getD, take, drop, replicate, length-replicate, drop-of-length-le}
 use lib.Seq.{take-all}
 use Rattle.store_types.specs.Limits.{no-tag, word-limit, most-tags, label-limit}
-use Rattle.tree.specs.Row.{numbers}
+use Rattle.lists.proofs.Tests.{by-test}
+use Rattle.store_types.specs.Layout.{header-words, words-for}
+use Rattle.lists.specs.Lists.{numbers}
+use Rattle.lists.proofs.Numbers.{length-numbers, getD-numbers}
 use Rattle.tree.specs.Forest.{labels, spread}
 use Rattle.tree.specs.Book.{base, power-width, load-under, loaded}
 use Rattle.tree.specs.Promise.{Labels-rise}
-use Rattle.tree_laws.proofs.Rows.{by-test, length-numbers, getD-numbers}
 use Rattle.tree_laws.proofs.Labels.{length-labels, rising-of, rising-below, labels-rise, power-widths}
 use Rattle.tree_laws.proofs.Load.{tags-loaded, size-loaded, sane-loaded}
-use Rattle.calls.specs.Load.{words-for, load-store}
+use Rattle.calls.specs.Load.{load-store}
 use Rattle.calls.specs.Words.{words-of, follow}
 use Rattle.calls_laws.proofs.Steps.{Load-accepted}
 use Rattle.walk_model.specs.Levels.{entry}
@@ -55,7 +57,7 @@ module _ (s r h b : ℕ) (cs rest : List ℕ) where
       ∙ take-all n (numbers 0 n) (rw length-numbers (omega arith)))
       (λ e. let none : n ≡ 0 = omega (arith, ltb-false 0 n e) in rw none)
 
-  pub row-there : length cs ≤ most-tags → words-for (length cs) ≤ length words → Row-there words (length cs) 0 (length cs)
+  pub row-there : length cs ≤ most-tags → words-for header-words (length cs) ≤ length words → Row-there words (length cs) 0 (length cs)
   unfolding words-for
   row-there few long =
       record { records = record { few = few; long = long }; most = few; below = λ i l. rw (along-row i l) l }

@@ -8,14 +8,16 @@ use native.Mathlib.Omega.{arith}
 use borrow.Author.Tests.{ltb-false, not-false, lt-ltb, le-ltb, leb-true, leb-false}
 use lib.Dec.{ltb}
 use lib.ListN.{length, drop, length-append}
-use Rattle.store_types.specs.Limits.{header-words, most-tags, label-limit}
+use Rattle.store_types.specs.Limits.{most-tags, label-limit}
 use Rattle.store_types.specs.declared.LoadReply.the-variants as load
+use Rattle.store_types.specs.Layout.{header-words, words-for}
+use Rattle.words.proofs.Fields.{header-fits}
 use Rattle.tree.specs.Book.{base, power-width, load-under, loaded}
 use Rattle.tree_laws.proofs.Load.{load-least}
 use Rattle.calls.specs.Kind.{kind-of}
 use Rattle.calls.specs.Nesting.{nests}
 use Rattle.calls.specs.Sound.{degrees-fit}
-use Rattle.calls.specs.Load.{words-for, all-kinds, load-refusal, load-store}
+use Rattle.calls.specs.Load.{all-kinds, load-refusal, load-store}
 use Rattle.calls.specs.Words.{words-of, in-front}
 use Rattle.calls.specs.Replies.{written, load-outcome, load-reply, load-words}
 use Rattle.calls_laws.proofs.Tests.{passes, Degrees, degrees-of}
@@ -37,7 +39,7 @@ use Rattle.store_load.proofs.Loaded.{row-there, loaded-words}
 pub record Passed (w s r : ℕ) (cs : List ℕ) : Type 0 where
   pub degrees : Degrees s r
   pub few : length cs ≤ most-tags
-  pub room : words-for (length cs) ≤ w
+  pub room : words-for header-words (length cs) ≤ w
   pub kinds : all-kinds cs ≡ true
   pub nesting : nests 0 (map kind-of cs) ≡ true
   pub last : load-refusal w s r cs ≡ cond (ltb label-limit (power-width s r (suc (load-under r (length cs))))) 7 0
@@ -49,7 +51,7 @@ module _ (w s r : ℕ) (cs : List ℕ) where
       let n = length cs in
       let a = passes (not (degrees-fit s r)) 2 _ e in
       let b = passes (ltb most-tags n) 5 _ (a .1) in
-      let c = passes (ltb w (words-for n)) 0 _ (b .1) in
+      let c = passes (ltb w (words-for header-words n)) 0 _ (b .1) in
       let d = passes (not (all-kinds cs)) 3 _ (c .1) in
       let f = passes (not (nests 0 (map kind-of cs))) 4 0 (d .1) in
       record {
@@ -65,7 +67,7 @@ module _ (w s r : ℕ) (cs : List ℕ) where
   pub early : (q : ℕ) → refusal-before w s r cs ≡ q → (q ≡ 0 → ⊥) → load-refusal w s r cs ≡ q
   unfolding refusal-before kinds-refusal load-refusal
   early q e some =
-      go (not (degrees-fit s r)) (ltb most-tags (length cs)) (ltb w (words-for (length cs))) (not (all-kinds cs)) (not (nests 0 (map kind-of cs))) _ e
+      go (not (degrees-fit s r)) (ltb most-tags (length cs)) (ltb w (words-for header-words (length cs))) (not (all-kinds cs)) (not (nests 0 (map kind-of cs))) _ e
     where
       go : (a b c d f : Bool) (last : ℕ) → cond a 3 (cond b 6 (cond c 1 (cond d 4 (cond f 5 0)))) ≡ q →
           cond a 3 (cond b 6 (cond c 1 (cond d 4 (cond f 5 last)))) ≡ q
@@ -99,15 +101,13 @@ refused-with s r b cs ws (suc k) e some = (rw e, rw e)
 
 -- the header has room, and behind it the tags
 pub header-room : {w s r : ℕ} {cs : List ℕ} → Passed w s r cs → header-words ≤ w
-unfolding words-for
-header-room h = omega (arith, h .room)
+header-room {cs = cs} h = omega (arith, h .room, header-fits (length cs))
 
 pub tags-fit : (s r u b : ℕ) (cs ws hs : List ℕ) → Passed (length ws) s r cs → hs ≡ in-front (header-new s r u (length cs) b) ws → Tags-fit hs cs
 unfolding header-new
 tags-fit s r u b cs ws hs h e =
     record {
-      few = h .few;
-      long = rw (e, length-in-front (header-new s r u (length cs) b) ws (header-room h)) (h .room);
+      records = record { few = h .few; long = rw (e, length-in-front (header-new s r u (length cs) b) ws (header-room h)) (h .room) };
       kinds = h .kinds;
       nesting = h .nesting;
     }
@@ -118,16 +118,16 @@ module _ (s r b : ℕ) (cs ws : List ℕ) (u : ℕ) (height : u ≡ load-under r
   unfolding load-reply load-outcome loaded
   replied = rw (none, height, add-one)
 
-  new-words : words-of (load-store s r b cs) ++ drop (words-for (length cs)) ws ≡ load-words s r b cs ws
+  new-words : words-of (load-store s r b cs) ++ drop (words-for header-words (length cs)) ws ≡ load-words s r b cs ws
   unfolding load-words written in-front load-store
-  new-words = rw none (ap (λ (k : ℕ). words-of (load-store s r b cs) ++ drop k ws) (sym (length-words (load-store s r b cs) ∙ ap words-for (count-new cs))))
+  new-words = rw none (ap (λ (k : ℕ). words-of (load-store s r b cs) ++ drop k ws) (sym (length-words (load-store s r b cs) ∙ ap (words-for header-words) (count-new cs))))
 
   accepted : Load-accepted (length ws) s r cs
   accepted = accepted-load (length ws) s r cs none
 
   -- behind the header and the tags the labels may be written, and then all is
   module _ (hs vs : List ℕ) (head : hs ≡ in-front (header-new s r (u + 1) (length cs) b) ws) (t : Tags-written hs vs cs) where
-    is-blank : vs ≡ image-words (blank s r (suc (load-under r (length cs))) b cs) ++ drop (words-for (length cs)) ws
+    is-blank : vs ≡ image-words (blank s r (suc (load-under r (length cs))) b cs) ++ drop (words-for header-words (length cs)) ws
     is-blank = blank-words s r (suc (load-under r (length cs))) b cs ws vs (accepted .room) (rw (head, height, add-one) at t)
 
     pub labels-fit : Labels-fit vs s r (length cs) u
@@ -135,8 +135,8 @@ module _ (s r b : ℕ) (cs ws : List ℕ) (u : ℕ) (height : u ≡ load-under r
         let a = accepted in
         let n = length cs in
         let v = blank s r (suc (load-under r n)) b cs in
-        let rest = drop (words-for n) ws in
-        let size : length (image-words v) ≡ words-for n = length-image v ∙ ap words-for (count-new cs) in
+        let rest = drop (words-for header-words n) ws in
+        let size : length (image-words v) ≡ words-for header-words n = length-image v ∙ ap (words-for header-words) (count-new cs) in
         rw height (record {
           row = rw is-blank (row-there s r (suc (load-under r n)) b cs rest (a .few) (omega (arith, length-append (image-words v) rest)));
           s-least = a .degrees .s-least;
@@ -148,4 +148,4 @@ module _ (s r b : ℕ) (cs ws : List ℕ) (u : ℕ) (height : u ≡ load-under r
         })
 
     pub all-written : labels-written vs s r (length cs) u ≡ load-words s r b cs ws
-    all-written = rw (height, is-blank) (loaded-words ws s r b cs (drop (words-for (length cs)) ws) accepted ∙ new-words)
+    all-written = rw (height, is-blank) (loaded-words ws s r b cs (drop (words-for header-words (length cs)) ws) accepted ∙ new-words)

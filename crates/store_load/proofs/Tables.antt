@@ -4,6 +4,7 @@ use mathlib.Core.List.{List}
 use Prim.Native.Nat.{ℕ, suc, _*_, _-_, _^_, _≤_}
 use native.Mathlib.Nat.{one-mul, mul-le-mul-left, pow-le-pow-right}
 use native.Mathlib.Omega.{arith}
+use Rattle.store_types.specs.Layout.{words-for}
 use Rattle.tree.specs.Book.{base, power-width}
 use Rattle.walk_model.specs.Walk.{table}
 use Rattle.walk_levels.specs.Needs.{Table-fits}
@@ -24,7 +25,7 @@ lower v b u h =
 module _ (ws : List ℕ) (s r n u : ℕ) (h : Labels-fit ws s r n u) where
   -- the header of a store of this height with no tags passes
   frame-of : Frame (header-new s r (suc u) 0 0)
-  unfolding header-new power-width base
+  unfolding header-new power-width base words-for
   frame-of =
       record {
         header = omega arith;
@@ -33,8 +34,7 @@ module _ (ws : List ℕ) (s r n u : ℕ) (h : Labels-fit ws s r n u) where
         r-low = h .r-least;
         r-high = h .r-most;
         low = omega arith;
-        few = omega arith;
-        long = omega arith;
+        records = record { few = omega arith; long = omega arith };
         power = h .powers;
       }
 

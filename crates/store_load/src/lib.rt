@@ -3,7 +3,7 @@
 ghost use mathlib.Core.Path.{_≡_};
 ghost use Prim.Native.Nat.{_≤_};
 ghost use lib.ListN.{length};
-ghost use Rattle.store_types.specs.Limits.{header-words};
+ghost use Rattle.store_types.specs.Layout.{header-words};
 ghost use Rattle.calls.specs.Words.{in-front};
 ghost use Rattle.calls.specs.Replies.{load-reply, load-words};
 ghost use Rattle.store_load.specs.Labels.{first-number, header-new, Labels-fit, labels-written};

@@ -6,12 +6,15 @@ use Prim.Native.Nat.{ℕ, suc, _+_, _<_}
 use native.Mathlib.Nat.{zero-add, add-zero, add-suc, suc-add}
 use native.Mathlib.Omega.{arith}
 use lib.ListN.{length}
-use Rattle.tree.specs.Row.{numbers, member}
-use Rattle.tree_laws.proofs.Rows.{member-first, member-later, member-numbers, length-numbers, distinct-left, distinct-right}
+use Rattle.store_types.specs.Layout.{at-kind, field}
+use Rattle.lists.specs.Lists.{numbers}
+use Rattle.lists.proofs.Numbers.{length-numbers}
+use Rattle.tree.specs.Row.{member}
+use Rattle.tree_laws.proofs.Rows.{member-first, member-later, member-numbers, distinct-left, distinct-right}
 use Rattle.calls.specs.Kind.{kind-word}
 use Rattle.calls.specs.Store.{Store, Fact, fact-in, fact, count, row}
 use Rattle.calls.specs.Mark.{within, new-marks, mark-count}
-use Rattle.calls.specs.Words.{words-of, field}
+use Rattle.calls.specs.Words.{words-of}
 use Rattle.calls_laws.proofs.Tests.{Sound}
 use Rattle.calls_laws.proofs.Fields.{tag-says}
 use Rattle.calls_laws.proofs.Reader.{kind-back}
@@ -45,8 +48,8 @@ new-total st x d (t ∷ ts) each =
     let later = new-total st x (suc d) ts (λ i l. rw (suc-add, ← add-suc) (each (suc i) (omega arith))) in
     rw (own, later)
 
-new-marked : (ws : List ℕ) (st : Store) (x y : ℕ) → field ws y 5 ≡ kind-word (fact st y .kind) (fact st y .marked) → within st x y ≡ true →
-    new-mark (field ws y 5) ≡ becomes st x y
+new-marked : (ws : List ℕ) (st : Store) (x y : ℕ) → field ws y at-kind ≡ kind-word (fact st y .kind) (fact st y .marked) → within st x y ≡ true →
+    new-mark (field ws y at-kind) ≡ becomes st x y
 unfolding new-mark
 new-marked ws st x y e w = rw (e, kind-back (fact st y .kind) (fact st y .marked) .1, w) (go (fact st y .marked))
   where

@@ -6,17 +6,9 @@ use native.Mathlib.Nat.{zero-add}
 use native.Mathlib.Omega.{arith}
 use borrow.Author.Tests.{lt-ltb, le-ltb, eq-eqb, ne-eqb}
 use lib.ListN.{length}
-use Rattle.store_types.specs.Limits.{tag-words}
-use Rattle.calls.specs.Load.{words-for}
-use Rattle.calls.specs.Words.{field}
-use Rattle.words.specs.Fields.{Room}
-use Rattle.edit_model.proofs.Fields.{record-room}
+use Rattle.store_types.specs.Layout.{at-next, at-mate, at-kind, field}
 use Rattle.store_mark.specs.Run.{new-mark, mark-one, mark-each, count-new, section-tags, tags-of}
 use Rattle.store_mark.proofs.Each.{length-one, one-other-word, new-mark-few}
-
--- ROOM for each word of a tag, in words of which there are as many as at first
-pub room : {n x many as-many : ℕ} (k : ℕ) → words-for n ≤ many → as-many ≡ many → x < n → k < tag-words → Room as-many x k
-room {n} {x} k fit long l small = omega (arith, record-room n x k l small)
 
 -- ONE STEP ALONG NEXT: to the last tag, to another, or past the tags
 module _ (k n : ℕ) (ws : List ℕ) (x m : ℕ) where
@@ -24,7 +16,7 @@ module _ (k n : ℕ) (ws : List ℕ) (x m : ℕ) where
   unfolding section-tags
   tags-last l e = rw (lt-ltb x n l, eq-eqb x m e)
 
-  pub tags-next : x < n → (x ≡ m → ⊥) → section-tags (suc k) n ws x m ≡ x ∷ section-tags k n ws (field ws x 1) m
+  pub tags-next : x < n → (x ≡ m → ⊥) → section-tags (suc k) n ws x m ≡ x ∷ section-tags k n ws (field ws x at-next) m
   unfolding section-tags
   tags-next l e = rw (lt-ltb x n l, ne-eqb x m e)
 
@@ -37,7 +29,7 @@ tags-out (suc k) n ws x m l = rw (le-ltb x n l)
 tags-kept : (k n : ℕ) (ws : List ℕ) (y x m : ℕ) → section-tags k n (mark-one ws y) x m ≡ section-tags k n ws x m
 unfolding section-tags
 tags-kept zero n ws y x m = refl
-tags-kept (suc k) n ws y x m = rw (one-other-word ws y x 1 (omega arith) (λ e. omega arith), tags-kept k n ws y (field ws x 1) m)
+tags-kept (suc k) n ws y x m = rw (one-other-word ws y x at-next (omega arith) (λ e. omega arith), tags-kept k n ws y (field ws x at-next) m)
 
 -- WHAT IS LEFT at a tag, after so many steps and with so many marked: of all the tags, `all`
 pub record Left (n m : ℕ) (ws₀ all ws : List ℕ) (x marked steps : ℕ) : Type 0 where
@@ -47,7 +39,7 @@ pub record Left (n m : ℕ) (ws₀ all ws : List ℕ) (x marked steps : ℕ) : T
   pub new : marked + count-new ws (section-tags (n - steps) n ws x m) ≡ count-new ws₀ all
   pub words : mark-each ws (section-tags (n - steps) n ws x m) ≡ mark-each ws₀ all
 
-pub left-first : (n m : ℕ) (ws : List ℕ) (x : ℕ) → m ≡ field ws x 3 → Left n m ws (tags-of n ws x) ws x 0 0
+pub left-first : (n m : ℕ) (ws : List ℕ) (x : ℕ) → m ≡ field ws x at-mate → Left n m ws (tags-of n ws x) ws x 0 0
 unfolding tags-of
 left-first n m ws x mate =
     let all : n - 0 ≡ n = omega arith in
@@ -64,25 +56,25 @@ pub record Turn (n m : ℕ) (ws₀ all ws : List ℕ) (x marked steps k : ℕ) (
   pub left : Left n m ws₀ all ws x marked steps
   pub more : steps < n
   pub tag : x < n
-  pub new : k ≡ new-mark (field ws x 5)
+  pub new : k ≡ new-mark (field ws x at-kind)
   pub put : vs ≡ mark-one ws x
 
 module _ {n m : ℕ} {ws₀ all ws : List ℕ} {x marked steps k : ℕ} {vs : List ℕ} (t : Turn n m ws₀ all ws x marked steps k vs) where
   pub turn-few : marked + k ≤ steps + 1
-  turn-few = omega (arith, t .new, t .left .few, new-mark-few (field ws x 5))
+  turn-few = omega (arith, t .new, t .left .few, new-mark-few (field ws x at-kind))
 
   pub turn-long : length vs ≡ length ws₀
   turn-long = ap length (t .put) ∙ length-one ws x ∙ t .left .long
 
   -- another tag is next
-  pub left-turn : {y : ℕ} → (x ≡ m → ⊥) → y ≡ field vs x 1 → Left n m ws₀ all vs y (marked + k) (steps + 1)
+  pub left-turn : {y : ℕ} → (x ≡ m → ⊥) → y ≡ field vs x at-next → Left n m ws₀ all vs y (marked + k) (steps + 1)
   unfolding mark-each count-new
   left-turn {y} other next =
       let j : ℕ = n - (steps + 1) in
       let one : n - steps ≡ suc j = omega (arith, t .more) in
-      let behind : y ≡ field ws x 1 = next ∙ ap (λ (us : List ℕ). field us x 1) (t .put) ∙ one-other-word ws x x 1 (omega arith) (λ e. omega arith) in
-      let rest : section-tags j n vs y m ≡ section-tags j n ws (field ws x 1) m = rw (t .put, behind) (tags-kept j n ws x (field ws x 1) m) in
-      let tags : section-tags (n - steps) n ws x m ≡ x ∷ section-tags j n ws (field ws x 1) m = rw one (tags-next j n ws x m (t .tag) other) in
+      let behind : y ≡ field ws x at-next = next ∙ ap (λ (us : List ℕ). field us x at-next) (t .put) ∙ one-other-word ws x x 1 (omega arith) (λ e. omega arith) in
+      let rest : section-tags j n vs y m ≡ section-tags j n ws (field ws x at-next) m = rw (t .put, behind) (tags-kept j n ws x (field ws x at-next) m) in
+      let tags : section-tags (n - steps) n ws x m ≡ x ∷ section-tags j n ws (field ws x at-next) m = rw one (tags-next j n ws x m (t .tag) other) in
       record {
         long = turn-long;
         short = omega (arith, t .more);

@@ -8,8 +8,9 @@ use lib.Dec.{eqb}
 use lib.ListN.{length, getD, take, drop}
 use lib.Seq.{drop-cons, drop-append-seam, take-append-seam}
 use Rattle.store_types.specs.Limits.{no-tag}
+use Rattle.lists.proofs.Tests.{by-test}
 use Rattle.tree.specs.Row.{place}
-use Rattle.tree_laws.proofs.Rows.{by-test, member-getD, place-getD, getD-place, place-of-member}
+use Rattle.tree_laws.proofs.Rows.{member-getD, place-getD, getD-place, place-of-member}
 use Rattle.calls.specs.Store.{Store, fact, count, row, place-of, next-in}
 use Rattle.calls.specs.Words.{words-of}
 use Rattle.calls_laws.proofs.Tests.{Sound}

@@ -4,8 +4,7 @@ use mathlib.Core.Bool.{cond}
 use mathlib.Core.List.{List, [], _∷_}
 use Prim.Native.Nat.{ℕ, zero, suc, _+_}
 use lib.Dec.{leb, ltb, eqb}
-use Rattle.calls.specs.Words.{field}
-use Rattle.words.specs.Fields.{with-field}
+use Rattle.store_types.specs.Layout.{at-next, at-mate, at-kind, field, with-field}
 
 -- a kind word when its tag is marked, and 1 where it was not before
 unfoldable pub marked-word : ℕ → ℕ
@@ -16,7 +15,7 @@ new-mark c = cond (leb 16 c) 0 1
 
 -- words after one tag is marked, and after a row of tags
 unfoldable pub mark-one : List ℕ → (tag : ℕ) → List ℕ
-mark-one ws x = with-field ws x 5 (marked-word (field ws x 5))
+mark-one ws x = with-field ws x at-kind (marked-word (field ws x at-kind))
 
 unfoldable pub mark-each : List ℕ → (tags : List ℕ) → List ℕ
 mark-each ws [] = ws
@@ -25,15 +24,15 @@ mark-each ws (x ∷ xs) = mark-each (mark-one ws x) xs
 -- how many of the row were not marked before
 unfoldable pub count-new : List ℕ → (tags : List ℕ) → ℕ
 count-new ws [] = 0
-count-new ws (x ∷ xs) = new-mark (field ws x 5) + count-new (mark-one ws x) xs
+count-new ws (x ∷ xs) = new-mark (field ws x at-kind) + count-new (mark-one ws x) xs
 
 -- from tag x along next to the last one: at most so many tags, each below n
 unfoldable pub section-tags : (steps n : ℕ) → List ℕ → (x last : ℕ) → List ℕ
 section-tags zero n ws x m = []
 section-tags (suc k) n ws x m =
-    let rest = section-tags k n ws (field ws x 1) m in
+    let rest = section-tags k n ws (field ws x at-next) m in
     cond (ltb x n) (x ∷ cond (eqb x m) [] rest) []
 
 -- a section's tags, to its mate
 unfoldable pub tags-of : (n : ℕ) → List ℕ → (section : ℕ) → List ℕ
-tags-of n ws x = section-tags n n ws x (field ws x 3)
+tags-of n ws x = section-tags n n ws x (field ws x at-mate)

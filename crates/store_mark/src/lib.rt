@@ -1,19 +1,16 @@
 // Mark: a begin or text and all inside (document 01, "Calls and their replies").
 ghost use mathlib.Core.Path.{_≡_};
-ghost use Prim.Native.Nat.{_<_, _≤_};
-ghost use lib.ListN.{length};
-ghost use Rattle.calls.specs.Load.{words-for};
+ghost use Prim.Native.Nat.{_<_};
+ghost use Rattle.store_types.specs.Layout.{at-kind, field, Room, Records};
 ghost use Rattle.calls.specs.Replies.{mark-reply, mark-words};
-ghost use Rattle.calls.specs.Words.{field};
 ghost use Rattle.store_mark.specs.Run.{new-mark, mark-one, mark-each, count-new, tags-of};
-ghost use Rattle.words.specs.Fields.{Room};
 use store_types::MarkReply;
 use store_types::TagId;
 
 // One tag is marked: 1 where it was not.
 fn mark_tag(words: &mut [u32], x: TagId) -> u32
-    requires { ⌜ Room (length (now words)) (x .0) 5 ⌝ }
-    ensures new { λ k. ⌜ k ≡ new-mark (field (now (words .entry)) (x .0) 5) ⌝ }
+    requires { ⌜ Room (now words) (x .0) ⌝ }
+    ensures new { λ k. ⌜ k ≡ new-mark (field (now (words .entry)) (x .0) at-kind) ⌝ }
     ensures words { λ _. ⌜ now (words .exit) ≡ mark-one (now (words .entry)) (x .0) ⌝ }
 {
     let kind = words::kind_of(words, x);
@@ -27,7 +24,7 @@ fn mark_tag(words: &mut [u32], x: TagId) -> u32
 // From x along next to its mate.
 fn mark_section(words: &mut [u32], n: u32, x: TagId) -> u32
     requires tag { ⌜ x .0 < n ⌝ }
-    requires records { ⌜ words-for n ≤ length (now words) ⌝ }
+    requires records { ⌜ Records (now words) n ⌝ }
     ensures new { λ k. ⌜ k ≡ count-new (now (words .entry)) (tags-of n (now (words .entry)) (x .0)) ⌝ }
     ensures words { λ _. ⌜ now (words .exit) ≡ mark-each (now (words .entry)) (tags-of n (now (words .entry)) (x .0)) ⌝ }
 {

@@ -9,13 +9,14 @@ use native.Mathlib.Omega.{arith}
 use borrow.Author.Tests.{lt-ltb, le-ltb, le-leb, lt-leb, ne-eqb}
 use lib.Dec.{ltb, leb, eqb}
 use lib.ListN.{length}
-use Rattle.store_types.specs.Limits.{header-words, tag-words, word-limit}
-use Rattle.tree_laws.proofs.Rows.{by-test}
+use Rattle.store_types.specs.Limits.{word-limit}
+use Rattle.store_types.specs.Layout.{at-count, at-book, header-words, at-kind, word-at, field, Room}
+use Rattle.lists.proofs.Tests.{by-test}
+use Rattle.words.proofs.Fields.{header-fits, record-room}
 use Rattle.calls.specs.Kind.{Kind, begin, end, text, code, kind-word, is-begin, is-end}
 use Rattle.calls.specs.Store.{Store, fact, count}
 use Rattle.calls.specs.Mark.{section-refusal}
-use Rattle.calls.specs.Load.{words-for}
-use Rattle.calls.specs.Words.{Says, word-at, field, read}
+use Rattle.calls.specs.Words.{Says, read}
 use Rattle.calls.specs.Replies.{on-store, refusal-over, said}
 use Rattle.calls_laws.proofs.Tests.{Sound, facts-of}
 use Rattle.calls_laws.proofs.Fields.{Tag-says, tag-says}
@@ -23,7 +24,6 @@ use Rattle.calls_laws.proofs.Sections.{mate-fits}
 use Rattle.calls_laws.proofs.WordSteps.{words-fit, refusal-said, refusal-passed, header-said}
 use Rattle.walk_model.specs.Walk.{words-pass}
 use Rattle.walk_model.proofs.Decides.{passes-says, fails-none}
-use Rattle.words.specs.Fields.{Room}
 use Rattle.store_refuse.specs.Needs.{Tag-said}
 
 -- REFUSALS, by the walk's verdict; a book number is a word, as all that a slice of words holds
@@ -32,14 +32,14 @@ module _ (ws : List ℕ) (f : Store → ℕ) where
   unfolding refusal-over
   refused-short l = rw (lt-ltb (length ws) header-words l)
 
-  pub refused-unsound : word-at ws 6 < word-limit → header-words ≤ length ws → words-pass ws ≡ false → refusal-over ws f ≡ 2
+  pub refused-unsound : word-at ws at-book < word-limit → header-words ≤ length ws → words-pass ws ≡ false → refusal-over ws f ≡ 2
   unfolding refusal-over on-store
   refused-unsound fits l e = rw (le-ltb (length ws) header-words l, fails-none ws fits e)
 
   pub refused-said : Says ws (said ws) → refusal-over ws f ≡ f (said ws)
   refused-said h = refusal-said ws (said ws) h f
 
-  pub refused-passing : word-at ws 6 < word-limit → words-pass ws ≡ true → refusal-over ws f ≡ f (said ws)
+  pub refused-passing : word-at ws at-book < word-limit → words-pass ws ≡ true → refusal-over ws f ≡ f (said ws)
   refused-passing fits e = refused-said (passes-says ws fits e)
 
   -- words that are not refused say their store, and its own tests pass
@@ -93,12 +93,11 @@ module _ {ws : List ℕ} {x : ℕ} (h : Tag-said ws x) where
   pub words-of-tag : Tag-says ws (said ws) x
   words-of-tag = tag-said ws (said ws) x (h .says) (h .tag)
 
-  pub kind-of-tag : Kind-says (field ws x 5) (fact (said ws) x .kind) (fact (said ws) x .marked)
+  pub kind-of-tag : Kind-says (field ws x at-kind) (fact (said ws) x .kind) (fact (said ws) x .marked)
   kind-of-tag = rw (words-of-tag .kind-is) (kind-says (fact (said ws) x .kind) (fact (said ws) x .marked))
 
-  pub room : (k : ℕ) → k < tag-words → Room (length ws) x k
-  unfolding words-for
-  room k l = omega (arith, words-fit ws (said ws) (h .says), h .tag)
+  pub tag-room : Room ws x
+  tag-room = record-room (count (said ws)) x ws (words-fit ws (said ws) (h .says)) (h .tag)
 
   pub mate-of-tag : Tag-said ws (fact (said ws) x .mate)
   mate-of-tag = record { says = h .says; tag = mate-fits (sound-said ws (h .says)) x (h .tag) }
@@ -106,32 +105,31 @@ module _ {ws : List ℕ} {x : ℕ} (h : Tag-said ws x) where
 -- THE HEADER of words that say a store, and which numbers are its tags
 module _ (ws : List ℕ) (says : Says ws (said ws)) where
   pub header-room : header-words ≤ length ws
-  unfolding words-for
-  header-room = omega (arith, words-fit ws (said ws) says)
+  header-room = omega (arith, words-fit ws (said ws) says, header-fits (count (said ws)))
 
-  pub tag-below : (x : ℕ) → x < word-at ws 4 → Tag-said ws x
+  pub tag-below : (x : ℕ) → x < word-at ws at-count → Tag-said ws x
   tag-below x l = record { says = says; tag = omega (arith, header-said ws (said ws) says .issued) }
 
-  pub no-tag-from : (x : ℕ) → word-at ws 4 ≤ x → leb (count (said ws)) x ≡ true
+  pub no-tag-from : (x : ℕ) → word-at ws at-count ≤ x → leb (count (said ws)) x ≡ true
   no-tag-from x l = le-leb (count (said ws)) x (omega (arith, header-said ws (said ws) says .issued))
 
 -- THE REFUSALS of mark and hold
 module _ (ws : List ℕ) (x : ℕ) where
-  pub section-unknown : Says ws (said ws) → word-at ws 4 ≤ x → refusal-over ws (section-refusal x) ≡ 8
+  pub section-unknown : Says ws (said ws) → word-at ws at-count ≤ x → refusal-over ws (section-refusal x) ≡ 8
   unfolding section-refusal
   section-unknown says l = refused-said ws (section-refusal x) says ∙ rw (no-tag-from ws says x l)
 
-  tag-refused : Tag-said ws x → refusal-over ws (section-refusal x) ≡ cond (leb 16 (field ws x 5)) 9 (cond (eqb (field ws x 5 % 16) 2) 10 0)
+  tag-refused : Tag-said ws x → refusal-over ws (section-refusal x) ≡ cond (leb 16 (field ws x at-kind)) 9 (cond (eqb (field ws x at-kind % 16) 2) 10 0)
   unfolding section-refusal
   tag-refused h =
       refused-said ws (section-refusal x) (h .says)
       ∙ rw (lt-leb (count (said ws)) x (h .tag), kind-of-tag h .marks, kind-of-tag h .ends)
 
-  pub section-marked : Tag-said ws x → 16 ≤ field ws x 5 → refusal-over ws (section-refusal x) ≡ 9
-  section-marked h m = tag-refused h ∙ rw (le-leb 16 (field ws x 5) m)
+  pub section-marked : Tag-said ws x → 16 ≤ field ws x at-kind → refusal-over ws (section-refusal x) ≡ 9
+  section-marked h m = tag-refused h ∙ rw (le-leb 16 (field ws x at-kind) m)
 
-  pub section-ends : Tag-said ws x → field ws x 5 < 16 → field ws x 5 ≡ 2 → refusal-over ws (section-refusal x) ≡ 10
-  section-ends h m e = tag-refused h ∙ rw (lt-leb 16 (field ws x 5) m, e)
+  pub section-ends : Tag-said ws x → field ws x at-kind < 16 → field ws x at-kind ≡ 2 → refusal-over ws (section-refusal x) ≡ 10
+  section-ends h m e = tag-refused h ∙ rw (lt-leb 16 (field ws x at-kind) m, e)
 
-  pub section-accepted : Tag-said ws x → field ws x 5 < 16 → (field ws x 5 ≡ 2 → ⊥) → refusal-over ws (section-refusal x) ≡ 0
-  section-accepted h m n = tag-refused h ∙ rw (lt-leb 16 (field ws x 5) m, ne-eqb (field ws x 5 % 16) 2 (λ e. n (omega arith)))
+  pub section-accepted : Tag-said ws x → field ws x at-kind < 16 → (field ws x at-kind ≡ 2 → ⊥) → refusal-over ws (section-refusal x) ≡ 0
+  section-accepted h m n = tag-refused h ∙ rw (lt-leb 16 (field ws x at-kind) m, ne-eqb (field ws x at-kind % 16) 2 (λ e. n (omega arith)))

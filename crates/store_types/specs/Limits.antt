@@ -5,13 +5,6 @@ use Prim.Native.Nat.{ℕ}
 abbrev pub no-tag : ℕ
 no-tag = 4294967295
 
--- how many words the header has, and how many each tag ("The book in words")
-abbrev pub header-words : ℕ
-header-words = 8
-
-abbrev pub tag-words : ℕ
-tag-words = 6
-
 -- no label, and no width of a root, passes this (refusal 7)
 abbrev pub label-limit : ℕ
 label-limit = 4294967296

@@ -5,7 +5,8 @@ use mathlib.Core.List.{List, [], _∷_}
 use Prim.Native.Nat.{ℕ, zero, suc, _*_, _-_, _^_, max}
 use lib.Dec.{ltb, leb, eqb}
 use lib.ListN.{length, getD}
-use Rattle.tree.specs.Row.{numbers, place, insert-at, rises}
+use Rattle.lists.specs.Lists.{numbers}
+use Rattle.tree.specs.Row.{place, insert-at, rises}
 use Rattle.tree.specs.Forest.{Forest, leaves, size, labels, spread, put, full, within-limits}
 use Rattle.tree.specs.Forest as forest
 

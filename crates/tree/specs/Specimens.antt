@@ -5,20 +5,10 @@ use mathlib.Core.Bool.{Bool, true, false, _&&_}
 use mathlib.Core.List.{List, [], _∷_}
 use Prim.Native.Nat.{ℕ, zero, suc, _+_, _*_, _-_}
 use lib.Dec.{leb, eqb}
-use Rattle.tree.specs.Row.{numbers}
+use Rattle.lists.specs.Lists.{same, all-hold, numbers}
 use Rattle.tree.specs.Forest.{Forest, nil, node, size, leaf-row}
 use Rattle.tree.specs.Book.{Book, height, tags, loaded, labels-of, labels-in-order, power-width, inserted, split-of, moved-among, moved, book-within}
 use Rattle.tree.specs.Reach.{reach-bound, account-bound}
-
-unfoldable pub same : List ℕ → List ℕ → Bool
-same [] [] = true
-same [] (y ∷ ys) = false
-same (x ∷ xs) [] = false
-same (x ∷ xs) (y ∷ ys) = eqb x y && same xs ys
-
-unfoldable pub all-hold : {A : Type 0} → (holds : A → Bool) → List A → Bool
-all-hold h [] = true
-all-hold h (e ∷ es) = h e && all-hold h es
 
 abbrev powers : Book → ℕ → ℕ
 powers k = power-width (k .s) (k .r)

@@ -9,12 +9,15 @@ use native.Mathlib.Omega.{arith}
 use borrow.Author.Tests.{eq-eqb, eqb-true, ltb-true, ltb-false}
 use lib.Dec.{eqb, ltb}
 use lib.ListN.{length, take, drop, take-append-drop}
-use Rattle.tree.specs.Row.{numbers, member, insert-at, all-below}
+use Rattle.lists.proofs.Tests.{by-test, fails}
+use Rattle.lists.specs.Lists.{numbers}
+use Rattle.lists.proofs.Numbers.{length-numbers}
+use Rattle.tree.specs.Row.{member, insert-at, all-below}
 use Rattle.tree.specs.Forest.{size, spread, split-height}
 use Rattle.tree.specs.Book.{Book, height, tags, label-of, load-under, loaded, root-full, root-split, put-inside, inserted, inserted-row, moved-among, moved}
 use Rattle.tree.specs.Reach.{reach-bound, account-bound}
 use Rattle.tree.specs.Promise.{Widths, Sane, Step, Reach-counts}
-use Rattle.tree_laws.proofs.Rows.{by-test, fails, member-first, member-all-below, all-below-of, distinct-all-below, member-insert, length-numbers}
+use Rattle.tree_laws.proofs.Rows.{member-first, member-all-below, all-below-of, distinct-all-below, member-insert}
 use Rattle.tree_laws.proofs.Spread.{complete-spread}
 use Rattle.tree_laws.proofs.Insertion.{below, split-length, inserted-split, inserted-inside, split-of-split, split-of-inside, root-at-limit, rooted, tags-inserted, size-inserted, sane-inserted, inserted-s, inserted-r}
 use Rattle.tree_laws.proofs.Flat.{split-at-most}

@@ -10,10 +10,10 @@ use borrow.Author.Tests.{lt-ltb, le-ltb, le-leb, lt-leb, eq-eqb, ne-eqb, ltb-tru
 use lib.Dec.{ltb, leb, eqb}
 use lib.ListN.{length, getD, length-append, List·getD-append}
 use lib.Seq.{getD-append-add}
+use Rattle.tree.specs.Good.{Good}
 use Rattle.tree.specs.Forest.{Forest, nil, leaf, node, leaves, size, labels}
 use Rattle.tree.specs.Reach.{left-in, size-in}
 use Rattle.tree.specs.Promise.{Widths}
-use Rattle.tree_laws.proofs.Good.{Good}
 use Rattle.tree_laws.proofs.Labels.{trees, next-end, Rising, rising-order, rising-higher, rising-append, rising-from, rising-below, width-least, good-rising, node-rising, children-fit, length-labels}
 
 -- how many numbers of a list lie in [low, high)

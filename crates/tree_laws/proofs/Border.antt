@@ -9,11 +9,11 @@ use borrow.Author.Tests.{eqb-true, eqb-false}
 use lib.Dec.{eqb}
 use lib.ListN.{length, take, drop, length-append}
 use lib.Seq.{take-at, drop-at}
+use Rattle.lists.proofs.Tests.{by-test}
 use Rattle.tree.specs.Forest.{nil, size, labels}
 use Rattle.tree.specs.Book.{Book, height, labels-of}
 use Rattle.tree.specs.Reach.{left-in, size-in}
 use Rattle.tree.specs.Promise.{Widths, Sane}
-use Rattle.tree_laws.proofs.Rows.{by-test}
 use Rattle.tree_laws.proofs.Insertion.{rooted, empty-low}
 use Rattle.tree_laws.proofs.Labels.{Rising, rising-higher, rising-append, node-rising, children-fit, length-labels}
 use Rattle.tree_laws.proofs.Ancestors.{number-in, found, at-here, at-inside}

@@ -7,12 +7,12 @@ use native.Mathlib.Nat.{suc-mul}
 use native.Mathlib.Omega.{arith}
 use borrow.Author.Tests.{eq-eqb, ne-eqb}
 use lib.ListN.{length, length-append}
+use Rattle.tree.specs.Good.{Good}
 use Rattle.tree.specs.Row.{insert-at}
 use Rattle.tree.specs.Forest.{Forest, nil, leaf, node, leaves, size, labels, spread}
 use Rattle.tree.specs.Book.{Book, height, labels-of, inserted, split-of}
 use Rattle.tree.specs.Reach.{left-in, size-in, split-with, split-book}
 use Rattle.tree.specs.Promise.{Widths, Sane}
-use Rattle.tree_laws.proofs.Good.{Good}
 use Rattle.tree_laws.proofs.Rows.{length-insert}
 use Rattle.tree_laws.proofs.Spread.{some-power}
 use Rattle.tree_laws.proofs.Insertion.{size-node, rooted}

@@ -9,13 +9,14 @@ use borrow.Author.Tests.{ltb-true, ltb-false}
 use lib.Dec.{ltb}
 use lib.ListN.{length, getD, length-map, List·getD-append}
 use lib.Seq.{getD-append-add}
+use Rattle.lists.proofs.Tests.{by-test}
+use Rattle.tree.specs.Good.{Good, Complete}
 use Rattle.tree.specs.Row.{member, place, insert-at}
 use Rattle.tree.specs.Forest.{Forest, nil, node, leaves, size, labels, spread, put}
 use Rattle.tree.specs.Book.{Book, height, tags, label-of, inserted, split-of}
 use Rattle.tree.specs.Reach.{left-of, border}
 use Rattle.tree.specs.Promise.{Widths, Step, Never-falls}
-use Rattle.tree_laws.proofs.Good.{Good, Complete}
-use Rattle.tree_laws.proofs.Rows.{by-test, member-nil, member-other, differs, place-before, place-behind}
+use Rattle.tree_laws.proofs.Rows.{member-nil, member-other, differs, place-before, place-behind}
 use Rattle.tree_laws.proofs.Spread.{leaves-spread, complete-spread, complete-good, far-from-limit}
 use Rattle.tree_laws.proofs.Insertion.{split-length, tags-inserted}
 use Rattle.tree_laws.proofs.Labels.{length-labels, width-least, good-rising, rising-index}

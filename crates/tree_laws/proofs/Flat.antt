@@ -7,11 +7,11 @@ use native.Mathlib.Omega.{arith}
 use borrow.Author.Tests.{eqb-true, eqb-false}
 use lib.Dec.{eqb}
 use lib.ListN.{length, getD, length-append}
+use Rattle.lists.proofs.Tests.{by-test}
+use Rattle.tree.specs.Good.{Good}
 use Rattle.tree.specs.Row.{insert-at}
 use Rattle.tree.specs.Forest.{Forest, nil, leaf, node, leaves, size, labels, parts, spread, put, split-height}
 use Rattle.tree.specs.Reach.{left-in, size-in}
-use Rattle.tree_laws.proofs.Good.{Good}
-use Rattle.tree_laws.proofs.Rows.{by-test}
 use Rattle.tree_laws.proofs.Spread.{parts-none, parts-one, parts-more, spread-suc, some-power}
 use Rattle.tree_laws.proofs.Insertion.{Turn, right, split, below, turn, put-right, put-split, put-below, height-right, height-split, height-below, size-node, split-length}
 use Rattle.tree_laws.proofs.Labels.{trees, length-labels, labels-shift, labels-joined}

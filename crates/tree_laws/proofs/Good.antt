@@ -4,34 +4,9 @@ use mathlib.Core.Bool.{Bool, true, false, _&&_, false≢true}
 use Prim.Native.Nat.{ℕ, zero, suc, _*_, _^_, _≤_, _<_}
 use borrow.Author.Tests.{lt-ltb, le-leb, ltb-true, leb-true}
 use lib.Dec.{ltb, leb}
+use Rattle.lists.proofs.Tests.{and-left, and-right, and-both}
+use Rattle.tree.specs.Good.{Good}
 use Rattle.tree.specs.Forest.{Forest, nil, leaf, node, size, within-limits}
-
--- a forest of height j whose nodes keep their limits
-abbrev pub Good : (s r : ℕ) → Forest → (j : ℕ) → Type 0
-Good s r nil j = Unit {0}
-Good s r (leaf x f) zero = Good s r f zero
-Good s r (leaf x f) (suc j) = ⊥
-Good s r (node g f) zero = ⊥
-Good s r (node g f) (suc j) = (r ^ suc j ≤ size g) × (size g < s * r ^ suc j) × Good s r g j × Good s r f (suc j)
-
--- a forest of complete r-ary trees of height j
-abbrev pub Complete : (r : ℕ) → Forest → (j : ℕ) → Type 0
-Complete r nil j = Unit {0}
-Complete r (leaf x f) zero = Complete r f zero
-Complete r (leaf x f) (suc j) = ⊥
-Complete r (node g f) zero = ⊥
-Complete r (node g f) (suc j) = (size g ≡ r ^ suc j) × Complete r g j × Complete r f (suc j)
-
-pub and-left : (a b : Bool) → (a && b) ≡ true → a ≡ true
-and-left true b e = refl
-and-left false b e = absurd (false≢true e)
-
-pub and-right : (a b : Bool) → (a && b) ≡ true → b ≡ true
-and-right true b e = e
-and-right false b e = absurd (false≢true e)
-
-pub and-both : {a b : Bool} → a ≡ true → b ≡ true → (a && b) ≡ true
-and-both {a} {b} p q = rw (p, q)
 
 pub good-of : (s r : ℕ) (f : Forest) (j : ℕ) → within-limits f s r j ≡ true → Good s r f j
 unfolding within-limits

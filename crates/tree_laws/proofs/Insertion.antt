@@ -9,12 +9,16 @@ use borrow.Author.Tests.{lt-ltb, le-ltb, le-leb, eq-eqb, ne-eqb, ltb-true, ltb-f
 use lib.Dec.{ltb, leb, eqb}
 use lib.ListN.{length, length-append}
 use lib.Seq.{take-nil, drop-nil}
-use Rattle.tree.specs.Row.{numbers, insert-at}
+use Rattle.lists.proofs.Tests.{and-left, and-right, and-both}
+use Rattle.lists.specs.Lists.{numbers}
+use Rattle.lists.proofs.Numbers.{length-numbers}
+use Rattle.tree.specs.Good.{Good}
+use Rattle.tree.specs.Row.{insert-at}
 use Rattle.tree.specs.Forest.{Forest, nil, leaf, node, leaves, size, joined, spread, put, split-height, within-limits}
 use Rattle.tree.specs.Book.{Book, height, tags, root-full, root-split, put-inside, inserted, split-of, inserted-row, root-within, book-within}
 use Rattle.tree.specs.Promise.{Sane, Stays-sane}
-use Rattle.tree_laws.proofs.Good.{Good, good-of, test-of, and-left, and-right, and-both}
-use Rattle.tree_laws.proofs.Rows.{length-numbers, length-insert, insert-left, insert-right, insert-none, insert-next}
+use Rattle.tree_laws.proofs.Good.{good-of, test-of}
+use Rattle.tree_laws.proofs.Rows.{length-insert, insert-left, insert-right, insert-none, insert-next}
 use Rattle.tree_laws.proofs.Spread.{leaves-joined, good-joined, leaves-spread, good-spread, some-power}
 
 -- Where an insertion behind p goes at a node over l leaves whose limit is b: to its right, or into it, where it splits or not

@@ -9,11 +9,13 @@ use native.Mathlib.Omega.{arith}
 use borrow.Author.Tests.{lt-ltb, le-ltb, ltb-true, ltb-false}
 use lib.Dec.{ltb}
 use lib.ListN.{length, getD, length-append}
+use Rattle.lists.proofs.Tests.{and-left, and-right, and-both}
+use Rattle.tree.specs.Good.{Good}
 use Rattle.tree.specs.Row.{rises}
 use Rattle.tree.specs.Forest.{Forest, nil, leaf, node, leaves, size, labels, joined, within-limits}
 use Rattle.tree.specs.Book.{height, labels-of, base, power-width, root-within, book-within}
 use Rattle.tree.specs.Promise.{Widths, Labels-rise}
-use Rattle.tree_laws.proofs.Good.{Good, good-of, and-left, and-right, and-both}
+use Rattle.tree_laws.proofs.Good.{good-of}
 
 -- how many trees a forest has
 abbrev pub trees : Forest → ℕ

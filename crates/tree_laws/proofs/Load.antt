@@ -7,14 +7,14 @@ use native.Mathlib.Omega.{arith}
 use borrow.Author.Tests.{lt-ltb, le-ltb, ltb-true, ltb-false}
 use lib.Dec.{ltb}
 use lib.ListN.{length}
-use Rattle.tree.specs.Row.{numbers}
+use Rattle.lists.specs.Lists.{numbers}
+use Rattle.lists.proofs.Numbers.{length-numbers}
+use Rattle.tree.specs.Good.{Good}
 use Rattle.tree.specs.Forest.{leaves, size, spread}
 use Rattle.tree.specs.Book.{tags, under-from, load-under, loaded}
 use Rattle.tree.specs.Promise.{Sane}
-use Rattle.tree_laws.proofs.Good.{Good}
 use Rattle.tree_laws.proofs.Spread.{leaves-spread-zero, leaves-spread, good-spread-zero, good-spread, some-power}
 use Rattle.tree_laws.proofs.Insertion.{sane-of}
-use Rattle.tree_laws.proofs.Rows.{length-numbers}
 
 -- the clauses of the search for the height: it stops where n fits
 under-ends : (h r n : ℕ) → under-from 0 h r n ≡ h

@@ -6,9 +6,9 @@ use Prim.Native.Nat.{ℕ, zero, suc, pred, _+_, _*_, _-_, _^_, _≤_, _<_}
 use native.Mathlib.Nat.{suc-mul, one-mul, pow-succ', pow-zero, mul-le-mul-right}
 use native.Mathlib.Omega.{arith}
 use lib.ListN.{length, take, drop}
+use Rattle.tree.specs.Good.{Good, Complete}
 use Rattle.tree.specs.Row.{insert-at}
 use Rattle.tree.specs.Forest.{Forest, nil, leaf, node, leaves, size, joined, leaf-row, parts, spread, put, split-height}
-use Rattle.tree_laws.proofs.Good.{Good, Complete}
 use Rattle.tree_laws.proofs.Spread.{complete-leaf-row, parts-one, parts-more, front-cut, rest-cut, spread-zero, spread-suc, parts-in, some-power, lower-power, leaves-below, complete-spread}
 use Rattle.tree_laws.proofs.Insertion.{Turn, right, split, below, turn, put-right, put-split, put-below, height-right, height-split, height-below, split-length, size-put}
 

@@ -9,11 +9,12 @@ use borrow.Author.Tests.{eq-eqb, ne-eqb, eqb-true, eqb-false, ltb-true, ltb-fals
 use lib.Dec.{ltb, eqb}
 use lib.ListN.{length, take, drop, length-take, length-drop, take-append-drop}
 use lib.Seq.{take-take}
+use Rattle.lists.proofs.Tests.{by-test}
 use Rattle.tree.specs.Row.{member, place}
 use Rattle.tree.specs.Book.{Book, height, tags, label-of, inserted, split-of, moved-among, moved}
 use Rattle.tree.specs.Reach.{left-of, border, reach-bound}
 use Rattle.tree.specs.Promise.{Step, Moves, Reach-places, Reach-counts}
-use Rattle.tree_laws.proofs.Rows.{Distinct, by-test, member-first, member-later, member-of-take, member-of-drop, place-of-member, place-in-take, place-past-take, distinct-apart, apart-sym, distinct-all-below}
+use Rattle.tree_laws.proofs.Rows.{Distinct, member-first, member-later, member-of-take, member-of-drop, place-of-member, place-in-take, place-past-take, distinct-apart, apart-sym, distinct-all-below}
 use Rattle.tree_laws.proofs.Insertion.{rooted}
 use Rattle.tree_laws.proofs.Flat.{Parent}
 use Rattle.tree_laws.proofs.Root.{whole, flat-whole, split-flat, left-flat, border-flat}

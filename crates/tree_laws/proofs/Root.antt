@@ -7,11 +7,11 @@ use native.Mathlib.Omega.{arith}
 use borrow.Author.Tests.{lt-ltb, ltb-true, ltb-false}
 use lib.Dec.{ltb}
 use lib.ListN.{length, length-append}
+use Rattle.lists.proofs.Tests.{by-test}
 use Rattle.tree.specs.Forest.{Forest, nil, node, size, labels, put, split-height}
 use Rattle.tree.specs.Book.{Book, height, labels-of, root-full, root-split, put-inside, inserted, split-of}
 use Rattle.tree.specs.Reach.{left-in, size-in, left-of, size-of, border}
 use Rattle.tree.specs.Promise.{Sane}
-use Rattle.tree_laws.proofs.Rows.{by-test}
 use Rattle.tree_laws.proofs.Insertion.{put-split, put-below, height-split, height-below, inserted-split, inserted-inside, split-of-split, split-of-inside, root-at-limit, root-below-limit, rooted, empty-low}
 use Rattle.tree_laws.proofs.Labels.{length-labels, labels-joined}
 use Rattle.tree_laws.proofs.Ancestors.{at-here, at-inside}

@@ -10,25 +10,10 @@ use borrow.Author.Tests.{eq-eqb, ne-eqb, eqb-true, eqb-false}
 use lib.Dec.{eqb}
 use lib.ListN.{length, getD, take, drop, length-append, length-take, length-drop, take-append-drop, List·getD-append}
 use lib.Seq.{length-take-le, getD-append-add, getD-take, getD-drop, take-append-le, drop-append-le, take-append-add, drop-append-add}
-use Rattle.tree.specs.Row.{numbers, member, place, insert-at, all-below}
-use Rattle.tree_laws.proofs.Good.{and-left, and-right, and-both}
-
--- a goal by the two answers of a test
-pub by-test : {G : Type 0} (t : Bool) → (t ≡ true → G) → (t ≡ false → G) → G
-by-test true f g = f refl
-by-test false f g = g refl
-
--- a test that cannot be passed fails
-pub fails : (t : Bool) → (t ≡ true → ⊥) → t ≡ false
-fails t h = by-test t (λ e. absurd (h e)) (λ e. e)
-
-pub or-left-false : (a b : Bool) → (a || b) ≡ false → a ≡ false
-or-left-false true b e = e
-or-left-false false b e = refl
-
-pub or-right-false : (a b : Bool) → (a || b) ≡ false → b ≡ false
-or-right-false true b e = absurd (true≢false e)
-or-right-false false b e = e
+use Rattle.lists.proofs.Numbers.{length-numbers}
+use Rattle.lists.proofs.Tests.{by-test, fails, or-left-false, or-right-false, and-left, and-right, and-both}
+use Rattle.lists.specs.Lists.{numbers}
+use Rattle.tree.specs.Row.{member, place, insert-at, all-below}
 
 -- MEMBERS AND PLACES
 
@@ -169,22 +154,6 @@ distinct-apart (x ∷ xs) ys h v m =
     (λ e n. distinct-apart xs ys (h .1) v n)
 
 -- NUMBERS IN ORDER
-
-pub length-numbers : (x n : ℕ) → length (numbers x n) ≡ n
-unfolding numbers
-length-numbers x zero = refl
-length-numbers x (suc n) = ap suc (length-numbers (suc x) n)
-
-pub getD-numbers : (x n i d : ℕ) → i < n → getD (numbers x n) i d ≡ x + i
-unfolding numbers
-getD-numbers x zero i d h = absurd (not-suc-le-zero h)
-getD-numbers x (suc n) zero d h = omega arith
-getD-numbers x (suc n) (suc i) d h = omega (arith, getD-numbers (suc x) n i d (le-of-suc-le-suc h))
-
-pub numbers-add : (x n m : ℕ) → numbers x (n + m) ≡ numbers x n ++ numbers (x + n) m
-unfolding numbers
-numbers-add x zero m = rw (zero-add, add-zero)
-numbers-add x (suc n) m = rw (suc-add, add-suc, ← suc-add) (ap (λ (l : List ℕ). x ∷ l) (numbers-add (suc x) n m))
 
 -- i is a member of n numbers from x on where x ≤ i < x + n, and only there
 pub member-numbers : (i x n : ℕ) → x ≤ i → i < x + n → member i (numbers x n) ≡ true

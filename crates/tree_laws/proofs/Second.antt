@@ -9,13 +9,14 @@ use native.Mathlib.Omega.{arith}
 use borrow.Author.Tests.{lt-ltb, le-ltb, eq-eqb, ne-eqb, ltb-true, ltb-false}
 use lib.Dec.{ltb}
 use lib.ListN.{length}
+use Rattle.lists.proofs.Tests.{by-test, fails}
+use Rattle.tree.specs.Good.{Good, Complete}
 use Rattle.tree.specs.Row.{member, place, insert-at}
 use Rattle.tree.specs.Forest.{Forest, nil, leaf, node, leaves, size, joined, spread, put, split-height}
 use Rattle.tree.specs.Book.{Book, height, tags, label-of, inserted, split-of, root-full, root-split, put-inside, moved-among, moved}
 use Rattle.tree.specs.Reach.{left-in, size-in, border, split-with, split-book}
 use Rattle.tree.specs.Promise.{Sane, Step, Moves, Second-tag}
-use Rattle.tree_laws.proofs.Good.{Good, Complete}
-use Rattle.tree_laws.proofs.Rows.{Among, by-test, fails, member-first, member-later, member-insert, insert-two}
+use Rattle.tree_laws.proofs.Rows.{Among, member-first, member-later, member-insert, insert-two}
 use Rattle.tree_laws.proofs.Spread.{complete-spread, leaves-spread, far-from-limit, some-power}
 use Rattle.tree_laws.proofs.Insertion.{Turn, right, split, below, turn, put-right, put-split, put-below, height-right, height-split, height-below, size-node, split-length, leaves-put, size-put, good-put, inserted-split, inserted-inside, split-of-split, split-of-inside, root-at-limit, rooted, empty-low, tags-inserted, size-inserted}
 use Rattle.tree_laws.proofs.Ancestors.{three-ways, at-right, at-here, at-inside}

@@ -8,10 +8,10 @@ use native.Mathlib.Omega.{arith}
 use borrow.Author.Tests.{lt-ltb, le-ltb}
 use lib.ListN.{length, length-append}
 use lib.Seq.{take-at, drop-at, take-append-seam, drop-append-seam}
+use Rattle.tree.specs.Good.{Good}
 use Rattle.tree.specs.Forest.{Forest, nil, leaf, node, leaves, size, labels, leaf-row}
 use Rattle.tree.specs.Spelling.{front-below, spelled-nodes, spelled}
 use Rattle.tree.specs.Promise.{Widths}
-use Rattle.tree_laws.proofs.Good.{Good}
 use Rattle.tree_laws.proofs.Labels.{Rising, rising-order, good-rising, node-rising, length-labels}
 
 -- the numbers below a bound that stand before numbers from that bound on

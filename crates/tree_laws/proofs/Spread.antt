@@ -6,8 +6,8 @@ use native.Mathlib.Nat.{suc-mul, one-mul, pow-succ', one-le-pow, mul-le-mul, mul
 use native.Mathlib.Omega.{arith}
 use lib.ListN.{length, take, drop, length-drop, take-append-drop}
 use lib.Seq.{length-take-le}
+use Rattle.tree.specs.Good.{Good, Complete}
 use Rattle.tree.specs.Forest.{Forest, nil, leaf, node, leaves, size, joined, leaf-row, parts, spread}
-use Rattle.tree_laws.proofs.Good.{Good, Complete}
 
 -- forests joined
 pub leaves-joined : (f g : Forest) → leaves (joined f g) ≡ leaves f ++ leaves g

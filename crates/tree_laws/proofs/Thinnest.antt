@@ -9,9 +9,9 @@ use borrow.Author.Tests.{ltb-true, ltb-false}
 use lib.Dec.{ltb}
 use lib.ListN.{length, getD, List·getD-append}
 use lib.Seq.{getD-append-add}
+use Rattle.tree.specs.Good.{Good, Complete}
 use Rattle.tree.specs.Forest.{Forest, nil, leaf, node, leaves, size, labels}
 use Rattle.tree.specs.Promise.{Widths}
-use Rattle.tree_laws.proofs.Good.{Good, Complete}
 use Rattle.tree_laws.proofs.Spread.{complete-good}
 use Rattle.tree_laws.proofs.Insertion.{size-node}
 use Rattle.tree_laws.proofs.Labels.{length-labels, children-fit, label-from, label-below}

@@ -12,7 +12,7 @@ use borrow.Author.Tests.{eq-eqb, ne-eqb, lt-ltb, le-ltb, ltb-true, not-true, not
 use lib.Dec.{leb, eqb}
 use lib.ListN.{getD, replicate}
 use Rattle.store_types.specs.Limits.{no-tag}
-use Rattle.calls.specs.Words.{word-at, field}
+use Rattle.store_types.specs.Layout.{at-first, at-stamp, at-up, at-kind, word-at, field, label-at}
 use Rattle.walk_model.specs.Levels.{Levels, closes, all-close}
 use Rattle.walk_model.specs.Walk.{State, end-fits, kind-fits, open-after, placed, tag-passes, passed, ends-well, walk}
 use Rattle.walk_model.specs.Watch.{place-sizes, close-sizes, walk-sizes}
@@ -24,7 +24,7 @@ use Rattle.walk.specs.declared.State as code
 
 -- WHAT THE CALLS ASK
 pub open-reads : {ws w l h ns : List ℕ} {n u o : ℕ} → Pass-fits ws n u w l h ns → ((o ≡ no-tag → ⊥) → o < n) → Open-reads ws n o
-open-reads a q = record { few = a .few; long = a .long; open-below = q }
+open-reads a q = record { records = a .records; open-below = q }
 
 -- BEHIND THE LAST TAG
 module _ (ws : List ℕ) (n u : ℕ) (l h f : List ℕ) (x o m : ℕ) {t : Bool} where
@@ -40,7 +40,7 @@ module _ (ws : List ℕ) (n u : ℕ) (l h f : List ℕ) (x o m : ℕ) {t : Bool}
   unfolding ends-from
   ends-node e p = simp (sym e ∙ not-true t p, and-false)
 
-  pub ends-stamp : {q r : Bool} → q ≡ eqb x no-tag → not q ≡ false → r ≡ eqb o no-tag → not r ≡ false → t ≡ close-from l h u n f → not t ≡ false → leb (word-at ws 7) (n + m) ≡ ends-from ws n u l h f x o m
+  pub ends-stamp : {q r : Bool} → q ≡ eqb x no-tag → not q ≡ false → r ≡ eqb o no-tag → not r ≡ false → t ≡ close-from l h u n f → not t ≡ false → leb (word-at ws at-stamp) (n + m) ≡ ends-from ws n u l h f x o m
   unfolding ends-from
   ends-stamp a b c d e g = rw (sym a ∙ not-false _ b, sym c ∙ not-false _ d, sym e ∙ not-false _ g)
 
@@ -67,7 +67,7 @@ module _ (ws w l h : List ℕ) (n u : ℕ) (v : code.State) (e f : List ℕ) whe
   unfolding tag-passes shape-with state-with
   tag-beyond r = rw (le-ltb (v .tag .0) n r)
 
-  module _ {lab : ℕ} (label : lab ≡ field ws (v .tag .0) 0) where
+  module _ {lab : ℕ} (label : lab ≡ label-at ws (v .tag .0)) where
     pub placed-by : (e′ f′ : List ℕ) → levels-of e′ f′ ≡ place-from w l h u (v .expect) lab (v .place) e f .levels → levels-of e′ f′ ≡ levels-at
     unfolding placed place-from shape-with state-with
     placed-by e′ f′ c = rw (levels-at, ← label) c
@@ -81,8 +81,8 @@ module _ (ws w l h : List ℕ) (n u : ℕ) (v : code.State) (e f : List ℕ) whe
       unfolding tag-passes placed place-from shape-with state-with fits-at
       tag-decides below r fits = rw (lt-ltb (v .tag .0) n below, ← label, sym place ∙ not-false _ r) fits
 
-pub sizes-by : (ws : List ℕ) (x : ℕ) {lab : ℕ} → lab ≡ field ws x 0 → (w ns : List ℕ) (u q i : ℕ) (e f sz : List ℕ) {sz′ : List ℕ} →
-    sz′ ≡ place-sizes w ns u q lab i (levels-of e f) sz → sz′ ≡ place-sizes w ns u q (field ws x 0) i (levels-of e f) sz
+pub sizes-by : (ws : List ℕ) (x : ℕ) {lab : ℕ} → lab ≡ label-at ws x → (w ns : List ℕ) (u q i : ℕ) (e f sz : List ℕ) {sz′ : List ℕ} →
+    sz′ ≡ place-sizes w ns u q lab i (levels-of e f) sz → sz′ ≡ place-sizes w ns u q (label-at ws x) i (levels-of e f) sz
 sizes-by ws x label w ns u q i e f sz c = rw (← label) c
 
 -- behind it
@@ -108,7 +108,7 @@ module _ (ws w l h : List ℕ) (n u : ℕ) where
 
   abbrev first-state : code.State
   first-state =
-      record { place = 0; tag = record { 0 = word-at ws 5 }; prior = record { 0 = no-tag }; parent = record { 0 = no-tag }; marks = 0; expect = 0 }
+      record { place = 0; tag = record { 0 = word-at ws at-first }; prior = record { 0 = no-tag }; parent = record { 0 = no-tag }; marks = 0; expect = 0 }
 
   pub walk-start : walk-at first-state w (replicate 24 0) ≡ walk-whole
   unfolding state-with start-with
@@ -133,7 +133,7 @@ module _ (ws w l h : List ℕ) (n u : ℕ) where
   -- THE SIZES
   turn-by : (ns sz : List ℕ) (k : ℕ) (v : code.State) (e f : List ℕ) →
       walk-sizes ws (shape-with w l h u n) ns (suc k) (v .place) (state-with v e f) sz
-      ≡ walk-sizes ws (shape-with w l h u n) ns k (suc (v .place)) (passed ws (shape-with w l h u n) (v .place) (state-with v e f)) (place-sizes w ns u (v .expect) (field ws (v .tag .0) 0) (v .place) (levels-of e f) sz)
+      ≡ walk-sizes ws (shape-with w l h u n) ns k (suc (v .place)) (passed ws (shape-with w l h u n) (v .place) (state-with v e f)) (place-sizes w ns u (v .expect) (label-at ws (v .tag .0)) (v .place) (levels-of e f) sz)
   unfolding walk-sizes shape-with tables-of state-with
   turn-by ns sz k v e f = refl
 
@@ -148,7 +148,7 @@ module _ (ws w l h : List ℕ) (n u : ℕ) where
       sizes-end r s = let z : n - v .place ≡ 0 = omega arith in s ∙ (rw z at inv)
 
       pub sizes-more : (q : code.State) (e′ f′ : List ℕ) {sz′ : List ℕ} → v .place < n → levels-of e′ f′ ≡ levels-at ws w l h n u v e f → Behind ws (getD w 0 0) v q →
-          sz′ ≡ place-sizes w ns u (v .expect) (field ws (v .tag .0) 0) (v .place) (levels-of e f) sz → sizes-at-tag ns q e′ f′ sz′ ≡ whole
+          sz′ ≡ place-sizes w ns u (v .expect) (label-at ws (v .tag .0)) (v .place) (levels-of e f) sz → sizes-at-tag ns q e′ f′ sz′ ≡ whole
       sizes-more q e′ f′ more c b s =
           let z : n - v .place ≡ suc (n - (v .place + 1)) = omega arith in
           rw (passed-by ws w l h n u v q e f e′ f′ c b, s, b .place) (rw (z, turn-by, ← add-one (v .place)) at inv)
@@ -160,7 +160,7 @@ at-most-one false = omega arith
 
 pub marks-kept : (ws : List ℕ) (width : ℕ) {v q : code.State} → Behind ws width v q → v .marks ≤ v .place → q .marks ≤ q .place
 unfolding marks-at
-marks-kept ws width {v} b p = rw (b .marks, b .place) (omega (arith, at-most-one (leb 16 (field ws (v .tag .0) 5))))
+marks-kept ws width {v} b p = rw (b .marks, b .place) (omega (arith, at-most-one (leb 16 (field ws (v .tag .0) at-kind))))
 
 last-test : (a b c : Bool) → cond a false (cond b c false) ≡ true → c ≡ true
 last-test true b c e = absurd (false≢true e)
@@ -169,10 +169,10 @@ last-test false false c e = absurd (false≢true e)
 
 module _ (ws : List ℕ) (n o x : ℕ) where
   -- the up of an end that fits is no tag or a tag
-  end-kept : (c : ℕ) → end-fits ws n o x c ≡ true → (field ws x 4 ≡ no-tag → ⊥) → field ws x 4 < n
+  end-kept : (c : ℕ) → end-fits ws n o x c ≡ true → (field ws x at-up ≡ no-tag → ⊥) → field ws x at-up < n
   unfolding end-fits
   end-kept c e p =
-      let tag = simp and-eq-true-iff at e in ltb-true (field ws x 4) n (rw (ne-eqb (field ws x 4) no-tag p) at (tag .1 .1))
+      let tag = simp and-eq-true-iff at e in ltb-true (field ws x at-up) n (rw (ne-eqb (field ws x at-up) no-tag p) at (tag .1 .1))
 
   -- and so is what is open behind any tag that fits
   open-fits : (c : ℕ) → x < n → ((o ≡ no-tag → ⊥) → o < n) → kind-fits ws n o x c ≡ true → (open-after ws o x c ≡ no-tag → ⊥) → open-after ws o x c < n
@@ -185,18 +185,18 @@ module _ (ws : List ℕ) (n o x : ℕ) where
 
 -- what a tag that passes says of its number and its kind
 module _ (ws w l h : List ℕ) (n u : ℕ) (v : code.State) (e f : List ℕ) {t : Bool} (one : t ≡ tag-at ws w l h n u v e f) (passes : not t ≡ false) where
-  tag-tests : (v .tag .0 < n) × (kind-fits ws n (v .parent .0) (v .tag .0) (field ws (v .tag .0) 5) ≡ true)
+  tag-tests : (v .tag .0 < n) × (kind-fits ws n (v .parent .0) (v .tag .0) (field ws (v .tag .0) at-kind) ≡ true)
   unfolding tag-passes shape-with state-with
   tag-tests =
       let all = simp and-eq-true-iff at (sym one ∙ not-false _ passes) in (ltb-true (v .tag .0) n (all .0 .0), all .1 .1)
 
   -- so the state behind it can be made
   pub passed-fits : {ns : List ℕ} → Pass-fits ws n u w l h ns → ((v .parent .0 ≡ no-tag → ⊥) → v .parent .0 < n) → v .marks ≤ v .place → v .place < n →
-      (Reads ws n (v .tag .0) (v .parent .0) × (kind-fits ws n (v .parent .0) (v .tag .0) (field ws (v .tag .0) 5) ≡ true))
-      × ((field ws (v .tag .0) 5 < 32) × (v .place < 4000000000) × (v .marks < 4000000000) × (getD w 0 0 ≤ entry-limit))
+      (Reads ws n (v .tag .0) (v .parent .0) × (kind-fits ws n (v .parent .0) (v .tag .0) (field ws (v .tag .0) at-kind) ≡ true))
+      × ((field ws (v .tag .0) at-kind < 32) × (v .place < 4000000000) × (v .marks < 4000000000) × (getD w 0 0 ≤ entry-limit))
   passed-fits a o few more =
       let kind = tag-tests .1 in
-      ((record { around = open-reads a o; below = tag-tests .0 }, kind), (fits-small _ _ _ _ _ kind, omega (arith, a .few), omega (arith, a .few), a .levels .widths 0))
+      ((record { around = open-reads a o; below = tag-tests .0 }, kind), (fits-small _ _ _ _ _ kind, omega (arith, a .records .few), omega (arith, a .records .few), a .levels .widths 0))
 
   pub open-kept : (width : ℕ) {q : code.State} → Behind ws width v q → ((v .parent .0 ≡ no-tag → ⊥) → v .parent .0 < n) → (q .parent .0 ≡ no-tag → ⊥) → q .parent .0 < n
-  open-kept width b o = rw (b .parent) (open-fits ws n (v .parent .0) (v .tag .0) (field ws (v .tag .0) 5) (tag-tests .0) o (tag-tests .1))
+  open-kept width b o = rw (b .parent) (open-fits ws n (v .parent .0) (v .tag .0) (field ws (v .tag .0) at-kind) (tag-tests .0) o (tag-tests .1))

@@ -11,11 +11,10 @@ use native.Mathlib.Decide.{decLe}
 use native.Mathlib.Omega.{arith}
 use borrow.Author.Tests.{leb-true, not-true, not-false}
 use lib.ListN.{length, getD, replicate}
-use Rattle.store_types.specs.Limits.{word-limit}
+use Rattle.store_types.specs.Limits.{label-limit, word-limit}
+use Rattle.store_types.specs.Layout.{at-s, at-r, at-height, at-count, header-words, word-at, Records}
 use Rattle.tree.specs.Book.{base, power-width}
 use Rattle.calls.specs.Sound.{degrees-fit}
-use Rattle.calls.specs.Load.{words-for}
-use Rattle.calls.specs.Words.{word-at}
 use Rattle.walk_model.specs.Walk.{table, shape-of, start, walk, header-passes, words-pass}
 use Rattle.walk_model.specs.Watch.{ancestor-numbers, watched-label, watched-numbers, walk-sizes, sizes-at}
 use Rattle.walk_levels.specs.Needs.{entry-limit, Table-fits, Ancestors-fit, tables-of, levels-of}
@@ -28,31 +27,30 @@ use Rattle.walk_levels.proofs.AncestorNumbers.{numbers-fit}
 module _ (ws : List ℕ) where
   -- the numbers of the header
   abbrev pub s-of : ℕ
-  s-of = word-at ws 1
+  s-of = word-at ws at-s
 
   abbrev pub r-of : ℕ
-  r-of = word-at ws 2
+  r-of = word-at ws at-r
 
   abbrev pub h-of : ℕ
-  h-of = word-at ws 3
+  h-of = word-at ws at-height
 
   abbrev pub n-of : ℕ
-  n-of = word-at ws 4
+  n-of = word-at ws at-count
 
 -- what a frame that passes says
 pub record Frame (ws : List ℕ) : Type 0 where
-  pub header : 8 ≤ length ws
+  pub header : header-words ≤ length ws
   pub s-low : 2 ≤ s-of ws
   pub s-high : s-of ws ≤ 16
   pub r-low : 2 ≤ r-of ws
   pub r-high : r-of ws ≤ 16
   pub low : 1 ≤ h-of ws
-  pub few : n-of ws ≤ 200000
-  pub long : 8 + 6 * n-of ws ≤ length ws
-  pub power : (s-of ws * r-of ws - 1) ^ h-of ws ≤ 4294967296
+  pub records : Records ws (n-of ws)
+  pub power : (s-of ws * r-of ws - 1) ^ h-of ws ≤ label-limit
 
 pub frame : (ws : List ℕ) {t : Bool} → t ≡ frame-passes ws → not t ≡ false → Frame ws
-unfolding frame-passes degrees-fit words-for power-fits
+unfolding frame-passes degrees-fit power-fits
 frame ws e p =
     let all = simp and-eq-true-iff at (sym e ∙ not-false _ p) in
     record {
@@ -62,8 +60,7 @@ frame ws e p =
       r-low = leb-true _ _ (all .0 .1 .0 .1 .0);
       r-high = leb-true _ _ (all .0 .1 .0 .1 .1);
       low = leb-true _ _ (all .0 .1 .1);
-      few = leb-true _ _ (all .1 .0 .0);
-      long = leb-true _ _ (all .1 .0 .1);
+      records = record { few = leb-true _ _ (all .1 .0 .0); long = leb-true _ _ (all .1 .0 .1) };
       power = leb-true _ _ (all .1 .1);
     }
 
@@ -110,8 +107,7 @@ module _ (ws lo : List ℕ) (a : Frame ws) (of-lo : lo ≡ table 1 (r-of ws) (h-
   pub pass-fits : {w hi ns : List ℕ} {l : ℕ} → w ≡ table 1 (s-of ws * r-of ws - 1) (h-of ws) → hi ≡ table (s-of ws) (r-of ws) (h-of ws) → ns ≡ ancestor-numbers w (h-of ws - 1) l 0 (replicate 24 0) → l < word-limit → Pass-fits ws (n-of ws) (h-of ws - 1) w lo hi ns
   pass-fits {w} of-w of-hi of-ns fits =
       record {
-        few = a .few;
-        long = a .long;
+        records = a .records;
         numbers = numbers-fit w (h-of ws - 1) of-ns fits;
         levels = record {
           height = omega (arith, high ws a);

@@ -7,15 +7,14 @@ use Prim.Native.Nat.{ℕ, _+_, _*_, _≤_}
 use lib.Dec.{leb, eqb}
 use lib.ListN.{length, replicate}
 use Rattle.store_types.specs.Limits.{no-tag, most-tags}
-use Rattle.calls.specs.Words.{word-at, field}
+use Rattle.store_types.specs.Layout.{at-first, at-stamp, header-words, at-next, at-kind, word-at, field, label-at, Records}
 use Rattle.walk_model.specs.Walk.{Shape, State, open-after}
 use Rattle.walk_tags.specs.Needs.{marks-at}
 use Rattle.walk_levels.specs.Needs.{tables-of, levels-of, Levels-fit, Numbers-fit, close-from}
 use Rattle.walk.specs.declared.State as code
 
 pub record Pass-fits (ws : List ℕ) (n under : ℕ) (w l h ns : List ℕ) : Type 0 where
-  pub few : n ≤ most-tags
-  pub long : 8 + 6 * n ≤ length ws
+  pub records : Records ws n
   pub levels : Levels-fit under w l h
   pub numbers : Numbers-fit ns
 
@@ -30,19 +29,19 @@ state-with v e f =
 -- and where it stands behind that tag
 pub record Behind (ws : List ℕ) (width : ℕ) (v q : code.State) : Type 0 where
   pub place : q .place ≡ v .place + 1
-  pub tag : q .tag .0 ≡ field ws (v .tag .0) 1
+  pub tag : q .tag .0 ≡ field ws (v .tag .0) at-next
   pub prior : q .prior .0 ≡ v .tag .0
-  pub parent : q .parent .0 ≡ open-after ws (v .parent .0) (v .tag .0) (field ws (v .tag .0) 5)
+  pub parent : q .parent .0 ≡ open-after ws (v .parent .0) (v .tag .0) (field ws (v .tag .0) at-kind)
   pub marks : q .marks ≡ marks-at ws (v .tag .0) (v .marks)
-  pub expect : q .expect ≡ field ws (v .tag .0) 0 + width
+  pub expect : q .expect ≡ label-at ws (v .tag .0) + width
 
 unfoldable pub start-with : (words widths : List ℕ) → State
 start-with ws w =
-    record { tag = word-at ws 5; prior = no-tag; open-begin = no-tag; marks = 0; expect = 0; levels = levels-of w (replicate 24 0) }
+    record { tag = word-at ws at-first; prior = no-tag; open-begin = no-tag; marks = 0; expect = 0; levels = levels-of w (replicate 24 0) }
 
 -- behind the last tag
 pub record Ends-fit (ws : List ℕ) (n under marks : ℕ) (w l h ns : List ℕ) : Type 0 where
-  pub long : 8 ≤ length ws
+  pub long : header-words ≤ length ws
   pub few : n ≤ most-tags
   pub marks-few : marks ≤ most-tags
   pub levels : Levels-fit under w l h
@@ -50,4 +49,4 @@ pub record Ends-fit (ws : List ℕ) (n under marks : ℕ) (w l h ns : List ℕ) 
 
 unfoldable pub ends-from : (words : List ℕ) → (n under : ℕ) → (lows highs firsts : List ℕ) → (tag open-begin marks : ℕ) → Bool
 ends-from ws n u l h f x o m =
-    (eqb x no-tag && eqb o no-tag) && (close-from l h u n f && leb (word-at ws 7) (n + m))
+    (eqb x no-tag && eqb o no-tag) && (close-from l h u n f && leb (word-at ws at-stamp) (n + m))

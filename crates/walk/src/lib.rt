@@ -2,7 +2,7 @@
 ghost use mathlib.Core.Path.{_≡_};
 ghost use mathlib.Core.Bool.{true};
 ghost use Prim.Native.Nat.{_<_, _≤_};
-ghost use Rattle.calls.specs.Words.{field};
+ghost use Rattle.store_types.specs.Layout.{at-kind, field, label-at};
 ghost use Rattle.walk_model.specs.Walk.{kind-fits, placed, tag-passes, walk, words-pass};
 ghost use Rattle.walk_model.specs.Watch.{place-sizes, close-sizes, walk-sizes, sizes-at};
 ghost use Rattle.walk_tags.specs.Needs.{Reads, Open-reads};
@@ -38,7 +38,7 @@ fn tag_passes(
     requires { ⌜ Pass-fits (now words) n under (now widths) (now lows) (now highs) (now numbers) × Open-reads (now words) n (v .parent .0) ⌝ }
     ensures ok { λ t. ⌜ t ≡ tag-passes (now (words .entry)) (shape-with (now (widths .entry)) (now (lows .entry)) (now (highs .entry)) under n) (v .place) (state-with v (now (ends .entry)) (now (firsts .entry))) ⌝ }
     ensures left { λ t. ⌜ (t ≡ true → levels-of (now (ends .exit)) (now (firsts .exit)) ≡ placed (now (words .entry)) (shape-with (now (widths .entry)) (now (lows .entry)) (now (highs .entry)) under n) (v .place) (state-with v (now (ends .entry)) (now (firsts .entry))) .levels) ⌝ }
-    ensures sizes { λ t. ⌜ (t ≡ true → now (sizes .exit) ≡ place-sizes (now (widths .entry)) (now (numbers .entry)) under (v .expect) (field (now (words .entry)) (v .tag .0) 0) (v .place) (levels-of (now (ends .entry)) (now (firsts .entry))) (now (sizes .entry))) ⌝ }
+    ensures sizes { λ t. ⌜ (t ≡ true → now (sizes .exit) ≡ place-sizes (now (widths .entry)) (now (numbers .entry)) under (v .expect) (label-at (now (words .entry)) (v .tag .0)) (v .place) (levels-of (now (ends .entry)) (now (firsts .entry))) (now (sizes .entry))) ⌝ }
 {
     if n <= v.tag.0 {
         return false;
@@ -63,8 +63,8 @@ fn tag_passes(
 
 // Behind a tag that passes.
 fn passed(words: &[u32], n: u32, width: u64, v: State) -> State
-    requires tag { ⌜ Reads (now words) n (v .tag .0) (v .parent .0) × (kind-fits (now words) n (v .parent .0) (v .tag .0) (field (now words) (v .tag .0) 5) ≡ true) ⌝ }
-    requires counts { ⌜ (field (now words) (v .tag .0) 5 < 32) × (v .place < 4000000000) × (v .marks < 4000000000) × (width ≤ entry-limit) ⌝ }
+    requires tag { ⌜ Reads (now words) n (v .tag .0) (v .parent .0) × (kind-fits (now words) n (v .parent .0) (v .tag .0) (field (now words) (v .tag .0) at-kind) ≡ true) ⌝ }
+    requires counts { ⌜ (field (now words) (v .tag .0) at-kind < 32) × (v .place < 4000000000) × (v .marks < 4000000000) × (width ≤ entry-limit) ⌝ }
     ensures { λ q. ⌜ Behind (now (words .entry)) width v q ⌝ }
 {
     let x = v.tag;

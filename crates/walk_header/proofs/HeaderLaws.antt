@@ -10,9 +10,8 @@ use borrow.Author.Tests.{eq-eqb, ne-eqb, lt-ltb, le-ltb, le-leb, lt-leb, leb-tru
 use lib.Dec.{leb, eqb}
 use lib.ListN.{length, getD}
 use Rattle.store_types.specs.Limits.{label-limit, most-tags}
+use Rattle.store_types.specs.Layout.{at-version, at-s, at-r, at-height, at-count, word-at, words-for}
 use Rattle.calls.specs.Sound.{degrees-fit}
-use Rattle.calls.specs.Load.{words-for}
-use Rattle.calls.specs.Words.{word-at}
 use Rattle.walk_header.specs.Needs.{power-fits, root-passes, degree-fits, frame-passes}
 
 -- A POWER: p is b^i
@@ -70,31 +69,31 @@ module _ (ws : List ℕ) where
   unfolding frame-passes
   frame-short p = rw (lt-leb 8 (length ws) p)
 
-  pub frame-version : (word-at ws 0 ≡ 1 → ⊥) → false ≡ frame-passes ws
+  pub frame-version : (word-at ws at-version ≡ 1 → ⊥) → false ≡ frame-passes ws
   unfolding frame-passes
-  frame-version p = simp (ne-eqb (word-at ws 0) 1 p, and-false)
+  frame-version p = simp (ne-eqb (word-at ws at-version) 1 p, and-false)
 
-  pub frame-s : {t : Bool} → t ≡ degree-fits (word-at ws 1) → not t ≡ true → false ≡ frame-passes ws
+  pub frame-s : {t : Bool} → t ≡ degree-fits (word-at ws at-s) → not t ≡ true → false ≡ frame-passes ws
   unfolding frame-passes degrees-fit degree-fits
   frame-s e p = simp (sym e ∙ not-true _ p, and-false)
 
-  pub frame-r : {t : Bool} → t ≡ degree-fits (word-at ws 2) → not t ≡ true → false ≡ frame-passes ws
+  pub frame-r : {t : Bool} → t ≡ degree-fits (word-at ws at-r) → not t ≡ true → false ≡ frame-passes ws
   unfolding frame-passes degrees-fit degree-fits
   frame-r e p = simp (sym e ∙ not-true _ p, and-false)
 
-  pub frame-height : word-at ws 3 < 1 → false ≡ frame-passes ws
+  pub frame-height : word-at ws at-height < 1 → false ≡ frame-passes ws
   unfolding frame-passes
-  frame-height p = simp (lt-leb 1 (word-at ws 3) p, and-false)
+  frame-height p = simp (lt-leb 1 (word-at ws at-height) p, and-false)
 
-  pub frame-count : most-tags < word-at ws 4 → false ≡ frame-passes ws
+  pub frame-count : most-tags < word-at ws at-count → false ≡ frame-passes ws
   unfolding frame-passes
-  frame-count p = simp (lt-leb (word-at ws 4) most-tags p, and-false)
+  frame-count p = simp (lt-leb (word-at ws at-count) most-tags p, and-false)
 
-  pub frame-words : length ws < 8 + 6 * word-at ws 4 → false ≡ frame-passes ws
+  pub frame-words : length ws < 8 + 6 * word-at ws at-count → false ≡ frame-passes ws
   unfolding frame-passes words-for
-  frame-words p = simp (lt-leb (8 + 6 * word-at ws 4) (length ws) p, and-false)
+  frame-words p = simp (lt-leb (8 + 6 * word-at ws at-count) (length ws) p, and-false)
 
-  pub frame-power : {t p q : Bool} → 8 ≤ length ws → word-at ws 0 ≡ 1 → p ≡ degree-fits (word-at ws 1) → not p ≡ false → q ≡ degree-fits (word-at ws 2) → not q ≡ false → 1 ≤ word-at ws 3 → word-at ws 4 ≤ most-tags → 8 + 6 * word-at ws 4 ≤ length ws → t ≡ power-fits (word-at ws 1 * word-at ws 2 - 1) (word-at ws 3) → t ≡ frame-passes ws
+  pub frame-power : {t p q : Bool} → 8 ≤ length ws → word-at ws at-version ≡ 1 → p ≡ degree-fits (word-at ws at-s) → not p ≡ false → q ≡ degree-fits (word-at ws at-r) → not q ≡ false → 1 ≤ word-at ws at-height → word-at ws at-count ≤ most-tags → 8 + 6 * word-at ws at-count ≤ length ws → t ≡ power-fits (word-at ws at-s * word-at ws at-r - 1) (word-at ws at-height) → t ≡ frame-passes ws
   unfolding frame-passes degrees-fit degree-fits words-for
   frame-power a b c d e f g h i j =
-      rw (le-leb 8 (length ws) a, eq-eqb (word-at ws 0) 1 b, sym c ∙ not-false _ d, sym e ∙ not-false _ f, le-leb 1 (word-at ws 3) g, le-leb (word-at ws 4) most-tags h, le-leb (8 + 6 * word-at ws 4) (length ws) i, ← j)
+      rw (le-leb 8 (length ws) a, eq-eqb (word-at ws at-version) 1 b, sym c ∙ not-false _ d, sym e ∙ not-false _ f, le-leb 1 (word-at ws at-height) g, le-leb (word-at ws at-count) most-tags h, le-leb (8 + 6 * word-at ws at-count) (length ws) i, ← j)

@@ -5,10 +5,9 @@ use mathlib.Core.List.{List}
 use Prim.Native.Nat.{ℕ, pred, _*_, _-_, _^_, _≤_}
 use lib.Dec.{ltb, leb, eqb}
 use lib.ListN.{length, getD}
-use Rattle.store_types.specs.Limits.{header-words, most-tags, label-limit}
+use Rattle.store_types.specs.Limits.{most-tags, label-limit}
+use Rattle.store_types.specs.Layout.{at-version, at-s, at-r, at-height, at-count, header-words, word-at, words-for}
 use Rattle.calls.specs.Sound.{degrees-fit}
-use Rattle.calls.specs.Load.{words-for}
-use Rattle.calls.specs.Words.{word-at}
 use Rattle.walk_model.specs.Levels.{entry}
 use Rattle.walk_levels.specs.Needs.{entry-limit}
 
@@ -21,11 +20,11 @@ degree-fits d = leb 2 d && leb d 16
 
 unfoldable pub frame-passes : List ℕ → Bool
 frame-passes ws =
-    let s = word-at ws 1 in
-    let r = word-at ws 2 in
-    let n = word-at ws 4 in
-    ((leb header-words (length ws) && eqb (word-at ws 0) 1) && (degrees-fit s r && leb 1 (word-at ws 3)))
-    && ((leb n most-tags && leb (words-for n) (length ws)) && power-fits (s * r - 1) (word-at ws 3))
+    let s = word-at ws at-s in
+    let r = word-at ws at-r in
+    let n = word-at ws at-count in
+    ((leb header-words (length ws) && eqb (word-at ws at-version) 1) && (degrees-fit s r && leb 1 (word-at ws at-height)))
+    && ((leb n most-tags && leb (words-for header-words n) (length ws)) && power-fits (s * r - 1) (word-at ws at-height))
 
 pub record Root-fits (h : ℕ) (l : List ℕ) : Type 0 where
   pub low : 1 ≤ h

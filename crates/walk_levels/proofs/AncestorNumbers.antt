@@ -7,7 +7,7 @@ use native.Mathlib.Omega.{arith}
 use borrow.Author.Tests.{lt-ltb, le-ltb}
 use lib.ListN.{set, replicate}
 use Rattle.store_types.specs.Limits.{word-limit}
-use Rattle.calls.specs.Words.{word-at, field}
+use Rattle.store_types.specs.Layout.{at-count, word-at, label-at}
 use Rattle.walk_model.specs.Levels.{entry}
 use Rattle.walk_model.specs.Watch.{ancestor-numbers, watched-label}
 use Rattle.walk_levels.specs.Needs.{entry-limit}
@@ -65,10 +65,10 @@ numbers-fit w u {ns} {l} e fits i =
 
 -- THE LABEL AT A PLACE
 module _ (ws : List ℕ) (y : ℕ) where
-  pub label-tag : {l : ℕ} → y < word-at ws 4 → l ≡ field ws y 0 → l ≡ watched-label ws y
+  pub label-tag : {l : ℕ} → y < word-at ws at-count → l ≡ label-at ws y → l ≡ watched-label ws y
   unfolding watched-label
-  label-tag p e = rw (lt-ltb y (word-at ws 4) p) e
+  label-tag p e = rw (lt-ltb y (word-at ws at-count) p) e
 
-  pub label-none : word-at ws 4 ≤ y → 0 ≡ watched-label ws y
+  pub label-none : word-at ws at-count ≤ y → 0 ≡ watched-label ws y
   unfolding watched-label
-  label-none p = rw (le-ltb y (word-at ws 4) p)
+  label-none p = rw (le-ltb y (word-at ws at-count) p)

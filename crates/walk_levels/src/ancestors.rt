@@ -2,7 +2,7 @@
 ghost use mathlib.Core.Path.{_≡_};
 ghost use Prim.Native.Nat.{_+_, _*_, _≤_};
 ghost use lib.ListN.{length, replicate};
-ghost use Rattle.calls.specs.Words.{word-at};
+ghost use Rattle.store_types.specs.Layout.{at-count, word-at, Records};
 ghost use Rattle.walk_model.specs.Watch.{ancestor-numbers, watched-label};
 ghost use Rattle.walk_levels.specs.Needs.{Ancestors-fit};
 use store_types::Label;
@@ -10,7 +10,7 @@ use store_types::TagId;
 
 // The label at a place; 0, that of the first leaf, where the place is no tag of the book.
 pub fn watched_label(words: &[u32], place: TagId) -> Label
-    requires { ⌜ 8 + 6 * word-at (now words) 4 ≤ length (now words) ⌝ }
+    requires { ⌜ Records (now words) (word-at (now words) at-count) ⌝ }
     ensures { λ l. ⌜ l .0 ≡ watched-label (now (words .entry)) (place .0) ⌝ }
 {
     if place.0 < words[4] {

@@ -11,8 +11,7 @@ use borrow.Author.Tests.{ltb-true, ltb-false, eqb-true, eqb-false}
 use lib.Dec.{ltb, eqb}
 use lib.ListN.{length, length-set}
 use lib.Seq.{getD-set-same, getD-set-other}
-use Rattle.tree_laws.proofs.Good.{and-left, and-right}
-use Rattle.tree_laws.proofs.Rows.{by-test}
+use Rattle.lists.proofs.Tests.{and-left, and-right, by-test}
 use Rattle.walk_model.specs.Levels.{Tables, Levels, Settled, entry, closes, settle, place-label}
 use Rattle.walk_model.specs.Watch.{taken, settle-sizes, place-sizes}
 use Rattle.walk_model.proofs.Spine.{opened, settle-stays, settle-higher, settle-fails}

@@ -9,9 +9,10 @@ use native.Mathlib.Omega.{arith}
 use borrow.Author.Tests.{lt-ltb, le-ltb, eq-eqb}
 use lib.Dec.{eqb}
 use lib.ListN.{length, length-append}
+use Rattle.lists.proofs.Tests.{and-both}
+use Rattle.tree.specs.Good.{Good}
 use Rattle.tree.specs.Forest.{Forest, nil, leaf, node, leaves, size, labels, joined}
 use Rattle.tree.specs.Promise.{Widths}
-use Rattle.tree_laws.proofs.Good.{Good, and-both}
 use Rattle.tree_laws.proofs.Insertion.{size-node}
 use Rattle.tree_laws.proofs.Labels.{trees, width-least, children-fit, length-labels}
 use Rattle.tree_laws.proofs.Spread.{leaves-joined, good-joined, some-power}

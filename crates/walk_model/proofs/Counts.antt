@@ -7,8 +7,10 @@ use Prim.Native.Nat.{ℕ, suc, _+_, _≤_, _<_}
 use native.Mathlib.Nat.{zero-add}
 use native.Mathlib.Omega.{arith}
 use lib.ListN.{length, getD}
-use Rattle.tree.specs.Row.{numbers, member}
-use Rattle.tree_laws.proofs.Rows.{Distinct, Among, differs, member-nil, member-first, member-later, member-cases, member-numbers, length-numbers, without, without-first, without-other, length-without, member-without}
+use Rattle.lists.specs.Lists.{numbers}
+use Rattle.lists.proofs.Numbers.{length-numbers}
+use Rattle.tree.specs.Row.{member}
+use Rattle.tree_laws.proofs.Rows.{Distinct, Among, differs, member-nil, member-first, member-later, member-cases, member-numbers, without, without-first, without-other, length-without, member-without}
 use Rattle.calls.specs.Store.{Store, Fact, no-fact, fact, count, marked-count}
 use Rattle.calls_laws.proofs.Fields.{Tag-says}
 use Rattle.calls_laws.proofs.Reader.{kind-back}

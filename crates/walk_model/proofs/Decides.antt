@@ -6,8 +6,9 @@ use mathlib.Core.List.{List}
 use mathlib.Core.Option.{Option, none, some}
 use Prim.Native.Nat.{ℕ, _<_}
 use Rattle.store_types.specs.Limits.{word-limit}
+use Rattle.store_types.specs.Layout.{at-book, word-at}
 use Rattle.calls.specs.Store.{Store}
-use Rattle.calls.specs.Words.{Says, word-at, read}
+use Rattle.calls.specs.Words.{Says, read}
 use Rattle.calls.specs.Replies.{said}
 use Rattle.calls.specs.Promise.{Reader-right}
 use Rattle.calls_laws.proofs.Reader.{reader-right}
@@ -17,7 +18,7 @@ use Rattle.walk_model.specs.Promise.{Walk-right}
 use Rattle.walk_model.proofs.WalkRight.{walk-right}
 
 -- a book number is a word, as all that a slice of words holds
-module _ (ws : List ℕ) (fits : word-at ws 6 < word-limit) where
+module _ (ws : List ℕ) (fits : word-at ws at-book < word-limit) where
   pub passes-says : words-pass ws ≡ true → Says ws (said ws)
   unfolding Walk-right
   passes-says e = let st = walk-right ws fits .0 e in rw (said-store ws (st .0) (st .1)) (st .1)

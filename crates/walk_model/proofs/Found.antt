@@ -9,15 +9,20 @@ use borrow.Author.Tests.{leb-true, leb-false, eqb-true, lt-ltb}
 use lib.Dec.{leb, eqb}
 use lib.ListN.{getD, length-map}
 use Rattle.store_types.specs.Limits.{no-tag, word-limit, most-tags}
-use Rattle.tree.specs.Row.{numbers, member, place, all-below}
+use Rattle.lists.proofs.Tests.{and-left, and-right, and-both, by-test, fails}
+use Rattle.store_types.specs.Layout.{at-first, at-book, at-stamp, at-kind, word-at, field, label-at}
+use Rattle.lists.specs.Lists.{numbers}
+use Rattle.lists.proofs.Numbers.{length-numbers, getD-numbers}
+use Rattle.tree.specs.Good.{Good}
+use Rattle.tree.specs.Row.{member, place, all-below}
 use Rattle.tree.specs.Forest.{Forest, leaves, size, labels}
 use Rattle.tree.specs.Book.{label-of, power-width, root-within, book-within}
-use Rattle.tree_laws.proofs.Good.{Good, test-of, and-left, and-right, and-both}
-use Rattle.tree_laws.proofs.Rows.{Distinct, by-test, fails, member-nil, member-cases, getD-place, place-of-member, length-numbers, getD-numbers, all-below-distinct, member-all-below}
+use Rattle.tree_laws.proofs.Good.{test-of}
+use Rattle.tree_laws.proofs.Rows.{Distinct, member-nil, member-cases, getD-place, place-of-member, all-below-distinct, member-all-below}
 use Rattle.tree_laws.proofs.Labels.{Rising, rising-from, good-rising, power-widths}
 use Rattle.calls.specs.Kind.{code, kind-of, kind-word}
 use Rattle.calls.specs.Store.{Store, no-fact, fact, count}
-use Rattle.calls.specs.Words.{Says, word-at, field, read-fact, label-field}
+use Rattle.calls.specs.Words.{Says, read-fact}
 use Rattle.calls_laws.proofs.Tests.{Sound, sound-of}
 use Rattle.calls_laws.proofs.Fields.{Tag-says, Header-says}
 use Rattle.calls_laws.proofs.Reader.{getD-map}
@@ -70,11 +75,11 @@ kind-known ws n o x c h =
 
 -- so of each tag along the row
 words-back : (ws : List ℕ) (n o : ℕ) (xs : List ℕ) → kinds-pass ws n o xs ≡ true → (x : ℕ) → member x xs ≡ true →
-    field ws x 5 ≡ kind-word (read-fact ws x .kind) (read-fact ws x .marked)
+    field ws x at-kind ≡ kind-word (read-fact ws x .kind) (read-fact ws x .marked)
 unfolding read-fact
 words-back ws n o [] h x m = absurd (false≢true (sym (member-nil x) ∙ m))
 words-back ws n o (y ∷ ys) h x m =
-    let c = field ws y 5 in
+    let c = field ws y at-kind in
     let later = kinds-pass ws n (open-after ws o y c) ys in
     member-cases x y ys m
     (λ e. let k = kind-known ws n o y c (and-left (kind-fits ws n o y c) later h) in rw e (sym (word-back c (k .0) (k .1) (k .2))))
@@ -85,13 +90,13 @@ pub found : List ℕ → (s r u n : ℕ) → Forest → Store
 found ws s r u n f =
     record {
       book = record { s = s; r = r; under = u; root = f };
-      number = word-at ws 6;
-      stamp = word-at ws 7;
+      number = word-at ws at-book;
+      stamp = word-at ws at-stamp;
       facts = map (read-fact ws) (numbers 0 n);
     }
 
 module _ {s r u n : ℕ} (ws : List ℕ) (h : Header ws s r u n) (f : Forest) (good : Good s r f u) (long : size f ≡ n)
-    (links : Linked ws n (word-at ws 5) no-tag (leaves f)) (labels-are : labels f (power-width s r) u 0 ≡ map (label-field ws) (leaves f))
+    (links : Linked ws n (word-at ws at-first) no-tag (leaves f)) (labels-are : labels f (power-width s r) u 0 ≡ map (label-at ws) (leaves f))
     (kinds : kinds-pass ws n no-tag (leaves f) ≡ true) where
   abbrev st : Store
   st = found ws s r u n f
@@ -103,11 +108,11 @@ module _ {s r u n : ℕ} (ws : List ℕ) (h : Header ws s r u n) (f : Forest) (g
 
   distinct : Distinct (leaves f)
   distinct =
-      distinct-rising (label-field ws) (leaves f) 0 _
+      distinct-rising (label-at ws) (leaves f) 0 _
       (rw labels-are at (good-rising (h .degrees .s-least) (h .degrees .r-least) (power-widths s r) f u 0 good))
 
   below : (x : ℕ) → member x (leaves f) ≡ true → x < n
-  below x m = below-linked ws n (leaves f) (word-at ws 5) no-tag x links m
+  below x m = below-linked ws n (leaves f) (word-at ws at-first) no-tag x links m
 
   each : all-below n (leaves f) ≡ true
   each = all-below-distinct n (leaves f) distinct below long
@@ -118,10 +123,10 @@ module _ {s r u n : ℕ} (ws : List ℕ) (h : Header ws s r u n) (f : Forest) (g
   fact-is x l =
       getD-map (read-fact ws) (numbers 0 n) x 0 no-fact (omega (arith, length-numbers 0 n)) ∙ rw (getD-numbers 0 n x 0 l, zero-add)
 
-  label-is : (x : ℕ) → member x (leaves f) ≡ true → field ws x 0 ≡ getD (labels f (power-width s r) u 0) (place x (leaves f)) 0
-  unfolding label-field
+  label-is : (x : ℕ) → member x (leaves f) ≡ true → label-at ws x ≡ getD (labels f (power-width s r) u 0) (place x (leaves f)) 0
+  unfolding label-at
   label-is x m =
-      rw (labels-are, getD-map (label-field ws) (leaves f) (place x (leaves f)) 0 0 (place-of-member x (leaves f) m), getD-place x (leaves f) 0 m)
+      rw (labels-are, getD-map (label-at ws) (leaves f) (place x (leaves f)) 0 0 (place-of-member x (leaves f) m), getD-place x (leaves f) 0 m)
 
   says : (x : ℕ) → x < count st → Tag-says ws st x
   unfolding found label-of read-fact
@@ -130,8 +135,8 @@ module _ {s r u n : ℕ} (ws : List ℕ) (h : Header ws s r u n) (f : Forest) (g
       let m = member-all-below n x (leaves f) each l in
       record {
         label-word = label-is x m;
-        next-word = next-linked ws n (leaves f) (word-at ws 5) no-tag x links m;
-        prior-word = prior-linked ws n (leaves f) (word-at ws 5) x links m;
+        next-word = next-linked ws n (leaves f) (word-at ws at-first) no-tag x links m;
+        prior-word = prior-linked ws n (leaves f) (word-at ws at-first) x links m;
         mate-word = rw (fact-is x l);
         up-word = rw (fact-is x l);
         kind-is = rw (fact-is x l) (words-back ws n no-tag (leaves f) kinds x m);
@@ -146,7 +151,7 @@ module _ {s r u n : ℕ} (ws : List ℕ) (h : Header ws s r u n) (f : Forest) (g
         degree-r = h .degree-r;
         levels = h .levels;
         issued = h .issued ∙ sym issued;
-        first = sym (first-linked ws n (leaves f) (word-at ws 5) no-tag links);
+        first = sym (first-linked ws n (leaves f) (word-at ws at-first) no-tag links);
         number = refl;
         stamp = refl;
       }
@@ -158,7 +163,7 @@ module _ {s r u n : ℕ} (ws : List ℕ) (h : Header ws s r u n) (f : Forest) (g
       and-both (rw (← long) at root) (test-of s r f u good)
 
   -- it is sound, and these are its words
-  found-sound : word-at ws 6 < word-limit → word-at ws 7 ≤ n + total (mark-word ws) (leaves f) → Sound st
+  found-sound : word-at ws at-book < word-limit → word-at ws at-stamp ≤ n + total (mark-word ws) (leaves f) → Sound st
   unfolding found
   found-sound number stamp =
       let few : count st ≤ most-tags = omega (arith, issued, h .few) in
@@ -176,6 +181,6 @@ module _ {s r u n : ℕ} (ws : List ℕ) (h : Header ws s r u n) (f : Forest) (g
         stamp-fits = omega (arith, issued, marks-same ws st says (leaves f) distinct tags as-many);
       }
 
-  pub found-said : word-at ws 6 < word-limit → word-at ws 7 ≤ n + total (mark-word ws) (leaves f) → Says ws st
+  pub found-said : word-at ws at-book < word-limit → word-at ws at-stamp ≤ n + total (mark-word ws) (leaves f) → Says ws st
   unfolding Says
   found-said number stamp = (sound-of st (found-sound number stamp), (_, rebuilt ws st says header-is (rw issued (h .room))))

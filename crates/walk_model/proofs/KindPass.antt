@@ -7,12 +7,13 @@ use native.Mathlib.Omega.{arith}
 use borrow.Author.Tests.{eqb-true, ne-eqb, eq-eqb, lt-ltb}
 use lib.Dec.{ltb, eqb}
 use Rattle.store_types.specs.Limits.{no-tag, most-tags}
+use Rattle.lists.proofs.Tests.{by-test}
+use Rattle.store_types.specs.Layout.{at-mate, at-up, at-kind, field}
 use Rattle.tree.specs.Row.{member}
-use Rattle.tree_laws.proofs.Rows.{by-test, member-first, member-later}
+use Rattle.tree_laws.proofs.Rows.{member-first, member-later}
 use Rattle.calls.specs.Kind.{Kind, begin, end, text, code, kind-word}
 use Rattle.calls.specs.Store.{Store, fact, count}
 use Rattle.calls.specs.Nesting.{fits, opened, nested}
-use Rattle.calls.specs.Words.{field}
 use Rattle.calls_laws.proofs.Nesting.{Chain, bottom, above, chain-step, Step, begins, ends, stands, step-of, no-tag-fact}
 use Rattle.calls_laws.proofs.Fields.{Tag-says}
 use Rattle.calls_laws.proofs.Reader.{kind-back}
@@ -37,11 +38,11 @@ end-word false false = refl
 abbrev part : List ℕ → (n o x c : ℕ) → Kind → Bool
 part ws n o x c begin = inner-fits ws o x c
 part ws n o x c end = end-fits ws n o x c
-part ws n o x c text = eqb (field ws x 3) x && inner-fits ws o x c
+part ws n o x c text = eqb (field ws x at-mate) x && inner-fits ws o x c
 
 abbrev behind : List ℕ → (o x : ℕ) → Kind → ℕ
 behind ws o x begin = x
-behind ws o x end = field ws x 4
+behind ws o x end = field ws x at-up
 behind ws o x text = o
 
 by-kind : (ws : List ℕ) (n o x : ℕ) (k : Kind) (m : Bool) →
@@ -103,12 +104,12 @@ module _ (ws : List ℕ) (st : Store) (few : count st ≤ most-tags) (says : (x 
       rw (says x l .mate-word, inner-same o x c l text)
       (sym (and-assoc (eqb (fact st x .mate) x) (eqb (fact st x .up) o) (not (fact st o .marked) || fact st x .marked)))
 
-  kind-same : (o x : ℕ) → Open o → x < count st → kind-fits ws (count st) o x (field ws x 5) ≡ fits (st .facts) o x (fact st x .kind)
+  kind-same : (o x : ℕ) → Open o → x < count st → kind-fits ws (count st) o x (field ws x at-kind) ≡ fits (st .facts) o x (fact st x .kind)
   kind-same o x c l =
       rw (says x l .kind-is) (by-kind ws (count st) o x (fact st x .kind) (fact st x .marked) .0 ∙ part-same o x c l (fact st x .kind))
 
   -- the begin that is open behind it
-  behind-same : (o x m : ℕ) → x < count st → Step (st .facts) no-tag o x m → open-after ws o x (field ws x 5) ≡ m
+  behind-same : (o x m : ℕ) → x < count st → Step (st .facts) no-tag o x m → open-after ws o x (field ws x at-kind) ≡ m
   behind-same o x m l s = rw (says x l .kind-is) (by-kind ws (count st) o x (fact st x .kind) (fact st x .marked) .1 ∙ go s)
     where
       go : Step (st .facts) no-tag o x m → behind ws o x (fact st x .kind) ≡ m

@@ -7,11 +7,11 @@ use borrow.Author.Tests.{eqb-true, eqb-false}
 use lib.Dec.{eqb}
 use lib.ListN.{getD, length, set, replicate, length-set}
 use lib.Seq.{getD-set-same, getD-set-other}
+use Rattle.lists.proofs.Tests.{by-test}
+use Rattle.tree.specs.Good.{Good}
 use Rattle.tree.specs.Forest.{Forest, nil, size, labels}
 use Rattle.tree.specs.Book.{Book, height, labels-of}
 use Rattle.tree.specs.Promise.{Widths, Sane}
-use Rattle.tree_laws.proofs.Good.{Good}
-use Rattle.tree_laws.proofs.Rows.{by-test}
 use Rattle.tree_laws.proofs.Spread.{some-power}
 use Rattle.tree_laws.proofs.Insertion.{rooted}
 use Rattle.tree_laws.proofs.Ancestors.{number-in, number-top, number-next, at-here, at-inside, found, number-by-quotient}

@@ -9,20 +9,21 @@ use borrow.Author.Tests.{ltb-true, leb-true, eqb-true, lt-ltb, le-leb, eq-eqb}
 use lib.Dec.{leb, eqb}
 use lib.ListN.{length}
 use Rattle.store_types.specs.Limits.{no-tag}
-use Rattle.tree_laws.proofs.Good.{and-left, and-right, and-both}
-use Rattle.calls.specs.Words.{word-at, field, follow, label-field}
+use Rattle.lists.proofs.Tests.{and-left, and-right, and-both}
+use Rattle.store_types.specs.Layout.{at-stamp, at-next, at-prior, at-kind, word-at, field, label-at}
+use Rattle.calls.specs.Words.{follow}
 use Rattle.walk_model.specs.Levels.{entry, all-close, labels-pass}
 use Rattle.walk_model.specs.Walk.{kind-fits, open-after, State, Shape, placed, tag-passes, passed, ends-well, walk}
 
 -- THE PASSES along a row. Each tag is the one that next leads to, a tag, and knows the one before it; no tag follows
 abbrev pub Linked : List ℕ → (n tag prior : ℕ) → List ℕ → Type 0
 Linked ws n x p [] = x ≡ no-tag
-Linked ws n x p (y ∷ ys) = (x ≡ y) × (y < n) × (field ws y 2 ≡ p) × Linked ws n (field ws y 1) y ys
+Linked ws n x p (y ∷ ys) = (x ≡ y) × (y < n) × (field ws y at-prior ≡ p) × Linked ws n (field ws y at-next) y ys
 
 -- each tag's kind fits, from the open begin o on; at the end none is open
 abbrev pub kinds-pass : List ℕ → (n o : ℕ) → List ℕ → Bool
 kinds-pass ws n o [] = eqb o no-tag
-kinds-pass ws n o (x ∷ xs) = kind-fits ws n o x (field ws x 5) && kinds-pass ws n (open-after ws o x (field ws x 5)) xs
+kinds-pass ws n o (x ∷ xs) = kind-fits ws n o x (field ws x at-kind) && kinds-pass ws n (open-after ws o x (field ws x at-kind)) xs
 
 -- a number for each tag, added up; 1 for a marked one
 abbrev pub total : (ℕ → ℕ) → List ℕ → ℕ
@@ -30,14 +31,14 @@ total g [] = 0
 total g (x ∷ xs) = g x + total g xs
 
 abbrev pub mark-word : List ℕ → (tag : ℕ) → ℕ
-mark-word ws x = cond (leb 16 (field ws x 5)) 1 0
+mark-word ws x = cond (leb 16 (field ws x at-kind)) 1 0
 
 -- what the walk says of the row that it goes along, place i and state v being those before its first tag
 pub record Walked (ws : List ℕ) (k : Shape) (i : ℕ) (v : State) (xs : List ℕ) : Type 0 where
   pub links : Linked ws (k .n) (v .tag) (v .prior) xs
-  pub labels : labels-pass (k .tables) (k .under) (v .expect) i (v .levels) (map (label-field ws) xs) ≡ true
+  pub labels : labels-pass (k .tables) (k .under) (v .expect) i (v .levels) (map (label-at ws) xs) ≡ true
   pub kinds : kinds-pass ws (k .n) (v .open-begin) xs ≡ true
-  pub stamp : word-at ws 7 ≤ k .n + (v .marks + total (mark-word ws) xs)
+  pub stamp : word-at ws at-stamp ≤ k .n + (v .marks + total (mark-word ws) xs)
 
 -- A TEST OF FOUR PARTS, and its parts
 pub record Four (a b c d : Bool) : Type 0 where
@@ -60,25 +61,25 @@ module _ (ws : List ℕ) (k : Shape) where
   end-walked : (i : ℕ) (v : State) → i ≡ k .n → ends-well ws k v ≡ true → Walked ws k i v []
   unfolding ends-well labels-pass
   end-walked i v e h =
-      let f = four _ _ (all-close (k .tables) (k .under) 1 (k .n) (v .levels)) (leb (word-at ws 7) (k .n + v .marks)) h in
+      let f = four _ _ (all-close (k .tables) (k .under) 1 (k .n) (v .levels)) (leb (word-at ws at-stamp) (k .n + v .marks)) h in
       record {
         links = eqb-true _ _ (f .first);
         labels = rw e (f .third);
         kinds = f .second;
-        stamp = omega (arith, leb-true (word-at ws 7) (k .n + v .marks) (f .fourth));
+        stamp = omega (arith, leb-true (word-at ws at-stamp) (k .n + v .marks) (f .fourth));
       }
 
   walked-end : (i : ℕ) (v : State) → i ≡ k .n → Walked ws k i v [] → ends-well ws k v ≡ true
   unfolding ends-well labels-pass
   walked-end i v e h =
       let shut = rw e at (h .labels) in
-      four-test (record { first = eq-eqb _ _ (h .links); second = h .kinds; third = shut; fourth = le-leb (word-at ws 7) (k .n + v .marks) (omega (arith, h .stamp)) })
+      four-test (record { first = eq-eqb _ _ (h .links); second = h .kinds; third = shut; fourth = le-leb (word-at ws at-stamp) (k .n + v .marks) (omega (arith, h .stamp)) })
 
   -- at a tag
   step-walked : (i : ℕ) (v : State) (xs : List ℕ) → tag-passes ws k i v ≡ true → Walked ws k (suc i) (passed ws k i v) xs → Walked ws k i v (v .tag ∷ xs)
-  unfolding tag-passes passed placed labels-pass label-field
+  unfolding tag-passes passed placed labels-pass label-at
   step-walked i v xs e h =
-      let f = four _ (placed ws k i v .ok) _ (kind-fits ws (k .n) (v .open-begin) (v .tag) (field ws (v .tag) 5)) e in
+      let f = four _ (placed ws k i v .ok) _ (kind-fits ws (k .n) (v .open-begin) (v .tag) (field ws (v .tag) at-kind)) e in
       record {
         links = (refl, ltb-true _ _ (f .first), eqb-true _ _ (f .third), h .links);
         labels = and-both (f .second) (h .labels);
@@ -96,13 +97,13 @@ module _ (ws : List ℕ) (k : Shape) where
 
   -- and back: a row of which the passes hold is walked
   walked-step : (i : ℕ) (v : State) (xs : List ℕ) → Walked ws k i v (v .tag ∷ xs) → (tag-passes ws k i v ≡ true) × Walked ws k (suc i) (passed ws k i v) xs
-  unfolding tag-passes passed placed labels-pass label-field
+  unfolding tag-passes passed placed labels-pass label-at
   walked-step i v xs h =
       let q = placed ws k i v in
       let later =
-      labels-pass (k .tables) (k .under) (field ws (v .tag) 0 + entry (k .tables .widths) 0) (suc i) (q .levels) (map (label-field ws) xs) in
-      let kind = kind-fits ws (k .n) (v .open-begin) (v .tag) (field ws (v .tag) 5) in
-      let kinds = kinds-pass ws (k .n) (open-after ws (v .open-begin) (v .tag) (field ws (v .tag) 5)) xs in (
+      labels-pass (k .tables) (k .under) (label-at ws (v .tag) + entry (k .tables .widths) 0) (suc i) (q .levels) (map (label-at ws) xs) in
+      let kind = kind-fits ws (k .n) (v .open-begin) (v .tag) (field ws (v .tag) at-kind) in
+      let kinds = kinds-pass ws (k .n) (open-after ws (v .open-begin) (v .tag) (field ws (v .tag) at-kind)) xs in (
         four-test (record {
           first = lt-ltb _ _ (h .links .1);
           second = and-left (q .ok) later (h .labels);

@@ -8,11 +8,10 @@ use native.Mathlib.Omega.{arith}
 use borrow.Author.Tests.{ltb-true, leb-true, eqb-true, lt-ltb, le-leb}
 use lib.Dec.{ltb, leb, eqb, eqb·suc-suc}
 use lib.ListN.{length, getD, replicate, length-append, length-replicate, List·getD-append}
-use Rattle.store_types.specs.Limits.{header-words, most-tags, label-limit}
+use Rattle.store_types.specs.Limits.{most-tags, label-limit}
+use Rattle.store_types.specs.Layout.{at-version, at-s, at-r, at-height, at-count, header-words, word-at, words-for}
+use Rattle.lists.proofs.Tests.{and-left, and-right, and-both}
 use Rattle.tree.specs.Book.{base, power-width}
-use Rattle.tree_laws.proofs.Good.{and-left, and-right, and-both}
-use Rattle.calls.specs.Words.{word-at}
-use Rattle.calls.specs.Load.{words-for}
 use Rattle.calls.specs.Sound.{degrees-fit}
 use Rattle.calls_laws.proofs.Tests.{Degrees, degrees-of, degrees-test}
 use Rattle.walk_model.specs.Levels.{entry}
@@ -54,28 +53,28 @@ low-enough b h l fits =
 
 -- THE HEADER'S FACTS, where the root's children have height u, and its test both ways
 pub record Header (ws : List ℕ) (s r u n : ℕ) : Type 0 where
-  pub version : word-at ws 0 ≡ 1
-  pub degree-s : word-at ws 1 ≡ s
-  pub degree-r : word-at ws 2 ≡ r
-  pub levels : word-at ws 3 ≡ suc u
-  pub issued : word-at ws 4 ≡ n
+  pub version : word-at ws at-version ≡ 1
+  pub degree-s : word-at ws at-s ≡ s
+  pub degree-r : word-at ws at-r ≡ r
+  pub levels : word-at ws at-height ≡ suc u
+  pub issued : word-at ws at-count ≡ n
   pub degrees : Degrees s r
   pub few : n ≤ most-tags
-  pub room : words-for n ≤ length ws
+  pub room : words-for header-words n ≤ length ws
   pub labels-fit : power-width s r (suc u) ≤ label-limit
   pub below : n < s * r ^ suc u
   pub least : (eqb u 0 || leb (2 * r ^ u) n) ≡ true
 
-pub header-facts : (ws : List ℕ) → header-passes ws ≡ true → Header ws (word-at ws 1) (word-at ws 2) (pred (word-at ws 3)) (word-at ws 4)
+pub header-facts : (ws : List ℕ) → header-passes ws ≡ true → Header ws (word-at ws at-s) (word-at ws at-r) (pred (word-at ws at-height)) (word-at ws at-count)
 unfolding header-passes
 header-facts ws e =
-    let s = word-at ws 1 in
-    let r = word-at ws 2 in
-    let h = word-at ws 3 in
-    let n = word-at ws 4 in
-    let version = eqb (word-at ws 0) 1 in
+    let s = word-at ws at-s in
+    let r = word-at ws at-r in
+    let h = word-at ws at-height in
+    let n = word-at ws at-count in
+    let version = eqb (word-at ws at-version) 1 in
     let few = leb n most-tags in
-    let room = leb (words-for n) (length ws) in
+    let room = leb (words-for header-words n) (length ws) in
     let labels = leb (power-width s r h) label-limit in
     let below = ltb n (s * r ^ h) in
     let least = eqb h 1 || leb (2 * r ^ pred h) n in

@@ -10,17 +10,18 @@ use borrow.Author.Tests.{lt-ltb, le-leb, lt-leb, eq-eqb, ne-eqb, ltb-true, ltb-f
 use lib.Dec.{ltb, eqb}
 use lib.ListN.{length, getD, set, length-set, length-replicate, getD-replicate}
 use lib.Seq.{getD-set-same, getD-set-other}
+use Rattle.lists.proofs.Tests.{and-left, and-right, by-test}
+use Rattle.store_types.specs.Layout.{at-height, at-count, at-first, word-at, label-at}
+use Rattle.tree.specs.Good.{Good}
 use Rattle.tree.specs.Forest.{Forest, size, labels}
 use Rattle.tree.specs.Book.{base, power-width, labels-of}
 use Rattle.tree.specs.Reach.{size-in}
 use Rattle.tree.specs.Promise.{Widths}
-use Rattle.tree_laws.proofs.Good.{Good, and-left, and-right}
-use Rattle.tree_laws.proofs.Rows.{by-test}
 use Rattle.tree_laws.proofs.Spread.{some-power}
 use Rattle.tree_laws.proofs.Labels.{trees, Rising, rising-lower, good-rising, power-widths, width-least}
 use Rattle.tree_laws.proofs.Ancestors.{count-in, count-above, number-in, number-top, number-next, found, size-count}
 use Rattle.calls.specs.Store.{Store, count, row, width}
-use Rattle.calls.specs.Words.{Says, word-at, follow, label-field}
+use Rattle.calls.specs.Words.{Says, follow}
 use Rattle.calls_laws.proofs.WordSteps.{header-said, row-said, labels-said}
 use Rattle.walk_model.specs.Levels.{Tables, Levels, entry, start-levels, place-label, labels-pass}
 use Rattle.walk_model.specs.Walk.{Shape, State, placed, passed, shape-of, start}
@@ -38,8 +39,8 @@ labels-sizes t ns u e i v (l ∷ ls) sz =
     labels-sizes t ns u (l + entry (t .widths) 0) (suc i) (place-label t u e l i v .levels) ls (place-sizes (t .widths) ns u e l i v sz)
 
 walk-labels : (ws : List ℕ) (k : Shape) (ns : List ℕ) (m i : ℕ) (v : State) (sz : List ℕ) → i + m ≡ k .n →
-    walk-sizes ws k ns m i v sz ≡ labels-sizes (k .tables) ns (k .under) (v .expect) i (v .levels) (map (label-field ws) (follow m ws (v .tag))) sz
-unfolding walk-sizes follow passed placed label-field
+    walk-sizes ws k ns m i v sz ≡ labels-sizes (k .tables) ns (k .under) (v .expect) i (v .levels) (map (label-at ws) (follow m ws (v .tag))) sz
+unfolding walk-sizes follow passed placed label-at
 walk-labels ws k ns zero i v sz e = let end : k .n ≡ i = omega arith in rw end
 walk-labels ws k ns (suc m) i v sz e = walk-labels ws k ns m (suc i) (passed ws k i v) _ (omega arith)
 
@@ -208,7 +209,7 @@ power-tables {s} {r} h =
 
 module _ (ws : List ℕ) (st : Store) (said : Says ws st) (p y : ℕ) (fits : p ≤ count st) (some : 1 ≤ count st)
     (label-is : watched-label ws y ≡ getD (labels-of (width st) (st .book)) (p - 1) 0) where
-  under-is : pred (word-at ws 3) ≡ st .book .under
+  under-is : pred (word-at ws at-height) ≡ st .book .under
   under-is = ap pred (header-said ws st said .levels)
 
   -- the numbers that are watched
@@ -223,9 +224,9 @@ module _ (ws : List ℕ) (st : Store) (said : Says ws st) (p y : ℕ) (fits : p 
       (good ws st said) (omega arith) (omega arith) (power-tables head .wide) (omega (arith, tables-right head .top-fits)))
 
   -- the labels that the walk meets
-  labels-met : map (label-field ws) (follow (word-at ws 4) ws (word-at ws 5)) ≡ labels-of (width st) (st .book)
+  labels-met : map (label-at ws) (follow (word-at ws at-count) ws (word-at ws at-first)) ≡ labels-of (width st) (st .book)
   labels-met =
-      let many : word-at ws 4 ≡ length (row st) = header-said ws st said .issued ∙ sym (given ws st said .as-many) in
+      let many : word-at ws at-count ≡ length (row st) = header-said ws st said .issued ∙ sym (given ws st said .as-many) in
       rw (many, row-said ws st said) (labels-said ws st said)
 
   pub sizes-right : (sz : List ℕ) → length sz ≡ 24 → (h : ℕ) → 1 ≤ h → h ≤ st .book .under →
@@ -239,7 +240,7 @@ module _ (ws : List ℕ) (st : Store) (said : Says ws st) (p y : ℕ) (fits : p 
       let all = shape-of ws .tables in
       let pass : labels-pass all (k .under) 0 0 (start-levels all) (labels-of (width st) k) ≡ true =
       rw (labels-said ws st said, under-is) at (row-walked ws st said levels-right .labels) in
-      ap (λ (z : List ℕ). entry z (suc g)) (walk-labels ws (shape-of ws) (watched-numbers ws y) (word-at ws 4) 0 (start ws) sz (zero-add _))
+      ap (λ (z : List ℕ). entry z (suc g)) (walk-labels ws (shape-of ws) (watched-numbers ws y) (word-at ws at-count) 0 (start ws) sz (zero-add _))
       ∙ rw (labels-met, under-is)
       (forest-sizes (head .degrees .s-least) (head .degrees .r-least) (power-widths (k .s) (k .r)) (power-tables head) (tables-right head .long) (k .root)
       (good ws st said) p (omega arith) (omega arith) pass (watched-numbers ws y) sz long g high (numbers-watched (suc g) low high))

@@ -11,13 +11,16 @@ use borrow.Author.Tests.{ltb-true, leb-true, ne-eqb}
 use lib.Dec.{ltb, leb, eqb}
 use lib.ListN.{length, length-map}
 use Rattle.store_types.specs.Limits.{word-limit}
+use Rattle.lists.proofs.Tests.{and-left, and-right, and-both}
+use Rattle.store_types.specs.Layout.{at-s, at-r, at-height, at-count, at-first, at-book, at-next, word-at, field, label-at}
+use Rattle.tree.specs.Good.{Good}
 use Rattle.tree.specs.Forest.{Forest, leaves, size, labels, within-limits}
 use Rattle.tree.specs.Book.{power-width, height, root-within, book-within}
-use Rattle.tree_laws.proofs.Good.{Good, good-of, and-left, and-right, and-both}
+use Rattle.tree_laws.proofs.Good.{good-of}
 use Rattle.tree_laws.proofs.Rows.{distinct-all-below}
 use Rattle.tree_laws.proofs.Labels.{power-widths}
 use Rattle.calls.specs.Store.{Store, count, row}
-use Rattle.calls.specs.Words.{Says, word-at, field, follow, label-field}
+use Rattle.calls.specs.Words.{Says, follow}
 use Rattle.calls_laws.proofs.Tests.{Sound, facts-of}
 use Rattle.calls_laws.proofs.Fields.{Tag-says, tag-says}
 use Rattle.calls_laws.proofs.WordSteps.{words-fit, header-said, labels-said}
@@ -39,30 +42,30 @@ some-tag {ws} {s} {r} {u} {n} h high =
 
 -- LABELS along a row of n tags
 row-labels : Levels-right → {ws : List ℕ} {s r u n : ℕ} → Header ws s r u n → (xs : List ℕ) → length xs ≡ n →
-    (labels-pass (shape-of ws .tables) u 0 0 (start-levels (shape-of ws .tables)) (map (label-field ws) xs) ≡ true)
-    ↔ ((f : Forest) × Good s r f u × (leaves f ≡ xs) × (labels f (power-width s r) u 0 ≡ map (label-field ws) xs))
+    (labels-pass (shape-of ws .tables) u 0 0 (start-levels (shape-of ws .tables)) (map (label-at ws) xs) ≡ true)
+    ↔ ((f : Forest) × Good s r f u × (leaves f ≡ xs) × (labels f (power-width s r) u 0 ≡ map (label-at ws) xs))
 unfolding Levels-right
 row-labels levels {ws} {s} {r} {u} {n} h xs l =
-    let many : length (map (label-field ws) xs) ≡ n = length-map xs (label-field ws) ∙ l in
-    levels s r (power-width s r) (shape-of ws .tables) u xs (map (label-field ws) xs) (h .degrees .s-least) (h .degrees .r-least) (power-widths s r)
+    let many : length (map (label-at ws) xs) ≡ n = length-map xs (label-at ws) ∙ l in
+    levels s r (power-width s r) (shape-of ws .tables) u xs (map (label-at ws) xs) (h .degrees .s-least) (h .degrees .r-least) (power-widths s r)
     (tables-right h) (l ∙ sym many) (rw many (h .below)) (rw many (some-tag h))
 
 length-follow : (n : ℕ) (ws : List ℕ) (x : ℕ) → length (follow n ws x) ≡ n
 unfolding follow
 length-follow zero ws x = refl
-length-follow (suc n) ws x = ap suc (length-follow n ws (field ws x 1))
+length-follow (suc n) ws x = ap suc (length-follow n ws (field ws x at-next))
 
 -- WORDS THAT PASS say a store
-passed-said : Levels-right → (ws : List ℕ) → word-at ws 6 < word-limit → words-pass ws ≡ true → (st : Store) × Says ws st
+passed-said : Levels-right → (ws : List ℕ) → word-at ws at-book < word-limit → words-pass ws ≡ true → (st : Store) × Says ws st
 unfolding words-pass shape-of start start-levels
 passed-said levels ws number e =
-    let rest = walk ws (shape-of ws) (word-at ws 4) 0 (start ws) in
+    let rest = walk ws (shape-of ws) (word-at ws at-count) 0 (start ws) in
     let h = header-facts ws (and-left (header-passes ws) rest e) in
-    let w = walked ws (shape-of ws) (word-at ws 4) 0 (start ws) (omega arith) (and-right (header-passes ws) rest e) in
-    let xs = follow (word-at ws 4) ws (word-at ws 5) in
-    let long = length-follow (word-at ws 4) ws (word-at ws 5) in
+    let w = walked ws (shape-of ws) (word-at ws at-count) 0 (start ws) (omega arith) (and-right (header-passes ws) rest e) in
+    let xs = follow (word-at ws at-count) ws (word-at ws at-first) in
+    let long = length-follow (word-at ws at-count) ws (word-at ws at-first) in
     let (f, good, same, labels-are) = row-labels levels h xs long .0 (w .labels) in (
-      found ws (word-at ws 1) (word-at ws 2) (pred (word-at ws 3)) (word-at ws 4) f,
+      found ws (word-at ws at-s) (word-at ws at-r) (pred (word-at ws at-height)) (word-at ws at-count) f,
       found-said ws h f good (ap length same ∙ long) (rw same (w .links)) (rw same labels-are) (rw same (w .kinds)) number (rw same (omega (arith, w .stamp))),
     )
 
@@ -111,7 +114,7 @@ module _ (ws : List ℕ) (st : Store) (h : Says ws st) where
   row-walked levels =
       let (once, below) = distinct-all-below (count st) (row st) (given .each) (given .as-many) in
       let head = header-said ws st h in
-      let under : pred (word-at ws 3) ≡ st .book .under = ap pred (head .levels) in
+      let under : pred (word-at ws at-height) ≡ st .book .under = ap pred (head .levels) in
       let marks = marks-same ws st says (row st) once below (given .as-many) in
       record {
         links = rw (head .issued, head .first)
@@ -125,7 +128,7 @@ module _ (ws : List ℕ) (st : Store) (h : Says ws st) where
   said-passes : Levels-right → words-pass ws ≡ true
   unfolding words-pass shape-of
   said-passes levels =
-      let many : length (row st) ≡ word-at ws 4 = given .as-many ∙ sym (header-said ws st h .issued) in
+      let many : length (row st) ≡ word-at ws at-count = given .as-many ∙ sym (header-said ws st h .issued) in
       let along = walks ws (shape-of ws) (row st) 0 (start ws) (omega (arith, many)) (row-walked levels) in
       and-both (header-test facts) (rw many at along)
 

@@ -6,11 +6,12 @@ use mathlib.Core.Logic.{_↔_}
 use Prim.Native.Nat.{ℕ, suc, _*_, _^_, _≤_, _<_}
 use lib.ListN.{length}
 use Rattle.store_types.specs.Limits.{word-limit}
+use Rattle.store_types.specs.Layout.{at-book, word-at}
+use Rattle.tree.specs.Good.{Good}
 use Rattle.tree.specs.Forest.{Forest, leaves, labels}
 use Rattle.tree.specs.Promise.{Widths}
-use Rattle.tree_laws.proofs.Good.{Good}
 use Rattle.calls.specs.Store.{Store}
-use Rattle.calls.specs.Words.{Says, word-at}
+use Rattle.calls.specs.Words.{Says}
 use Rattle.walk_model.specs.Levels.{Tables, entry, start-levels, labels-pass}
 use Rattle.walk_model.specs.Walk.{words-pass}
 
@@ -31,4 +32,4 @@ Levels-right =
 
 -- words pass if and only if they say a store; the book number is a word, as all that a slice of words holds
 unfoldable pub Walk-right : Type 0
-Walk-right = (ws : List ℕ) → word-at ws 6 < word-limit → (words-pass ws ≡ true) ↔ ((st : Store) × Says ws st)
+Walk-right = (ws : List ℕ) → word-at ws at-book < word-limit → (words-pass ws ≡ true) ↔ ((st : Store) × Says ws st)

@@ -5,36 +5,35 @@ use mathlib.Core.List.{List, [], _∷_, _++_}
 use Prim.Native.Nat.{ℕ, zero, suc, pred, _+_, _*_, _-_, _^_, _%_}
 use lib.Dec.{ltb, leb, eqb}
 use lib.ListN.{length, getD, replicate}
-use Rattle.store_types.specs.Limits.{no-tag, header-words, most-tags, label-limit}
+use Rattle.store_types.specs.Limits.{no-tag, most-tags, label-limit}
+use Rattle.store_types.specs.Layout.{at-version, at-s, at-r, at-height, at-count, at-first, at-stamp, header-words, at-next, at-prior, at-mate, at-up, at-kind, word-at, words-for, field, label-at}
 use Rattle.tree.specs.Book.{power-width}
 use Rattle.calls.specs.Sound.{degrees-fit}
-use Rattle.calls.specs.Load.{words-for}
-use Rattle.calls.specs.Words.{word-at, field}
 use Rattle.walk_model.specs.Levels.{Tables, Levels, Settled, entry, start-levels, place-label, all-close}
 
 -- ONE TAG x of kind word c, where o is the innermost open begin or no tag
 unfoldable pub marked-word : List ℕ → (tag : ℕ) → Bool
-marked-word ws o = not (eqb o no-tag) && leb 16 (field ws o 5)
+marked-word ws o = not (eqb o no-tag) && leb 16 (field ws o at-kind)
 
 -- the up of a begin or text is o, and it is marked if o is
 unfoldable pub inner-fits : List ℕ → (o x c : ℕ) → Bool
-inner-fits ws o x c = eqb (field ws x 4) o && (leb 16 c || not (marked-word ws o))
+inner-fits ws o x c = eqb (field ws x at-up) o && (leb 16 c || not (marked-word ws o))
 
 -- an end and o are each other's mates, and have the same up and mark; the up is no tag or a tag
 unfoldable pub end-fits : List ℕ → (n o x c : ℕ) → Bool
 end-fits ws n o x c =
-    (not (eqb o no-tag) && (eqb (field ws x 3) o && eqb (field ws o 3) x))
-    && ((eqb (field ws x 4) (field ws o 4) && eqb (c - 1) (field ws o 5)) && (eqb (field ws x 4) no-tag || ltb (field ws x 4) n))
+    (not (eqb o no-tag) && (eqb (field ws x at-mate) o && eqb (field ws o at-mate) x))
+    && ((eqb (field ws x at-up) (field ws o at-up) && eqb (c - 1) (field ws o at-kind)) && (eqb (field ws x at-up) no-tag || ltb (field ws x at-up) n))
 
 unfoldable pub kind-fits : List ℕ → (n o x c : ℕ) → Bool
 kind-fits ws n o x c =
     cond (leb 32 c) false
-    (cond (eqb (c % 16) 3) (eqb (field ws x 3) x && inner-fits ws o x c)
+    (cond (eqb (c % 16) 3) (eqb (field ws x at-mate) x && inner-fits ws o x c)
     (cond (eqb (c % 16) 1) (inner-fits ws o x c) (cond (eqb (c % 16) 2) (end-fits ws n o x c) false)))
 
 -- the innermost open begin behind it
 unfoldable pub open-after : List ℕ → (o x c : ℕ) → ℕ
-open-after ws o x c = cond (eqb (c % 16) 3) o (cond (eqb (c % 16) 1) x (field ws x 4))
+open-after ws o x c = cond (eqb (c % 16) 3) o (cond (eqb (c % 16) 1) x (field ws x at-up))
 
 -- THE PASS: the next tag, the one before it, the innermost open begin, marked tags so far, the next child's label, levels
 pub record State : Type 0 where
@@ -51,23 +50,23 @@ pub record Shape : Type 0 where
   pub n : ℕ
 
 unfoldable pub placed : List ℕ → Shape → (i : ℕ) → State → Settled
-placed ws k i v = place-label (k .tables) (k .under) (v .expect) (field ws (v .tag) 0) i (v .levels)
+placed ws k i v = place-label (k .tables) (k .under) (v .expect) (label-at ws (v .tag)) i (v .levels)
 
 unfoldable pub tag-passes : List ℕ → Shape → (i : ℕ) → State → Bool
 tag-passes ws k i v =
     (ltb (v .tag) (k .n) && placed ws k i v .ok)
-    && (eqb (field ws (v .tag) 2) (v .prior) && kind-fits ws (k .n) (v .open-begin) (v .tag) (field ws (v .tag) 5))
+    && (eqb (field ws (v .tag) at-prior) (v .prior) && kind-fits ws (k .n) (v .open-begin) (v .tag) (field ws (v .tag) at-kind))
 
 unfoldable pub passed : List ℕ → Shape → (i : ℕ) → State → State
 passed ws k i v =
     let x = v .tag in
-    let c = field ws x 5 in
+    let c = field ws x at-kind in
     record {
-      tag = field ws x 1;
+      tag = field ws x at-next;
       prior = x;
       open-begin = open-after ws (v .open-begin) x c;
       marks = v .marks + cond (leb 16 c) 1 0;
-      expect = field ws x 0 + entry (k .tables .widths) 0;
+      expect = label-at ws x + entry (k .tables .widths) 0;
       levels = placed ws k i v .levels;
     }
 
@@ -75,7 +74,7 @@ passed ws k i v =
 unfoldable pub ends-well : List ℕ → Shape → State → Bool
 ends-well ws k v =
     (eqb (v .tag) no-tag && eqb (v .open-begin) no-tag)
-    && (all-close (k .tables) (k .under) 1 (k .n) (v .levels) && leb (word-at ws 7) (k .n + v .marks))
+    && (all-close (k .tables) (k .under) 1 (k .n) (v .levels) && leb (word-at ws at-stamp) (k .n + v .marks))
 
 unfoldable pub walk : List ℕ → Shape → (left i : ℕ) → State → Bool
 walk ws k zero i v = ends-well ws k v
@@ -84,12 +83,12 @@ walk ws k (suc m) i v = let rest = walk ws k m (suc i) (passed ws k i v) in tag-
 -- THE HEADER, before any tag is read
 unfoldable pub header-passes : List ℕ → Bool
 header-passes ws =
-    let s = word-at ws 1 in
-    let r = word-at ws 2 in
-    let h = word-at ws 3 in
-    let n = word-at ws 4 in
-    ((leb header-words (length ws) && eqb (word-at ws 0) 1) && (degrees-fit s r && leb 1 h))
-    && ((leb n most-tags && leb (words-for n) (length ws))
+    let s = word-at ws at-s in
+    let r = word-at ws at-r in
+    let h = word-at ws at-height in
+    let n = word-at ws at-count in
+    ((leb header-words (length ws) && eqb (word-at ws at-version) 1) && (degrees-fit s r && leb 1 h))
+    && ((leb n most-tags && leb (words-for header-words n) (length ws))
     && (leb (power-width s r h) label-limit && (ltb n (s * r ^ h) && (eqb h 1 || leb (2 * r ^ pred h) n))))
 
 -- v, v times b, .. : count numbers; and a table of 24 entries, of which those up to a height are used
@@ -103,15 +102,15 @@ table v b top = powers v b (suc top) ++ replicate (23 - top) 0
 
 unfoldable pub shape-of : List ℕ → Shape
 shape-of ws =
-    let s = word-at ws 1 in
-    let r = word-at ws 2 in
-    let h = word-at ws 3 in
-    record { tables = record { widths = table 1 (s * r - 1) h; lows = table 1 r h; highs = table s r h }; under = pred h; n = word-at ws 4 }
+    let s = word-at ws at-s in
+    let r = word-at ws at-r in
+    let h = word-at ws at-height in
+    record { tables = record { widths = table 1 (s * r - 1) h; lows = table 1 r h; highs = table s r h }; under = pred h; n = word-at ws at-count }
 
 unfoldable pub start : List ℕ → State
 start ws =
     record {
-      tag = word-at ws 5;
+      tag = word-at ws at-first;
       prior = no-tag;
       open-begin = no-tag;
       marks = 0;
@@ -120,4 +119,4 @@ start ws =
     }
 
 unfoldable pub words-pass : List ℕ → Bool
-words-pass ws = let rest = walk ws (shape-of ws) (word-at ws 4) 0 (start ws) in header-passes ws && rest
+words-pass ws = let rest = walk ws (shape-of ws) (word-at ws at-count) 0 (start ws) in header-passes ws && rest

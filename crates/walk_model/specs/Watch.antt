@@ -6,7 +6,7 @@ use mathlib.Core.List.{List}
 use Prim.Native.Nat.{ℕ, zero, suc, pred, _+_, _*_, _-_, _/_}
 use lib.Dec.{ltb, eqb}
 use lib.ListN.{set, replicate}
-use Rattle.calls.specs.Words.{word-at, field}
+use Rattle.store_types.specs.Layout.{at-height, at-count, word-at, label-at}
 use Rattle.walk_model.specs.Levels.{Tables, Levels, entry}
 use Rattle.walk_model.specs.Walk.{Shape, State, passed, shape-of, start}
 
@@ -40,16 +40,16 @@ close-sizes w ns (suc k) h i v sz = close-sizes w ns k (suc h) i v (taken w ns h
 unfoldable pub walk-sizes : List ℕ → Shape → (numbers : List ℕ) → (left i : ℕ) → State → (sizes : List ℕ) → List ℕ
 walk-sizes ws k ns zero i v sz = close-sizes (k .tables .widths) ns (k .under) 1 (k .n) (v .levels) sz
 walk-sizes ws k ns (suc m) i v sz =
-    let placed = place-sizes (k .tables .widths) ns (k .under) (v .expect) (field ws (v .tag) 0) i (v .levels) sz in
+    let placed = place-sizes (k .tables .widths) ns (k .under) (v .expect) (label-at ws (v .tag)) i (v .levels) sz in
     walk-sizes ws k ns m (suc i) (passed ws k i v) placed
 
 -- the label at a place; 0, that of the first leaf, where the place is no tag of the book
 unfoldable pub watched-label : List ℕ → (place : ℕ) → ℕ
-watched-label ws y = cond (ltb y (word-at ws 4)) (field ws y 0) 0
+watched-label ws y = cond (ltb y (word-at ws at-count)) (label-at ws y) 0
 
 unfoldable pub watched-numbers : List ℕ → (place : ℕ) → List ℕ
-watched-numbers ws y = ancestor-numbers (shape-of ws .tables .widths) (pred (word-at ws 3)) (watched-label ws y) 0 (replicate 24 0)
+watched-numbers ws y = ancestor-numbers (shape-of ws .tables .widths) (pred (word-at ws at-height)) (watched-label ws y) 0 (replicate 24 0)
 
 -- the sizes of the ancestors of a place, over sizes from before
 unfoldable pub sizes-at : List ℕ → (place : ℕ) → (sizes : List ℕ) → List ℕ
-sizes-at ws y sz = walk-sizes ws (shape-of ws) (watched-numbers ws y) (word-at ws 4) 0 (start ws) sz
+sizes-at ws y sz = walk-sizes ws (shape-of ws) (watched-numbers ws y) (word-at ws at-count) 0 (start ws) sz

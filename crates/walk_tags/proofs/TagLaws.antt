@@ -10,8 +10,8 @@ use native.Mathlib.Omega.{arith}
 use borrow.Author.Tests.{eq-eqb, ne-eqb, lt-ltb, le-ltb, le-leb, lt-leb, ltb-true, leb-true, eqb-true, not-true, not-false}
 use lib.Dec.{ltb, leb, eqb}
 use Rattle.store_types.specs.Limits.{no-tag}
-use Rattle.tree_laws.proofs.Rows.{fails}
-use Rattle.calls.specs.Words.{field}
+use Rattle.lists.proofs.Tests.{fails}
+use Rattle.store_types.specs.Layout.{at-mate, at-up, at-kind, field}
 use Rattle.walk_model.specs.Walk.{marked-word, inner-fits, end-fits, kind-fits, open-after}
 use Rattle.kind_pick.proofs.PickLaws.{test-same}
 use Rattle.kind_pick.specs.Needs.{Kind-word}
@@ -58,11 +58,11 @@ regroup a l m true w h = rw (h refl, and-true m, and-true a, and-comm (a && l) m
 regroup a l m false w h = simp and-false
 
 -- EACH TEST beside the record of p: the open begin's, or that of x itself where none is open
-module _ (ws : List ℕ) (n o x p c : ℕ) (reads : Reads ws n x o) (word : c ≡ field ws x 5) (of-p : p ≡ cond (eqb o no-tag) x o) (kind : Kind-word c) where
+module _ (ws : List ℕ) (n o x p c : ℕ) (reads : Reads ws n x o) (word : c ≡ field ws x at-kind) (of-p : p ≡ cond (eqb o no-tag) x o) (kind : Kind-word c) where
   pub beside : Beside ws n x p
   beside =
       record {
-        long = reads .around .long;
+        records = reads .around .records;
         below = reads .below;
         beside = by-cases (ℕ-discrete o no-tag) (λ e. rw (of-p, eq-eqb o no-tag e) (reads .below)) (λ ne. rw (of-p, ne-eqb o no-tag ne) (reads .around .open-below ne));
       }
@@ -74,13 +74,13 @@ module _ (ws : List ℕ) (n o x p c : ℕ) (reads : Reads ws n x o) (word : c �
       (λ ne. rw (ne-eqb o no-tag ne) (lt-ltb o n (reads .around .open-below ne)))
 
   module _ (no-end : c % 16 ≡ 2 → ⊥) where
-    up-inner : up-fits ws n o x p c ≡ eqb (field ws x 4) o
+    up-inner : up-fits ws n o x p c ≡ eqb (field ws x at-up) o
     unfolding up-fits
     up-inner =
         rw (ne-eqb (c % 16) 2 no-end)
-        (by-cases (ℕ-discrete (field ws x 4) o) (λ e. rw (e, open-tag, and-true)) (λ ne. rw (ne-eqb (field ws x 4) o ne)))
+        (by-cases (ℕ-discrete (field ws x at-up) o) (λ e. rw (e, open-tag, and-true)) (λ ne. rw (ne-eqb (field ws x at-up) o ne)))
 
-    mark-inner : mark-fits c (field ws p 5) ≡ (leb 16 c || not (marked-word ws o))
+    mark-inner : mark-fits c (field ws p at-kind) ≡ (leb 16 c || not (marked-word ws o))
     unfolding mark-fits marked-word
     mark-inner =
         rw (ne-eqb (c % 16) 2 no-end, eq-eqb (c - 1) (c - 1) refl)
@@ -88,8 +88,8 @@ module _ (ws : List ℕ) (n o x p c : ℕ) (reads : Reads ws n x o) (word : c �
         (λ e. rw (of-p, eq-eqb o no-tag e, ← word)
         (by-cases (decLe 16 c) (λ l. rw (le-leb 16 c l)) (λ l. rw (lt-leb 16 c (omega arith), lt-ltb c 16 (omega arith)))))
         (λ ne. rw (of-p, ne-eqb o no-tag ne)
-        (by-cases (decLe 16 (field ws o 5)) (λ l. rw (le-leb 16 (field ws o 5) l, le-ltb (field ws o 5) 16 l))
-        (λ l. rw (lt-leb 16 (field ws o 5) (omega arith), lt-ltb (field ws o 5) 16 (omega arith))))))
+        (by-cases (decLe 16 (field ws o at-kind)) (λ l. rw (le-leb 16 (field ws o at-kind) l, le-ltb (field ws o at-kind) 16 l))
+        (λ l. rw (lt-leb 16 (field ws o at-kind) (omega arith), lt-ltb (field ws o at-kind) 16 (omega arith))))))
 
   record-begin : c % 16 ≡ 1 → record-fits ws n o x p c ≡ kind-fits ws n o x c
   unfolding record-fits mate-fits kind-fits inner-fits
@@ -101,7 +101,7 @@ module _ (ws : List ℕ) (n o x p c : ℕ) (reads : Reads ws n x o) (word : c �
         ne-eqb (c % 16) 3 (λ f. omega arith),
         eq-eqb (c % 16) 1 e,
         ne-eqb (c % 16) 2 (λ f. omega arith),
-        eq-eqb (field ws x 3) (field ws x 3) refl,
+        eq-eqb (field ws x at-mate) (field ws x at-mate) refl,
         eq-eqb x x refl,
       )
 
@@ -116,15 +116,15 @@ module _ (ws : List ℕ) (n o x p c : ℕ) (reads : Reads ws n x o) (word : c �
         ne-eqb (c % 16) 1 (λ f. omega arith),
         ne-eqb (c % 16) 2 (λ f. omega arith),
         eq-eqb x x refl,
-        and-true (eqb (field ws x 3) x),
+        and-true (eqb (field ws x at-mate) x),
       )
-      (swapped (eqb (field ws x 4) o) (eqb (field ws x 3) x) (leb 16 c || not (marked-word ws o)))
+      (swapped (eqb (field ws x at-up) o) (eqb (field ws x at-mate) x) (leb 16 c || not (marked-word ws o)))
 
   -- an end whose kind word is the open begin's and one more has its mark
-  marked-end : c % 16 ≡ 2 → eqb (field ws o 5) (c - 1) ≡ true → (leb 16 c || ltb (field ws o 5) 16) ≡ true
+  marked-end : c % 16 ≡ 2 → eqb (field ws o at-kind) (c - 1) ≡ true → (leb 16 c || ltb (field ws o at-kind) 16) ≡ true
   marked-end e q =
-      let same = eqb-true (field ws o 5) (c - 1) q in
-      by-cases (decLe 16 c) (λ l. rw (le-leb 16 c l)) (λ l. rw (lt-leb 16 c (omega arith)) (lt-ltb (field ws o 5) 16 (omega arith)))
+      let same = eqb-true (field ws o at-kind) (c - 1) q in
+      by-cases (decLe 16 c) (λ l. rw (le-leb 16 c l)) (λ l. rw (lt-leb 16 c (omega arith)) (lt-ltb (field ws o at-kind) 16 (omega arith)))
 
   record-end : c % 16 ≡ 2 → record-fits ws n o x p c ≡ kind-fits ws n o x c
   unfolding record-fits up-fits mate-fits mark-fits kind-fits end-fits
@@ -137,8 +137,8 @@ module _ (ws : List ℕ) (n o x p c : ℕ) (reads : Reads ws n x o) (word : c �
       )
       (by-cases (ℕ-discrete o no-tag)
       (λ none. rw (of-p, eq-eqb o no-tag none, ← word, ne-eqb c (c - 1) (λ f. omega arith)) (simp and-false))
-      (λ ne. rw (of-p, ne-eqb o no-tag ne, test-same (c - 1) (field ws o 5) (field ws o 5) (c - 1) sym sym)
-      (regroup (eqb (field ws x 4) (field ws o 4)) _ (eqb (field ws x 3) o && eqb (field ws o 3) x) (eqb (field ws o 5) (c - 1)) _ (marked-end e))))
+      (λ ne. rw (of-p, ne-eqb o no-tag ne, test-same (c - 1) (field ws o at-kind) (field ws o at-kind) (c - 1) sym sym)
+      (regroup (eqb (field ws x at-up) (field ws o at-up)) _ (eqb (field ws x at-mate) o && eqb (field ws o at-mate) x) (eqb (field ws o at-kind) (c - 1)) _ (marked-end e))))
 
   pub record-right : {t : Bool} → t ≡ record-fits ws n o x p c → t ≡ kind-fits ws n o x c
   record-right e =
@@ -147,24 +147,24 @@ module _ (ws : List ℕ) (n o x p c : ℕ) (reads : Reads ws n x o) (word : c �
       (λ no-text. by-cases (ℕ-discrete (c % 16) 1) record-begin (λ no-begin. record-end (omega arith)))
 
 -- BEHIND A TAG THAT FITS
-pub mark-counted : (ws : List ℕ) (x m : ℕ) {k : ℕ} → k ≡ field ws x 5 → field ws x 5 < 32 → m + k / 16 ≡ marks-at ws x m
+pub mark-counted : (ws : List ℕ) (x m : ℕ) {k : ℕ} → k ≡ field ws x at-kind → field ws x at-kind < 32 → m + k / 16 ≡ marks-at ws x m
 unfolding marks-at
 mark-counted ws x m e p =
     rw e
-    (by-cases (decLe 16 (field ws x 5)) (λ l. rw (le-leb 16 (field ws x 5) l) (omega arith))
-    (λ l. rw (lt-leb 16 (field ws x 5) (omega arith)) (omega arith)))
+    (by-cases (decLe 16 (field ws x at-kind)) (λ l. rw (le-leb 16 (field ws x at-kind) l) (omega arith))
+    (λ l. rw (lt-leb 16 (field ws x at-kind) (omega arith)) (omega arith)))
 
 module _ (ws : List ℕ) (n o x c : ℕ) (fits : kind-fits ws n o x c ≡ true) where
   pub fits-small : c < 32
   fits-small = kind-fitting ws n o x c fits .small
 
   -- the up of a text
-  text-up : c % 16 ≡ 3 → field ws x 4 ≡ o
+  text-up : c % 16 ≡ 3 → field ws x at-up ≡ o
   unfolding kind-fits inner-fits
   text-up e =
-      let all = simp and-eq-true-iff at (rw (lt-leb 32 c fits-small, eq-eqb (c % 16) 3 e) at fits) in eqb-true (field ws x 4) o (all .1 .0)
+      let all = simp and-eq-true-iff at (rw (lt-leb 32 c fits-small, eq-eqb (c % 16) 3 e) at fits) in eqb-true (field ws x at-up) o (all .1 .0)
 
-  pub open-right : {u v : ℕ} → u ≡ field ws x 4 → v ≡ cond (eqb (c % 16) 1) x u → v ≡ open-after ws o x c
+  pub open-right : {u v : ℕ} → u ≡ field ws x at-up → v ≡ cond (eqb (c % 16) 1) x u → v ≡ open-after ws o x c
   unfolding open-after
   open-right up e =
       by-cases (ℕ-discrete (c % 16) 3)

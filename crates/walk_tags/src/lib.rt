@@ -5,7 +5,7 @@ ghost use mathlib.Core.Bool.{true, cond};
 ghost use Prim.Native.Nat.{_%_, _<_, _≤_};
 ghost use lib.Dec.{eqb};
 ghost use Rattle.store_types.specs.Limits.{no-tag};
-ghost use Rattle.calls.specs.Words.{field};
+ghost use Rattle.store_types.specs.Layout.{at-kind, field};
 ghost use Rattle.walk_model.specs.Walk.{kind-fits, open-after as open-behind};
 ghost use Rattle.kind_pick.specs.Needs.{Kind-word};
 ghost use Rattle.walk_tags.specs.Needs.{Reads, Beside, is-kind-word, up-fits, mate-fits, mark-fits, record-fits, fits-at, marks-at};
@@ -101,7 +101,7 @@ pub fn tag_fits(words: &[u32], n: u32, x: TagId, prior: TagId, parent: TagId) ->
 
 // The marked tags so far, with a tag that fits.
 pub fn count_mark(words: &[u32], n: u32, x: TagId, marks: u32) -> u32
-    requires { ⌜ Reads (now words) n (x .0) (x .0) × (field (now words) (x .0) 5 < 32) × (marks < 4000000000) ⌝ }
+    requires { ⌜ Reads (now words) n (x .0) (x .0) × (field (now words) (x .0) at-kind < 32) × (marks < 4000000000) ⌝ }
     ensures { λ m. ⌜ m ≡ marks-at (now (words .entry)) (x .0) marks ⌝ }
 {
     marks + words::kind_of(words, x) / 16
@@ -109,8 +109,8 @@ pub fn count_mark(words: &[u32], n: u32, x: TagId, marks: u32) -> u32
 
 // The innermost open begin behind a tag that fits: the up of a text is the one before it.
 pub fn open_after(words: &[u32], n: u32, x: TagId, parent: TagId) -> TagId
-    requires { ⌜ Reads (now words) n (x .0) (parent .0) × (kind-fits (now words) n (parent .0) (x .0) (field (now words) (x .0) 5) ≡ true) ⌝ }
-    ensures { λ o. ⌜ o .0 ≡ open-behind (now (words .entry)) (parent .0) (x .0) (field (now (words .entry)) (x .0) 5) ⌝ }
+    requires { ⌜ Reads (now words) n (x .0) (parent .0) × (kind-fits (now words) n (parent .0) (x .0) (field (now words) (x .0) at-kind) ≡ true) ⌝ }
+    ensures { λ o. ⌜ o .0 ≡ open-behind (now (words .entry)) (parent .0) (x .0) (field (now (words .entry)) (x .0) at-kind) ⌝ }
 {
     let kind = words::kind_of(words, x);
     let up = words::up_of(words, x);

@@ -1,110 +1,144 @@
-// The store's words: header and records at fixed offsets (document 01, "The book in words"). Every record is read and
-// written through one pair of field functions; only a tag number finds a record.
+// The store's words (document 01, "The book in words"): header words at their places, and records behind the header. Every
+// record is read and written through one pair of field functions and one pair for its label; only a tag number finds a
+// record.
 ghost use mathlib.Core.Path.{_≡_};
 ghost use Prim.Native.Nat.{_<_};
-ghost use lib.ListN.{length};
-ghost use Rattle.calls.specs.Words.{field};
-ghost use Rattle.words.specs.Fields.{with-field, Room};
+ghost use Rattle.store_types.specs.Layout.{at-next, at-prior, at-mate, at-up, at-kind, tag-words, field, label-at, with-field, with-label, Room};
 use store_types::Label;
 use store_types::TagId;
 
-// Word k of a tag's record.
+// The header's words, and those of a record.
+pub const HEADER_WORDS: usize = 8;
+
+pub const TAG_WORDS: usize = 6;
+
+// Where the words of the header stand.
+pub const AT_VERSION: usize = 0;
+
+pub const AT_S: usize = 1;
+
+pub const AT_R: usize = 2;
+
+pub const AT_HEIGHT: usize = 3;
+
+pub const AT_COUNT: usize = 4;
+
+pub const AT_FIRST: usize = 5;
+
+pub const AT_BOOK: usize = 6;
+
+pub const AT_STAMP: usize = 7;
+
+// Where the fields of a record stand, behind its label.
+const AT_NEXT: usize = 1;
+
+const AT_PRIOR: usize = 2;
+
+const AT_MATE: usize = 3;
+
+const AT_UP: usize = 4;
+
+const AT_KIND: usize = 5;
+
+// Field k of a tag's record.
 fn get(words: &[u32], tag: TagId, k: usize) -> u32
-    requires { ⌜ Room (length (now words)) (tag .0) k ⌝ }
+    requires { ⌜ Room (now words) (tag .0) × (k < tag-words) ⌝ }
     ensures { λ v. ⌜ v ≡ field (now (words .entry)) (tag .0) k ⌝ }
 {
     let x = tag.0 as usize;
-    words[8 + 6 * x + k]
+    words[HEADER_WORDS + TAG_WORDS * x + k]
 }
 
 fn put(words: &mut [u32], tag: TagId, k: usize, v: u32)
-    requires { ⌜ Room (length (now words)) (tag .0) k ⌝ }
+    requires { ⌜ Room (now words) (tag .0) × (k < tag-words) ⌝ }
     ensures { λ _. ⌜ now (words .exit) ≡ with-field (now (words .entry)) (tag .0) k v ⌝ }
 {
     let x = tag.0 as usize;
-    words[8 + 6 * x + k] = v;
+    words[HEADER_WORDS + TAG_WORDS * x + k] = v;
 }
 
 pub fn label_of(words: &[u32], tag: TagId) -> Label
-    requires { ⌜ Room (length (now words)) (tag .0) 0 ⌝ }
-    ensures { λ v. ⌜ v .0 ≡ field (now (words .entry)) (tag .0) 0 ⌝ }
+    requires { ⌜ Room (now words) (tag .0) ⌝ }
+    ensures { λ v. ⌜ v .0 ≡ label-at (now (words .entry)) (tag .0) ⌝ }
 {
-    Label(get(words, tag, 0))
-}
-
-pub fn next_of(words: &[u32], tag: TagId) -> TagId
-    requires { ⌜ Room (length (now words)) (tag .0) 1 ⌝ }
-    ensures { λ v. ⌜ v .0 ≡ field (now (words .entry)) (tag .0) 1 ⌝ }
-{
-    TagId(get(words, tag, 1))
-}
-
-pub fn prior_of(words: &[u32], tag: TagId) -> TagId
-    requires { ⌜ Room (length (now words)) (tag .0) 2 ⌝ }
-    ensures { λ v. ⌜ v .0 ≡ field (now (words .entry)) (tag .0) 2 ⌝ }
-{
-    TagId(get(words, tag, 2))
-}
-
-pub fn mate_of(words: &[u32], tag: TagId) -> TagId
-    requires { ⌜ Room (length (now words)) (tag .0) 3 ⌝ }
-    ensures { λ v. ⌜ v .0 ≡ field (now (words .entry)) (tag .0) 3 ⌝ }
-{
-    TagId(get(words, tag, 3))
-}
-
-pub fn up_of(words: &[u32], tag: TagId) -> TagId
-    requires { ⌜ Room (length (now words)) (tag .0) 4 ⌝ }
-    ensures { λ v. ⌜ v .0 ≡ field (now (words .entry)) (tag .0) 4 ⌝ }
-{
-    TagId(get(words, tag, 4))
-}
-
-pub fn kind_of(words: &[u32], tag: TagId) -> u32
-    requires { ⌜ Room (length (now words)) (tag .0) 5 ⌝ }
-    ensures { λ v. ⌜ v ≡ field (now (words .entry)) (tag .0) 5 ⌝ }
-{
-    get(words, tag, 5)
+    let x = tag.0 as usize;
+    Label(words[HEADER_WORDS + TAG_WORDS * x])
 }
 
 pub fn set_label(words: &mut [u32], tag: TagId, v: Label)
-    requires { ⌜ Room (length (now words)) (tag .0) 0 ⌝ }
-    ensures { λ _. ⌜ now (words .exit) ≡ with-field (now (words .entry)) (tag .0) 0 (v .0) ⌝ }
+    requires { ⌜ Room (now words) (tag .0) ⌝ }
+    ensures { λ _. ⌜ now (words .exit) ≡ with-label (now (words .entry)) (tag .0) (v .0) ⌝ }
 {
-    put(words, tag, 0, v.0);
+    let x = tag.0 as usize;
+    words[HEADER_WORDS + TAG_WORDS * x] = v.0;
+}
+
+pub fn next_of(words: &[u32], tag: TagId) -> TagId
+    requires { ⌜ Room (now words) (tag .0) ⌝ }
+    ensures { λ v. ⌜ v .0 ≡ field (now (words .entry)) (tag .0) at-next ⌝ }
+{
+    TagId(get(words, tag, AT_NEXT))
+}
+
+pub fn prior_of(words: &[u32], tag: TagId) -> TagId
+    requires { ⌜ Room (now words) (tag .0) ⌝ }
+    ensures { λ v. ⌜ v .0 ≡ field (now (words .entry)) (tag .0) at-prior ⌝ }
+{
+    TagId(get(words, tag, AT_PRIOR))
+}
+
+pub fn mate_of(words: &[u32], tag: TagId) -> TagId
+    requires { ⌜ Room (now words) (tag .0) ⌝ }
+    ensures { λ v. ⌜ v .0 ≡ field (now (words .entry)) (tag .0) at-mate ⌝ }
+{
+    TagId(get(words, tag, AT_MATE))
+}
+
+pub fn up_of(words: &[u32], tag: TagId) -> TagId
+    requires { ⌜ Room (now words) (tag .0) ⌝ }
+    ensures { λ v. ⌜ v .0 ≡ field (now (words .entry)) (tag .0) at-up ⌝ }
+{
+    TagId(get(words, tag, AT_UP))
+}
+
+pub fn kind_of(words: &[u32], tag: TagId) -> u32
+    requires { ⌜ Room (now words) (tag .0) ⌝ }
+    ensures { λ v. ⌜ v ≡ field (now (words .entry)) (tag .0) at-kind ⌝ }
+{
+    get(words, tag, AT_KIND)
 }
 
 pub fn set_next(words: &mut [u32], tag: TagId, v: TagId)
-    requires { ⌜ Room (length (now words)) (tag .0) 1 ⌝ }
-    ensures { λ _. ⌜ now (words .exit) ≡ with-field (now (words .entry)) (tag .0) 1 (v .0) ⌝ }
+    requires { ⌜ Room (now words) (tag .0) ⌝ }
+    ensures { λ _. ⌜ now (words .exit) ≡ with-field (now (words .entry)) (tag .0) at-next (v .0) ⌝ }
 {
-    put(words, tag, 1, v.0);
+    put(words, tag, AT_NEXT, v.0);
 }
 
 pub fn set_prior(words: &mut [u32], tag: TagId, v: TagId)
-    requires { ⌜ Room (length (now words)) (tag .0) 2 ⌝ }
-    ensures { λ _. ⌜ now (words .exit) ≡ with-field (now (words .entry)) (tag .0) 2 (v .0) ⌝ }
+    requires { ⌜ Room (now words) (tag .0) ⌝ }
+    ensures { λ _. ⌜ now (words .exit) ≡ with-field (now (words .entry)) (tag .0) at-prior (v .0) ⌝ }
 {
-    put(words, tag, 2, v.0);
+    put(words, tag, AT_PRIOR, v.0);
 }
 
 pub fn set_mate(words: &mut [u32], tag: TagId, v: TagId)
-    requires { ⌜ Room (length (now words)) (tag .0) 3 ⌝ }
-    ensures { λ _. ⌜ now (words .exit) ≡ with-field (now (words .entry)) (tag .0) 3 (v .0) ⌝ }
+    requires { ⌜ Room (now words) (tag .0) ⌝ }
+    ensures { λ _. ⌜ now (words .exit) ≡ with-field (now (words .entry)) (tag .0) at-mate (v .0) ⌝ }
 {
-    put(words, tag, 3, v.0);
+    put(words, tag, AT_MATE, v.0);
 }
 
 pub fn set_up(words: &mut [u32], tag: TagId, v: TagId)
-    requires { ⌜ Room (length (now words)) (tag .0) 4 ⌝ }
-    ensures { λ _. ⌜ now (words .exit) ≡ with-field (now (words .entry)) (tag .0) 4 (v .0) ⌝ }
+    requires { ⌜ Room (now words) (tag .0) ⌝ }
+    ensures { λ _. ⌜ now (words .exit) ≡ with-field (now (words .entry)) (tag .0) at-up (v .0) ⌝ }
 {
-    put(words, tag, 4, v.0);
+    put(words, tag, AT_UP, v.0);
 }
 
 pub fn set_kind(words: &mut [u32], tag: TagId, v: u32)
-    requires { ⌜ Room (length (now words)) (tag .0) 5 ⌝ }
-    ensures { λ _. ⌜ now (words .exit) ≡ with-field (now (words .entry)) (tag .0) 5 (v) ⌝ }
+    requires { ⌜ Room (now words) (tag .0) ⌝ }
+    ensures { λ _. ⌜ now (words .exit) ≡ with-field (now (words .entry)) (tag .0) at-kind v ⌝ }
 {
-    put(words, tag, 5, v);
+    put(words, tag, AT_KIND, v);
 }

@@ -3,24 +3,29 @@ use borrow.Author.Needs.{needs}
 use native.Mathlib.Numerals.{add-one}
 use native.Mathlib.Omega.{arith}
 use lib.ListN.{length-set}
+use Rattle.words.proofs.Fields.{room, header-long, records-kept, records-fewer}
 use Rattle.edit_model.specs.Insert.{added}
 use Rattle.insert_link.proofs.add_tag.Statement.{statement}
 use Rattle.insert_link.proofs.add_tag.Tie as tie
 
 behind-requires : tie.Need-behind-requires
-behind-requires c κs = search needs
+behind-requires c κs =
+    let asked = c .before .before .pre in
+    record { records = records-fewer (asked .records) (omega arith); place = asked .place }
 
 write-record-requires : tie.Need-write-record-requires
-write-record-requires c κs = search needs
+write-record-requires c κs = room (c .before .before .before .before .pre .records) (omega arith)
 
 link-place-requires : tie.Need-link-place-requires
-link-place-requires c κs = search needs
+link-place-requires c κs =
+    let asked = c .before .before .before .before .before .before .before .before .pre in
+    record { records = records-kept (records-fewer (asked .records) (omega arith)) (omega arith); place = asked .place }
 
 link-next-requires : tie.Need-link-next-requires
 link-next-requires c κs =
     let asked = c .before .before .before .before .before .before .before .before .before .before .before .before .pre in
     record {
-      records = record { few = omega (arith, asked .records); long = omega (arith, asked .records) };
+      records = records-kept (records-fewer (asked .records) (omega arith)) (omega arith);
       place = rw (c .before .before .before .before .before .before .before .before .before .behind .ensures) (asked .next);
     }
 
@@ -28,7 +33,7 @@ add-words : tie.Need-add-words
 add-words c = search needs
 
 slice-write-words : tie.Need-slice-write-words
-slice-write-words c = search needs
+slice-write-words c = omega (arith, header-long (c .before .before .before .before .before .before .before .before .before .before .before .before .before .before .before .pre .records))
 
 same-length : tie.Need-same-length
 same-length c = simp length-set (omega arith)

@@ -1,6 +1,7 @@
 -- `insert_link::behind` meets its contract. Assumes nothing.
 use borrow.Author.Needs.{needs}
 use native.Mathlib.Omega.{arith}
+use Rattle.words.proofs.Fields.{header-long}
 use Rattle.insert_link.proofs.Links.{place-room, behind-front, behind-tag}
 use Rattle.insert_link.proofs.behind.Statement.{statement}
 use Rattle.insert_link.proofs.behind.Tie as tie
@@ -9,13 +10,13 @@ is-none-requires : tie.Need-is-none-requires
 is-none-requires c κs = search needs
 
 shared-slice-read-t6 : tie.Need-shared-slice-read-t6
-shared-slice-read-t6 c = search needs
+shared-slice-read-t6 c = omega (arith, header-long)
 
 returns : tie.Need-returns
 returns c = behind-front _ _ (c .before .before .is-none .ensures) (c .before .if1 .taken)
 
 next-of-requires : tie.Need-next-of-requires
-next-of-requires c κs = place-room _ _ (c .before .is-none .ensures) (c .before .before .before .pre) (c .if1 .left) 1 (omega arith)
+next-of-requires c κs = place-room _ _ (c .before .is-none .ensures) (c .before .before .before .pre) (c .if1 .left)
 
 returns-2 : tie.Need-returns-2
 returns-2 c = behind-tag _ _ (c .before .before .is-none .ensures) (c .before .if1 .left) (c .next-of .ensures)

@@ -14,7 +14,7 @@ returns c = linked-none _ _ (c .before .is-none .ensures) _ (c .if1 .taken)
 set-prior-requires : tie.Need-set-prior-requires
 set-prior-requires c κs =
     let known = c .before .before in
-    place-room _ _ (known .is-none .ensures) (known .before .before .pre) (c .before .if1 .left) 2 (omega arith)
+    place-room _ _ (known .is-none .ensures) (known .before .before .pre) (c .before .if1 .left)
 
 same-length : tie.Need-same-length
 same-length c = search needs

@@ -1,6 +1,7 @@
 -- `insert_link::link_place` meets its contract. Assumes nothing.
 use borrow.Author.Needs.{needs}
 use native.Mathlib.Omega.{arith}
+use Rattle.words.proofs.Fields.{header-long}
 use Rattle.insert_link.proofs.Links.{place-room, linked-front, linked-tag}
 use Rattle.insert_link.proofs.link_place.Statement.{statement}
 use Rattle.insert_link.proofs.link_place.Tie as tie
@@ -9,12 +10,12 @@ is-none-requires : tie.Need-is-none-requires
 is-none-requires c κs = search needs
 
 slice-write-words : tie.Need-slice-write-words
-slice-write-words c = search needs
+slice-write-words c = omega (arith, header-long)
 
 set-next-requires : tie.Need-set-next-requires
 set-next-requires c κs =
     let known = c .before .before in
-    place-room _ _ (known .is-none .ensures) (known .before .before .pre) (c .before .if1 .left) 1 (omega arith)
+    place-room _ _ (known .is-none .ensures) (known .before .before .pre) (c .before .if1 .left)
 
 same-length : tie.Need-same-length
 same-length c = search needs

@@ -12,7 +12,7 @@ returns : tie.Need-returns
 returns c = up-front _ _ (c .before .is-none .ensures) (c .if1 .taken)
 
 kind-of-requires : tie.Need-kind-of-requires
-kind-of-requires c κs = place-room _ _ (c .before .is-none .ensures) (c .before .before .before .pre) (c .if1 .left) 5 (omega arith)
+kind-of-requires c κs = place-room _ _ (c .before .is-none .ensures) (c .before .before .before .pre) (c .if1 .left)
 
 returns-2 : tie.Need-returns-2
 returns-2 c =
@@ -22,7 +22,7 @@ returns-2 c =
 up-of-requires : tie.Need-up-of-requires
 up-of-requires c κs =
     let known = c .before .before .before in
-    place-room _ _ (known .is-none .ensures) (known .before .before .pre) (c .before .before .if1 .left) 4 (omega arith)
+    place-room _ _ (known .is-none .ensures) (known .before .before .pre) (c .before .before .if1 .left)
 
 returns-3 : tie.Need-returns-3
 returns-3 c =

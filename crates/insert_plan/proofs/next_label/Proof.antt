@@ -13,7 +13,7 @@ returns : tie.Need-returns
 returns c = next-front _ _ (c .before .is-none .ensures) _ (c .if1 .taken)
 
 label-of-requires : tie.Need-label-of-requires
-label-of-requires c κs = place-room _ _ (c .before .is-none .ensures) (c .before .before .before .pre .0) (c .if1 .left) 0 (omega arith)
+label-of-requires c κs = place-room _ _ (c .before .is-none .ensures) (c .before .before .before .pre .0) (c .if1 .left)
 
 cast-result : tie.Need-cast-result
 cast-result c = search needs

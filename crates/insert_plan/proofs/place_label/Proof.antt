@@ -13,7 +13,7 @@ returns : tie.Need-returns
 returns c = label-front _ _ (c .before .is-none .ensures) (c .if1 .taken)
 
 label-of-requires : tie.Need-label-of-requires
-label-of-requires c κs = place-room _ _ (c .before .is-none .ensures) (c .before .before .before .pre) (c .if1 .left) 0 (omega arith)
+label-of-requires c κs = place-room _ _ (c .before .is-none .ensures) (c .before .before .before .pre) (c .if1 .left)
 
 returns-2 : tie.Need-returns-2
 returns-2 c = label-tag _ _ (c .before .before .is-none .ensures) (c .before .if1 .left) (c .label-of .ensures)

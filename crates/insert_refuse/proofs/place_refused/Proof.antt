@@ -1,7 +1,8 @@
 -- `insert_refuse::place_refused` meets its contract. Assumes nothing.
 use borrow.Author.Needs.{needs}
 use native.Mathlib.Omega.{arith}
-use Rattle.insert_refuse.proofs.Headers.{room}
+use Rattle.words.proofs.Fields.{record-room}
+use Rattle.insert_refuse.proofs.Headers.{room, header-room}
 use Rattle.insert_refuse.proofs.Refusals.{place-front, place-beyond, place-marked, place-fine}
 use Rattle.insert_refuse.proofs.place_refused.Statement.{statement}
 use Rattle.insert_refuse.proofs.place_refused.Tie as tie
@@ -13,7 +14,7 @@ returns : tie.Need-returns
 returns c = place-front _ _ (c .before .is-none .ensures) (c .if1 .taken)
 
 shared-slice-read-if2 : tie.Need-shared-slice-read-if2
-shared-slice-read-if2 c = let start = c .before .before .before .before in omega (arith, room (start .args .words .now) (start .pre))
+shared-slice-read-if2 c = let start = c .before .before .before .before in omega (arith, header-room (start .args .words .now) (start .pre))
 
 returns-2 : tie.Need-returns-2
 returns-2 c =
@@ -23,7 +24,7 @@ returns-2 c =
 kind-of-requires : tie.Need-kind-of-requires
 kind-of-requires c κs =
     let start = c .before .before .before .before .before .before in
-    omega (arith, room (start .args .words .now) (start .pre))
+    record-room _ _ _ (room (start .args .words .now) (start .pre)) (omega arith)
 
 returns-3 : tie.Need-returns-3
 returns-3 c =

@@ -3,18 +3,18 @@ use borrow.Author.Needs.{needs}
 use Prim.Native.Nat.{_+_, _*_, _≤_}
 use native.Mathlib.Omega.{arith}
 use lib.ListN.{length}
-use Rattle.calls.specs.Words.{word-at}
-use Rattle.insert_refuse.proofs.Headers.{Ranges, ranges, room, highs-fit, last-power}
+use Rattle.store_types.specs.Layout.{at-s, at-r, at-height, at-count, header-words, word-at}
+use Rattle.insert_refuse.proofs.Headers.{Ranges, ranges, header-room, highs-fit, last-power}
 use Rattle.insert_refuse.proofs.Refusals.{room-many, room-short, room-below, room-fits, room-none}
 use Rattle.insert_refuse.proofs.room_refused.Statement.{statement}
 use Rattle.insert_refuse.proofs.room_refused.Tie as tie
 
 -- the header of words that say a store
-fits : (c : tie.Start) → Ranges (word-at (c .args .words .now) 1) (word-at (c .args .words .now) 2) (word-at (c .args .words .now) 3) (word-at (c .args .words .now) 4)
+fits : (c : tie.Start) → Ranges (word-at (c .args .words .now) at-s) (word-at (c .args .words .now) at-r) (word-at (c .args .words .now) at-height) (word-at (c .args .words .now) at-count)
 fits c = ranges _ (c .pre .0)
 
-long : (c : tie.Start) → 8 + 6 * word-at (c .args .words .now) 4 ≤ length (c .args .words .now)
-long c = room _ (c .pre .0)
+long : (c : tie.Start) → header-words ≤ length (c .args .words .now)
+long c = header-room _ (c .pre .0)
 
 shared-slice-read-all : tie.Need-shared-slice-read-all
 shared-slice-read-all c = omega (arith, long (c .before .before))

@@ -3,8 +3,8 @@ use mathlib.Core.Path.{_≡_, sym, _∙_}
 use mathlib.Core.Bool.{true, _&&_}
 use borrow.Author.Tests.{lt-ltb, le-ltb, not-true, not-false}
 use lib.Dec.{leb}
+use Rattle.store_types.specs.Layout.{words-for}
 use Rattle.calls.specs.Sound.{degrees-fit}
-use Rattle.calls.specs.Load.{words-for}
 use Rattle.walk_header.specs.Needs.{degree-fits}
 use Rattle.load_refuse.specs.Refusals.{refusal-before}
 use borrow.Author.Needs.{needs}

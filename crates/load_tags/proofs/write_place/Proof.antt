@@ -1,6 +1,8 @@
 -- `load_tags::write_place` meets its contract. Assumes nothing.
+use Rattle.words.proofs.Fields.{room-same}
 use Rattle.load_tags.specs.Tags.{place-written}
 use borrow.Author.Needs.{needs}
+use native.Mathlib.Omega.{arith}
 use Rattle.load_tags.proofs.write_place.Statement.{statement}
 use Rattle.load_tags.proofs.write_place.Tie as tie
 
@@ -8,19 +10,19 @@ set-label-requires : tie.Need-set-label-requires
 set-label-requires c κs = search needs
 
 set-kind-requires : tie.Need-set-kind-requires
-set-kind-requires c κs = search needs
+set-kind-requires c κs = search (needs, room-same)
 
 next-tag-requires : tie.Need-next-tag-requires
 next-tag-requires c κs = search needs
 
 set-next-requires : tie.Need-set-next-requires
-set-next-requires c κs = search needs
+set-next-requires c κs = room-same (c .before .before .before .before .before .before .before .before .before .before .before .pre .1) (omega arith)
 
 prior-tag-requires : tie.Need-prior-tag-requires
 prior-tag-requires c κs = search needs
 
 set-prior-requires : tie.Need-set-prior-requires
-set-prior-requires c κs = search needs
+set-prior-requires c κs = room-same (c .before .before .before .before .before .before .before .before .before .before .before .before .before .before .before .before .pre .1) (omega arith)
 
 same-length : tie.Need-same-length
 same-length c = search needs

@@ -1,7 +1,7 @@
 -- `load_tags::write_tag` meets its contract. Assumes nothing.
 use Prim.Native.Nat.{_<_}
 use borrow.Author.Tests.{eq-eqb, ne-eqb}
-use Rattle.calls.specs.Load.{words-for}
+use Rattle.words.proofs.Fields.{room, room-same}
 use Rattle.load_tags.specs.Tags.{tag-written, open-behind}
 use borrow.Author.Needs.{needs}
 use native.Mathlib.Omega.{arith}
@@ -9,14 +9,12 @@ use Rattle.load_tags.proofs.write_tag.Statement.{statement}
 use Rattle.load_tags.proofs.write_tag.Tie as tie
 
 write-place-requires : tie.Need-write-place-requires
-unfolding words-for
-write-place-requires c κs = (c .before .before .pre .below, omega arith)
+write-place-requires c κs = (c .before .before .pre .below, room (c .before .before .pre .records) (c .before .before .pre .below))
 
 write-end-requires : tie.Need-write-end-requires
-unfolding words-for
 write-end-requires c κs =
-    let one : c .before .before .before .before .before .before .before .args .parent .0 < c .before .before .before .before .before .before .before .args .n = c .before .before .before .before .before .before .before .pre .begun (c .before .if1 .taken) in
-    (omega arith, omega arith)
+    let asked = c .before .before .before .before .before .before .before .pre in
+    (room-same (room (asked .records) (asked .below)) (omega arith), room-same (room (asked .records) (asked .begun (c .before .if1 .taken))) (omega arith))
 
 same-length : tie.Need-same-length
 same-length c = search needs
@@ -28,8 +26,9 @@ returns c =
     (rw e (cc), rw e (cc))
 
 write-inner-requires : tie.Need-write-inner-requires
-unfolding words-for
-write-inner-requires c κs = omega arith
+write-inner-requires c κs =
+    let asked = c .before .before .before .before .before .before .before .pre in
+    room-same (room (asked .records) (asked .below)) (omega arith)
 
 same-length-2 : tie.Need-same-length-2
 same-length-2 c = search needs

@@ -1,18 +1,19 @@
 -- `renumber::number_leaf` meets its contract. Assumes nothing.
 use borrow.Author.Needs.{needs}
+use Rattle.words.proofs.Fields.{room}
 use Rattle.edit_model.specs.Relabel.{cut}
 use Rattle.renumber.proofs.Rows.{same-label, other-label}
 use Rattle.renumber.proofs.number_leaf.Statement.{statement}
 use Rattle.renumber.proofs.number_leaf.Tie as tie
 
 label-of-requires : tie.Need-label-of-requires
-label-of-requires c κs = search needs
+label-of-requires c κs = search (needs, room)
 
 cast-new : tie.Need-cast-new
 cast-new c = search needs
 
 set-label-requires : tie.Need-set-label-requires
-set-label-requires c κs = search needs
+set-label-requires c κs = search (needs, room)
 
 same-length : tie.Need-same-length
 same-length c = search needs

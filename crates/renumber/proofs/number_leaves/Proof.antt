@@ -3,7 +3,8 @@
 use mathlib.Core.Path.{_≡_}
 use native.Mathlib.Omega.{arith}
 use lib.Dec.{eqb}
-use Rattle.calls.specs.Words.{field}
+use Rattle.words.proofs.Fields.{room-with-label}
+use Rattle.store_types.specs.Layout.{label-at}
 use Rattle.edit_model.specs.Relabel.{cut}
 use Rattle.renumber.specs.Needs.{leaves-numbered}
 use Rattle.renumber.proofs.Rows.{On-way, start, tag-room, moved-one, leaf-on, leaves-end, arrived}
@@ -22,19 +23,19 @@ loop-holds c = start _ _ _ _ _ _ (c .before .pre .0) (c .before .pre .1)
 
 number-leaf-requires : tie.Need-number-leaf-requires Inv-loop μ-loop
 number-leaf-requires c κs =
-    tag-room (c .before .before .loop .inv .row) (c .before .loop-test .taken) 0 (omega arith)
+    tag-room (c .before .before .loop .inv .row) (c .before .loop-test .taken)
 
 add-moved : tie.Need-add-moved Inv-loop μ-loop
 add-moved c =
     let turn = c .before .before .before .before in
     let loop = turn .before .loop in
-    let few = rw (← c .before .before .number-leaf .ensures .1) at (moved-one (eqb (field (loop .words) (loop .tag .0) 0) (cut (loop .at)))) in
+    let few = rw (← c .before .before .number-leaf .ensures .1) at (moved-one (eqb (label-at (loop .words) (loop .tag .0)) (cut (loop .at)))) in
     omega (arith, few, loop .inv .counted, turn .loop-test .taken, turn .before .before .before .pre .0 .most)
 
 next-of-requires : tie.Need-next-of-requires Inv-loop μ-loop
 next-of-requires c κs =
     let turn = c .before .before .before .before .before in
-    rw (c .before .before .before .number-leaf .kept .0) (tag-room (turn .before .loop .inv .row) (turn .loop-test .taken) 1 (omega arith))
+    rw (c .before .before .before .number-leaf .ensures .0) (room-with-label _ _ _ _ (tag-room (turn .before .loop .inv .row) (turn .loop-test .taken)))
 
 add-at : tie.Need-add-at Inv-loop μ-loop
 add-at c =

@@ -4,11 +4,9 @@ use Prim.Native.Nat.{ℕ, _-_, _≤_, _<_}
 use native.Mathlib.Omega.{arith}
 use borrow.Author.Tests.{ltb-true, ltb-false}
 use lib.ListN.{length}
-use Rattle.store_types.specs.Limits.{tag-words}
-use Rattle.calls.specs.Words.{field}
-use Rattle.words.specs.Fields.{Room}
+use Rattle.store_types.specs.Layout.{label-at, Room}
 use Rattle.edit_model.specs.Relabel.{shift, cut}
-use Rattle.renumber.proofs.Rows.{room}
+use Rattle.words.proofs.Fields.{room, room-with-label}
 use Rattle.renumber.proofs.Shifts.{Shifting, shift-start, shift-on, shift-end, shift-spent, shift-out, shift-far}
 use Rattle.renumber.proofs.shift.Statement.{statement}
 use Rattle.renumber.proofs.shift.Tie as tie
@@ -24,7 +22,7 @@ abbrev μ-loop : tie.MeasureT-loop
 below : (c : tie.Then1 Inv-loop μ-loop) → c .before .before .before .loop .tag .0 < c .before .before .before .before .before .args .n
 below c = ltb-true _ _ (c .if1 .taken)
 
-there : (c : tie.Then1 Inv-loop μ-loop) (k : ℕ) → k < tag-words → Room (length (c .before .before .before .loop .words)) (c .before .before .before .loop .tag .0) k
+there : (c : tie.Then1 Inv-loop μ-loop) → Room (c .before .before .before .loop .words) (c .before .before .before .loop .tag .0)
 there c = room (c .before .before .before .loop .inv .records) (below c)
 
 loop-holds : tie.Need-loop-holds Inv-loop μ-loop
@@ -33,7 +31,7 @@ loop-holds c =
     shift-start (args .words .now) (args .n) (args .x .0) (args .bound) (args .by) (c .before .pre .0)
 
 label-of-requires : tie.Need-label-of-requires Inv-loop μ-loop
-label-of-requires c κs = there (c .before) 0 (omega arith)
+label-of-requires c κs = there (c .before)
 
 cast-if2 : tie.Need-cast-if2 Inv-loop μ-loop
 cast-if2 c = omega (arith, c .struct-known2 .given)
@@ -46,17 +44,19 @@ returns c =
     let turn = c .before .before .before .before in
     let loop = turn .before .before .before .loop in
     let args = turn .before .before .before .before .before .args in
-    let far : args .bound ≤ field (loop .words) (loop .tag .0) 0 = omega (arith, c .before .before .label-of .ensures) in
+    let far : args .bound ≤ label-at (loop .words) (loop .tag .0) = omega (arith, c .before .before .label-of .ensures) in
     shift-end (loop .inv) (shift-far _ _ (loop .words) (loop .tag .0) (args .bound) (args .by) far)
 
 raised-requires : tie.Need-raised-requires Inv-loop μ-loop
 raised-requires c κs = c .before .before .before .before .before .before .before .before .before .before .pre .1
 
 set-label-requires : tie.Need-set-label-requires Inv-loop μ-loop
-set-label-requires c κs = there (c .before .before .before .before .before .before) 0 (omega arith)
+set-label-requires c κs = there (c .before .before .before .before .before .before)
 
 next-of-requires : tie.Need-next-of-requires Inv-loop μ-loop
-next-of-requires c κs = rw (c .before .before .before .set-label .kept .0) (there (c .before .before .before .before .before .before .before .before .before .before) 1 (omega arith))
+next-of-requires c κs =
+    let set = c .before .before .before in
+    rw (set .set-label .ensures) (room-with-label _ _ _ _ (there (set .before .before .before .before .before .before .before)))
 
 add-moved : tie.Need-add-moved Inv-loop μ-loop
 add-moved c = omega arith
@@ -73,7 +73,7 @@ loop-again c =
     let loop = turn .before .before .before .loop in
     let args = turn .before .before .before .before .before .args in
     let same = read .label-of .ensures in
-    let near : field (loop .words) (loop .tag .0) 0 < args .bound = omega (arith, same, set .before .before .before .if2 .left) in
+    let near : label-at (loop .words) (loop .tag .0) < args .bound = omega (arith, same, set .before .before .before .if2 .left) in
     let put = rw (set .before .raised .ensures, same) at (set .set-label .ensures) in
     shift-on (loop .inv) (turn .before .before .loop-test .taken) (below turn) near (set .set-label .last .0) (c .next-of .result .0) put (c .next-of .ensures)
 

@@ -12,7 +12,7 @@ use Rattle.calls.specs.Held.{current}
 use Rattle.calls.specs.Replies.{said, question-reply}
 use Rattle.store_held.proofs.answer.Statement.{statement}
 use Rattle.store_held.proofs.answer.Tie as tie
-use Rattle.store_refuse.proofs.Laws.{room}
+use Rattle.store_refuse.proofs.Laws.{tag-room}
 use Rattle.store_held.proofs.Pairs.{outdated, other-marked, tells}
 
 -- the pair is current; what its labels tell
@@ -32,14 +32,14 @@ returns : tie.Need-returns
 returns c = outdated _ _ _ (c .before .before .before .pre) (sym (c .before .is-current .ensures) ∙ not-true _ (c .if1 .taken))
 
 kind-of-requires : tie.Need-kind-of-requires
-kind-of-requires c κs = room (c .before .before .before .pre .other) 5 (omega arith)
+kind-of-requires c κs = tag-room (c .before .before .before .pre .other)
 
 returns-2 : tie.Need-returns-2
 returns-2 c =
     other-marked _ _ _ (c .before .before .before .before .before .pre) (current-here (c .before .before)) (rw (c .before .kind-of .ensures) at (c .if2 .taken))
 
 label-of-requires : tie.Need-label-of-requires
-label-of-requires c κs = room (c .before .before .before .before .before .pre .other) 0 (omega arith)
+label-of-requires c κs = tag-room (c .before .before .before .before .before .pre .other)
 
 returns-3 : tie.Need-returns-3
 returns-3 c = told (c .before .before .before .before .before .before .before .before) true (rw (lt-ltb _ _ (c .before .before .before .if3 .taken)) (c .if4 .taken))

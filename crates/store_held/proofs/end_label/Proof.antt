@@ -3,14 +3,14 @@ use mathlib.Core.Path.{_∙_}
 use native.Mathlib.Omega.{arith}
 use Rattle.store_held.proofs.end_label.Statement.{statement}
 use Rattle.store_held.proofs.end_label.Tie as tie
-use Rattle.store_refuse.proofs.Laws.{room, words-of-tag, mate-of-tag}
+use Rattle.store_refuse.proofs.Laws.{tag-room, words-of-tag, mate-of-tag}
 
 mate-of-requires : tie.Need-mate-of-requires
-mate-of-requires c κs = room (c .before .pre) 3 (omega arith)
+mate-of-requires c κs = tag-room (c .before .pre)
 
 label-of-requires : tie.Need-label-of-requires
 label-of-requires c κs =
-    let h = c .before .before .pre in rw (c .mate-of .ensures ∙ words-of-tag h .mate-word) (room (mate-of-tag h) 0 (omega arith))
+    let h = c .before .before .pre in rw (c .mate-of .ensures ∙ words-of-tag h .mate-word) (tag-room (mate-of-tag h))
 
 returns : tie.Need-returns
 returns c =

@@ -6,7 +6,7 @@ use Rattle.calls.specs.Mark.{section-refusal}
 use Rattle.calls.specs.Replies.{refusal-over}
 use Rattle.store_held.proofs.hold.Statement.{statement}
 use Rattle.store_held.proofs.hold.Tie as tie
-use Rattle.store_refuse.proofs.Laws.{room, header-room}
+use Rattle.store_refuse.proofs.Laws.{tag-room, header-room}
 use Rattle.store_held.proofs.Pairs.{section-tag, hold-refused, hold-held}
 
 accepted : (c : tie.Else1) → let a = c .before .before .before .args in refusal-over (a .words .now) (section-refusal (a .tag .0)) ≡ 0
@@ -19,7 +19,7 @@ returns : tie.Need-returns
 returns c = hold-refused _ _ _ (c .before .section-refused .ensures) (c .if1 .taken)
 
 label-of-requires : tie.Need-label-of-requires
-label-of-requires c κs = room (section-tag _ _ (accepted c)) 0 (omega arith)
+label-of-requires c κs = tag-room (section-tag _ _ (accepted c))
 
 end-label-requires : tie.Need-end-label-requires
 end-label-requires c κs = section-tag _ _ (accepted (c .before))

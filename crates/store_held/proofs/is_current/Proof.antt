@@ -4,11 +4,11 @@ use borrow.Author.Needs.{needs}
 use native.Mathlib.Omega.{arith}
 use Rattle.store_held.proofs.is_current.Statement.{statement}
 use Rattle.store_held.proofs.is_current.Tie as tie
-use Rattle.store_refuse.proofs.Laws.{room}
+use Rattle.store_refuse.proofs.Laws.{tag-room}
 use Rattle.store_held.proofs.Pairs.{not-same, are-same, start-moved, end-moved, unmoved}
 
 label-of-requires : tie.Need-label-of-requires
-label-of-requires c κs = room (c .before .before .pre) 0 (omega arith)
+label-of-requires c κs = tag-room (c .before .before .pre)
 
 end-label-requires : tie.Need-end-label-requires
 end-label-requires c κs = c .before .before .before .pre
@@ -30,7 +30,7 @@ returns-2 c =
     sym (end-moved _ _ (e .before .before .before .before .pre) (λ z. not-same _ _ (c .before .same2 .ensures) (c .if2 .taken) (e .end-label .ensures ∙ sym z)))
 
 kind-of-requires : tie.Need-kind-of-requires
-kind-of-requires c κs = room (c .before .before .before .before .before .before .before .before .pre) 5 (omega arith)
+kind-of-requires c κs = tag-room (c .before .before .before .before .before .before .before .before .pre)
 
 returns-3 : tie.Need-returns-3
 returns-3 c =

@@ -9,7 +9,7 @@ use Rattle.calls.specs.Replies.{said}
 use Rattle.store_refuse.specs.Needs.{Tag-said}
 use Rattle.store_held.proofs.question.Statement.{statement}
 use Rattle.store_held.proofs.question.Tie as tie
-use Rattle.store_refuse.proofs.Laws.{accepted-says, header-room, tag-below, room}
+use Rattle.store_refuse.proofs.Laws.{accepted-says, header-room, tag-below, tag-room}
 use Rattle.store_held.proofs.Pairs.{not-same, are-same, question-refused, other-book, no-such-tag, not-begin, pair-asked}
 
 -- the words say a store; the pair's tag and the other are tags of it
@@ -49,7 +49,7 @@ returns-3 c =
     (⊎-elim (λ w. inl (w .taken)) (λ w. inr (leb-true _ _ (w .3 .taken))) (c .if3 .came))
 
 kind-of-requires : tie.Need-kind-of-requires
-kind-of-requires c κs = room (section-tag (c .before .before .before)) 5 (omega arith)
+kind-of-requires c κs = tag-room (section-tag (c .before .before .before))
 
 returns-4 : tie.Need-returns-4
 returns-4 c =

@@ -3,19 +3,19 @@ use borrow.Author.Needs.{needs}
 use Prim.Native.Nat.{_+_, _*_, _≤_}
 use native.Mathlib.Omega.{arith}
 use lib.ListN.{length}
-use Rattle.calls.specs.Words.{word-at}
-use Rattle.insert_refuse.proofs.Headers.{Ranges, ranges, room, widths-fit, lows-fit, highs-fit}
+use Rattle.store_types.specs.Layout.{at-s, at-r, at-height, at-count, header-words, word-at}
+use Rattle.insert_refuse.proofs.Headers.{Ranges, ranges, header-room, widths-fit, lows-fit, highs-fit}
 use Rattle.store_insert.proofs.Accepted.{says-accepted, place-accepted, plan-accepted}
 use Rattle.store_insert.proofs.Changes.{text-ready, element-ready, text-changes, element-changes}
 use Rattle.store_insert.proofs.change.Statement.{statement}
 use Rattle.store_insert.proofs.change.Tie as tie
 
 -- the header of accepted words
-fits : (c : tie.Start) → Ranges (word-at (c .args .words .now) 1) (word-at (c .args .words .now) 2) (word-at (c .args .words .now) 3) (word-at (c .args .words .now) 4)
+fits : (c : tie.Start) → Ranges (word-at (c .args .words .now) at-s) (word-at (c .args .words .now) at-r) (word-at (c .args .words .now) at-height) (word-at (c .args .words .now) at-count)
 fits c = ranges _ (says-accepted _ _ _ (c .pre .0))
 
-long : (c : tie.Start) → 8 + 6 * word-at (c .args .words .now) 4 ≤ length (c .args .words .now)
-long c = room _ (says-accepted _ _ _ (c .pre .0))
+long : (c : tie.Start) → header-words ≤ length (c .args .words .now)
+long c = header-room _ (says-accepted _ _ _ (c .pre .0))
 
 slice-read-s : tie.Need-slice-read-s
 slice-read-s c = omega (arith, long (c .before .before))

@@ -3,9 +3,10 @@ use borrow.Author.Needs.{needs}
 use mathlib.Core.Path.{_≡_, sym, _∙_}
 use Prim.Native.Nat.{_≤_}
 use lib.ListN.{length}
+use Rattle.store_types.specs.Layout.{header-words}
 use Rattle.calls.specs.Replies.{insert-refused}
 use native.Mathlib.Omega.{arith}
-use Rattle.insert_refuse.proofs.Headers.{room}
+use Rattle.insert_refuse.proofs.Headers.{header-room}
 use Rattle.store_insert.proofs.Accepted.{says-accepted}
 use Rattle.store_insert.proofs.Replies.{refused-all, stamp-fits, accepted-all}
 use Rattle.store_insert.proofs.insert.Statement.{statement}
@@ -16,12 +17,12 @@ accepted : (c : tie.Else1) → insert-refused (c .before .before .before .before
 accepted c = sym (c .before .insert-refused .ensures .0) ∙ c .if1 .left
 
 -- the words after the change are as many
-long : (c : tie.After-slice-known4) → 8 ≤ length (c .before .before .before .change .last .1 .1 .0)
+long : (c : tie.After-slice-known4) → header-words ≤ length (c .before .before .before .change .last .1 .1 .0)
 long c =
     let done = c .before .before .before in
     let test = done .before .before .before .before in
     let start = test .before .before .before .before .before in
-    omega (arith, done .change .kept, room (start .args .words .now) (says-accepted _ (start .args .kind) (start .args .place .0) (accepted test)))
+    omega (arith, done .change .kept, header-room (start .args .words .now) (says-accepted _ (start .args .kind) (start .args .place .0) (accepted test)))
 
 insert-refused-requires : tie.Need-insert-refused-requires
 insert-refused-requires c κs = search needs
@@ -34,7 +35,7 @@ returns c = refused-all _ _ _ (c .before .insert-refused .ensures .0) (c .if1 .t
 
 slice-read-n : tie.Need-slice-read-n
 slice-read-n c =
-    omega (arith, room (c .before .before .before .before .before .before .args .words .now) (says-accepted _ (c .before .before .before .before .before .before .args .kind) (c .before .before .before .before .before .before .args .place .0) (accepted (c .before))))
+    omega (arith, header-room (c .before .before .before .before .before .before .args .words .now) (says-accepted _ (c .before .before .before .before .before .before .args .kind) (c .before .before .before .before .before .before .args .place .0) (accepted (c .before))))
 
 change-requires : tie.Need-change-requires
 change-requires c κs =

@@ -1,11 +1,13 @@
 -- `store_insert::insert_end` meets its contract. Assumes nothing.
 use borrow.Author.Needs.{needs}
+use native.Mathlib.Omega.{arith}
+use Rattle.words.proofs.Fields.{header-long}
 use Rattle.store_insert.proofs.Edits.{end-reads, end-tag, end-applicable, end-edits}
 use Rattle.store_insert.proofs.insert_end.Statement.{statement}
 use Rattle.store_insert.proofs.insert_end.Tie as tie
 
 slice-read-under : tie.Need-slice-read-under
-slice-read-under c = search needs
+slice-read-under c = omega (arith, header-long)
 
 cast-under : tie.Need-cast-under
 cast-under c = search needs

@@ -1,6 +1,8 @@
 -- `store_insert::put` meets its contract. Assumes nothing.
 use borrow.Author.Needs.{needs}
 use native.Mathlib.Omega.{arith}
+use Rattle.store_types.specs.Layout.{at-height}
+use Rattle.words.proofs.Fields.{header-long}
 use Rattle.insert_plan.specs.Parts.{plan-record}
 use Rattle.store_insert.proofs.Keeps.{applied-header}
 use Rattle.store_insert.proofs.Edits.{put-edits}
@@ -14,8 +16,8 @@ raise-requires : tie.Need-raise-requires
 raise-requires c κs =
     let done = c .before .before .before in
     let start = done .before .before .before in
-    let long = start .pre .plan .row .records .long in
-    let kept = applied-header 3 (omega arith) (start .args .words .now) (start .args .widths .now) (start .args .r) (start .args .n) (plan-record (start .args .p)) in
+    let long = header-long (start .pre .plan .row .records) in
+    let kept = applied-header at-height (omega arith) (start .args .words .now) (start .args .widths .now) (start .args .r) (start .args .n) (plan-record (start .args .p)) in
     (omega (arith, long, done .apply .kept), rw (done .apply .ensures .0, kept) (omega (arith, start .pre .levels)))
 
 less-requires : tie.Need-less-requires

@@ -6,7 +6,7 @@ use Rattle.calls.specs.Store.{place-of}
 use Rattle.calls.specs.Replies.{said}
 use Rattle.store_list.proofs.count_between.Statement.{statement}
 use Rattle.store_list.proofs.count_between.Tie as tie
-use Rattle.store_refuse.proofs.Laws.{room}
+use Rattle.store_refuse.proofs.Laws.{tag-room}
 use Rattle.store_list.proofs.Along.{tag-on}
 use Rattle.store_list.proofs.Passes.{pass-falls, Counting, counting-start, counting-turn, counting-few, counting-end}
 
@@ -27,7 +27,7 @@ add-count c =
     omega (arith, c .count-unmarked .ensures, counting-few (c .before .before .before .before .loop .inv) (c .before .if1 .taken))
 
 next-of-requires : tie.Need-next-of-requires Inv-loop μ-loop
-next-of-requires c κs = room (tag-on (c .before .before .before .before .loop .inv .span) (c .before .if1 .taken)) 1 (omega arith)
+next-of-requires c κs = tag-room (tag-on (c .before .before .before .before .loop .inv .span) (c .before .if1 .taken))
 
 loop-less : tie.Need-loop-less Inv-loop μ-loop
 loop-less c = rw (c .next-of .ensures) (pass-falls (c .before .before .before .before .before .loop .inv .span) (c .before .before .if1 .taken))

@@ -2,11 +2,11 @@
 use native.Mathlib.Omega.{arith}
 use Rattle.store_list.proofs.count_unmarked.Statement.{statement}
 use Rattle.store_list.proofs.count_unmarked.Tie as tie
-use Rattle.store_refuse.proofs.Laws.{room}
+use Rattle.store_refuse.proofs.Laws.{tag-room}
 use Rattle.store_list.proofs.Along.{one-marked, one-unmarked}
 
 kind-of-requires : tie.Need-kind-of-requires
-kind-of-requires c κs = room (c .before .pre) 5 (omega arith)
+kind-of-requires c κs = tag-room (c .before .pre)
 
 returns : tie.Need-returns
 returns c = rw (one-marked (c .before .before .before .pre) (rw (c .before .kind-of .ensures) at (c .if1 .taken)))

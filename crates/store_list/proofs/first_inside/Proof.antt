@@ -4,7 +4,7 @@ use mathlib.Core.Path.{sym, _∙_}
 use native.Mathlib.Omega.{arith}
 use Rattle.store_list.proofs.first_inside.Statement.{statement}
 use Rattle.store_list.proofs.first_inside.Tie as tie
-use Rattle.store_refuse.proofs.Laws.{accepted-says, header-room, room}
+use Rattle.store_refuse.proofs.Laws.{accepted-says, header-room, tag-room}
 use Rattle.store_list.proofs.Listed.{begin-tag, first-front, first-behind}
 
 is-none-requires : tie.Need-is-none-requires
@@ -17,7 +17,7 @@ returns : tie.Need-returns
 returns c = first-front _ _ (c .before .before .before .before .pre) (sym (c .before .before .is-none .ensures) ∙ c .before .if1 .taken)
 
 next-of-requires : tie.Need-next-of-requires
-next-of-requires c κs = room (begin-tag _ _ (c .before .before .before .pre) (sym (c .before .is-none .ensures) ∙ c .if1 .left)) 1 (omega arith)
+next-of-requires c κs = tag-room (begin-tag _ _ (c .before .before .before .pre) (sym (c .before .is-none .ensures) ∙ c .if1 .left))
 
 returns-2 : tie.Need-returns-2
 returns-2 c = c .next-of .ensures ∙ first-behind _ _ (c .before .before .before .before .pre) (sym (c .before .before .is-none .ensures) ∙ c .before .if1 .left)

@@ -11,7 +11,7 @@ use Rattle.calls.specs.Replies.{said}
 use Rattle.store_refuse.specs.Needs.{Tag-said}
 use Rattle.store_list.proofs.inside_refused.Statement.{statement}
 use Rattle.store_list.proofs.inside_refused.Tie as tie
-use Rattle.store_refuse.proofs.Laws.{accepted-says, words-first, header-room, tag-below, room}
+use Rattle.store_refuse.proofs.Laws.{accepted-says, words-first, header-room, tag-below, tag-room}
 use Rattle.store_list.proofs.ListRefusals.{inside-front, inside-unknown, inside-marked, inside-no-begin, inside-accepted}
 
 -- the words say a store; the section is not the front, and a tag of it
@@ -43,7 +43,7 @@ returns-2 : tie.Need-returns-2
 returns-2 c = let e = c .before .before .before in sym (inside-unknown _ _ (other e) (says e) (c .if3 .taken))
 
 kind-of-requires : tie.Need-kind-of-requires
-kind-of-requires c κs = room (tag c) 5 (omega arith)
+kind-of-requires c κs = tag-room (tag c)
 
 returns-3 : tie.Need-returns-3
 returns-3 c =

@@ -4,7 +4,7 @@ use mathlib.Core.Path.{sym, _∙_}
 use native.Mathlib.Omega.{arith}
 use Rattle.store_list.proofs.stop_of.Statement.{statement}
 use Rattle.store_list.proofs.stop_of.Tie as tie
-use Rattle.store_refuse.proofs.Laws.{room}
+use Rattle.store_refuse.proofs.Laws.{tag-room}
 use Rattle.store_list.proofs.Listed.{begin-tag, stop-behind, stop-mate}
 
 is-none-requires : tie.Need-is-none-requires
@@ -14,7 +14,7 @@ returns : tie.Need-returns
 returns c = stop-behind _ _ (c .before .before .before .pre) (sym (c .before .is-none .ensures) ∙ c .if1 .taken)
 
 mate-of-requires : tie.Need-mate-of-requires
-mate-of-requires c κs = room (begin-tag _ _ (c .before .before .before .pre) (sym (c .before .is-none .ensures) ∙ c .if1 .left)) 3 (omega arith)
+mate-of-requires c κs = tag-room (begin-tag _ _ (c .before .before .before .pre) (sym (c .before .is-none .ensures) ∙ c .if1 .left))
 
 returns-2 : tie.Need-returns-2
 returns-2 c = c .mate-of .ensures ∙ stop-mate _ _ (c .before .before .before .before .pre) (sym (c .before .before .is-none .ensures) ∙ c .before .if1 .left)

@@ -6,7 +6,7 @@ use Rattle.calls.specs.Store.{place-of}
 use Rattle.calls.specs.Replies.{said}
 use Rattle.store_list.proofs.write_between.Statement.{statement}
 use Rattle.store_list.proofs.write_between.Tie as tie
-use Rattle.store_refuse.proofs.Laws.{room}
+use Rattle.store_refuse.proofs.Laws.{tag-room}
 use Rattle.store_list.proofs.Along.{tag-on}
 use Rattle.store_list.proofs.Passes.{pass-falls, Writing, writing-start, tags-room, labels-room, writing-turn, tags-end, labels-end}
 
@@ -26,7 +26,7 @@ write-unmarked-requires c κs =
     (tag-on (h .span) on, (tags-room h on, labels-room h on))
 
 next-of-requires : tie.Need-next-of-requires Inv-loop μ-loop
-next-of-requires c κs = room (tag-on (c .before .before .before .before .before .before .before .before .before .before .loop .inv .span) (c .before .before .before .before .before .before .before .if1 .taken)) 1 (omega arith)
+next-of-requires c κs = tag-room (tag-on (c .before .before .before .before .before .before .before .before .before .before .loop .inv .span) (c .before .before .before .before .before .before .before .if1 .taken))
 
 loop-less : tie.Need-loop-less Inv-loop μ-loop
 loop-less c = rw (c .next-of .ensures) (pass-falls (c .before .before .before .before .before .before .before .before .before .before .before .loop .inv .span) (c .before .before .before .before .before .before .before .before .if1 .taken))

@@ -8,7 +8,7 @@ use Rattle.calls.specs.Replies.{said}
 use Rattle.store_list.specs.Needs.{unmarked}
 use Rattle.store_list.proofs.write_unmarked.Statement.{statement}
 use Rattle.store_list.proofs.write_unmarked.Tie as tie
-use Rattle.store_refuse.proofs.Laws.{room, words-of-tag}
+use Rattle.store_refuse.proofs.Laws.{tag-room, words-of-tag}
 use Rattle.store_list.proofs.Along.{one-marked, one-unmarked}
 
 -- the tag is listed
@@ -16,13 +16,13 @@ listed : (c : tie.Else1) → let a = c .before .before .before .before .before .
 listed c = one-unmarked (c .before .before .before .before .before .pre .0) (rw (c .before .kind-of .ensures) at (c .if1 .left))
 
 kind-of-requires : tie.Need-kind-of-requires
-kind-of-requires c κs = room (c .before .before .before .pre .0) 5 (omega arith)
+kind-of-requires c κs = tag-room (c .before .before .before .pre .0)
 
 returns : tie.Need-returns
 returns c = rw (one-marked (c .before .before .before .before .before .pre .0) (rw (c .before .kind-of .ensures) at (c .if1 .taken))) (omega arith, (refl, refl))
 
 label-of-requires : tie.Need-label-of-requires
-label-of-requires c κs = room (c .before .before .before .before .before .pre .0) 0 (omega arith)
+label-of-requires c κs = tag-room (c .before .before .before .before .before .pre .0)
 
 mul-tags : tie.Need-mul-tags
 mul-tags c = search needs

@@ -3,9 +3,9 @@ use Prim.Native.Nat.{_-_}
 use native.Mathlib.Omega.{arith}
 use borrow.Author.Tests.{ltb-true, ltb-false}
 use borrow.Author.Needs.{needs}
-use Rattle.calls.specs.Load.{words-for}
+use Rattle.words.proofs.Fields.{room, room-same}
 use Rattle.store_mark.specs.Run.{tags-of}
-use Rattle.store_mark.proofs.Loop.{room, Left, left-first, Turn, turn-few, turn-long, left-turn, left-last, left-out, left-over}
+use Rattle.store_mark.proofs.Loop.{Left, left-first, Turn, turn-few, turn-long, left-turn, left-last, left-out, left-over}
 use Rattle.store_mark.proofs.mark_section.Statement.{statement}
 use Rattle.store_mark.proofs.mark_section.Tie as tie
 
@@ -38,8 +38,7 @@ turn c =
     }
 
 mate-of-requires : tie.Need-mate-of-requires Inv-loop μ-loop
-unfolding words-for
-mate-of-requires c κs = search needs
+mate-of-requires c κs = search (needs, room)
 
 loop-holds : tie.Need-loop-holds Inv-loop μ-loop
 loop-holds c = left-first _ _ _ _ (c .mate-of .ensures)
@@ -47,7 +46,7 @@ loop-holds c = left-first _ _ _ _ (c .mate-of .ensures)
 mark-tag-requires : tie.Need-mark-tag-requires Inv-loop μ-loop
 mark-tag-requires c κs =
     let at = c .before .before .before .before in
-    room 5 (start at .pre .1) (at .loop .inv .long) (ltb-true _ _ (c .before .if1 .taken)) (omega arith)
+    room-same (room (start at .pre .1) (ltb-true _ _ (c .before .if1 .taken))) (at .loop .inv .long)
 
 add-marked : tie.Need-add-marked Inv-loop μ-loop
 add-marked c = omega (arith, turn-few (turn (c .before .before)))
@@ -61,7 +60,7 @@ returns c = left-last (turn (c .before .before .before .before .before)) (c .if2
 next-of-requires : tie.Need-next-of-requires Inv-loop μ-loop
 next-of-requires c κs =
     let t = c .before .before .before .before .before .before in
-    room 1 (start (loop-at t) .pre .1) (turn-long (turn t)) (turn t .tag) (omega arith)
+    room-same (room (start (loop-at t) .pre .1) (turn t .tag)) (turn-long (turn t))
 
 add-steps : tie.Need-add-steps Inv-loop μ-loop
 add-steps c = omega arith

@@ -7,7 +7,7 @@ use Rattle.calls.specs.Replies.{said}
 use Rattle.store_refuse.specs.Needs.{Tag-said}
 use Rattle.store_refuse.proofs.section_refused.Statement.{statement}
 use Rattle.store_refuse.proofs.section_refused.Tie as tie
-use Rattle.store_refuse.proofs.Laws.{accepted-says, words-first, header-room, tag-below, room, section-unknown, section-marked, section-ends, section-accepted}
+use Rattle.store_refuse.proofs.Laws.{accepted-says, words-first, header-room, tag-below, tag-room, section-unknown, section-marked, section-ends, section-accepted}
 
 -- the words say a store; the tag is one of it
 says : (c : tie.Else1) → let ws = c .before .before .before .args .words .now in Says ws (said ws)
@@ -29,7 +29,7 @@ returns-2 : tie.Need-returns-2
 returns-2 c = sym (section-unknown _ _ (says (c .before .before .before)) (c .if2 .taken))
 
 kind-of-requires : tie.Need-kind-of-requires
-kind-of-requires c κs = room (tag c) 5 (omega arith)
+kind-of-requires c κs = tag-room (tag c)
 
 returns-3 : tie.Need-returns-3
 returns-3 c = sym (section-marked _ _ (tag (c .before .before)) (rw (c .before .kind-of .ensures) at (c .if3 .taken)))

@@ -5,6 +5,7 @@ use mathlib.Core.Path.{_≡_, refl}
 use borrow.Author.Tests.{not-false}
 use Prim.Native.Nat.{_-_, _≤_, _<_}
 use native.Mathlib.Omega.{arith}
+use Rattle.words.proofs.Fields.{header-long}
 use Rattle.store_types.specs.Limits.{no-tag}
 use Rattle.walk_levels.proofs.SizeLaws.{never}
 use Rattle.walk.proofs.PassLaws.{open-reads, walk-at, walk-whole, sizes-at-tag, sizes-whole, walk-start, walk-refused, walk-more, walk-end, sizes-start, sizes-more, sizes-end, marks-kept, passed-fits, open-kept}
@@ -24,7 +25,7 @@ abbrev μ-loop : tie.MeasureT-loop
     n - v .place
 
 shared-slice-read-t18 : tie.Need-shared-slice-read-t18 Inv-loop μ-loop
-shared-slice-read-t18 c = omega arith
+shared-slice-read-t18 c = omega (arith, header-long)
 
 loop-holds : tie.Need-loop-holds Inv-loop μ-loop
 loop-holds c = (omega arith, omega arith, (λ none. absurd (none refl)), walk-start _ _ _ _ _ _, sizes-start _ _ _ _ _ _ _ _)
@@ -59,7 +60,15 @@ loop-again c = (
 
 ends-well-requires : tie.Need-ends-well-requires Inv-loop μ-loop
 ends-well-requires c κs =
-    record { long = omega (arith, c .before .before .before .before .before .before .before .before .before .before .before .before .pre .long); few = c .before .before .before .before .before .before .before .before .before .before .before .before .pre .few; marks-few = omega (arith, c .before .before .before .before .before .before .before .before .before .before .before .before .pre .few, c .before .before .before .before .before .before .before .before .before .loop .inv); levels = c .before .before .before .before .before .before .before .before .before .before .before .before .pre .levels; numbers = c .before .before .before .before .before .before .before .before .before .before .before .before .pre .numbers }
+    let loop = c .before .before .before .before .before .before .before .before .before in
+    let fits = loop .before .before .before .pre in
+    record {
+      long = header-long (fits .records);
+      few = fits .records .few;
+      marks-few = omega (arith, fits .records .few, loop .loop .inv);
+      levels = fits .levels;
+      numbers = fits .numbers;
+    }
 
 returns-2 : tie.Need-returns-2 Inv-loop μ-loop
 returns-2 c = (

@@ -60,7 +60,7 @@ returns-2 c =
     (root-refuses _ (c .before .before .before .before .before .table2 .ensures) (c .before .before .before .before .table3 .ensures) (c .before .root-passes .ensures) (c .if2 .taken), never)
 
 watched-label-requires : tie.Need-watched-label-requires
-watched-label-requires c κs = framed (c .before .before .before .before .before .before .before .before .before .before .before) .long
+watched-label-requires c κs = framed (c .before .before .before .before .before .before .before .before .before .before .before) .records
 
 sub-numbers : tie.Need-sub-numbers
 sub-numbers c =

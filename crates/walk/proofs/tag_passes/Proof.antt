@@ -1,6 +1,7 @@
 -- `walk::tag_passes` meets its contract. Assumes nothing.
 use borrow.Author.Needs.{needs}
 use borrow.Author.Tests.{not-false}
+use Rattle.words.proofs.Fields.{room}
 use Rattle.walk_levels.proofs.SizeLaws.{never}
 use Rattle.walk.proofs.PassLaws.{tag-beyond, tag-misplaced, tag-decides, placed-by, sizes-by}
 use Rattle.walk.proofs.tag_passes.Statement.{statement}
@@ -10,7 +11,7 @@ returns : tie.Need-returns
 returns c = (tag-beyond _ _ _ _ _ _ _ _ _ (c .if1 .taken), (never, never))
 
 label-of-requires : tie.Need-label-of-requires
-label-of-requires c κs = search needs
+label-of-requires c κs = search (needs, room)
 
 place-label-requires : tie.Need-place-label-requires
 place-label-requires c κs = search needs

@@ -2,7 +2,7 @@
 use Prim.Native.Nat.{_*_, _≤_}
 use native.Mathlib.Omega.{arith}
 use borrow.Author.Needs.{needs}
-use Rattle.calls.specs.Words.{word-at}
+use Rattle.store_types.specs.Layout.{at-s, at-r, word-at}
 use Rattle.walk_header.proofs.HeaderLaws.{degree-range, degrees-product, frame-short, frame-version, frame-s, frame-r, frame-height, frame-count, frame-words, frame-power}
 use Rattle.walk_header.proofs.frame_passes.Statement.{statement}
 use Rattle.walk_header.proofs.frame_passes.Tie as tie
@@ -59,7 +59,7 @@ returns-7 : tie.Need-returns-7
 returns-7 c = frame-words _ (c .if7 .taken)
 
 -- what the tests say of s, r and f
-degrees : (c : tie.Else7) → let ws = c .before .before .before .before .before .before .before .before .before .before .before .before .before .before .before .args .words .now in (word-at ws 1 ≤ 16) × (word-at ws 2 ≤ 16) × (4 ≤ word-at ws 1 * word-at ws 2) × (word-at ws 1 * word-at ws 2 ≤ 256)
+degrees : (c : tie.Else7) → let ws = c .before .before .before .before .before .before .before .before .before .before .before .before .before .before .before .args .words .now in (word-at ws at-s ≤ 16) × (word-at ws at-r ≤ 16) × (4 ≤ word-at ws at-s * word-at ws at-r) × (word-at ws at-s * word-at ws at-r ≤ 256)
 degrees c =
     let second = c .before .before .before .before .before .before in
     let s = degree-range _ (second .before .before .before .degree-fits .ensures) (second .before .before .if3 .left) in

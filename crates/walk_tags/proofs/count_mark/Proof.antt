@@ -1,11 +1,12 @@
 -- `walk_tags::count_mark` meets its contract. Assumes nothing.
 use borrow.Author.Needs.{needs}
+use Rattle.words.proofs.Fields.{room}
 use Rattle.walk_tags.proofs.TagLaws.{mark-counted}
 use Rattle.walk_tags.proofs.count_mark.Statement.{statement}
 use Rattle.walk_tags.proofs.count_mark.Tie as tie
 
 kind-of-requires : tie.Need-kind-of-requires
-kind-of-requires c κs = search needs
+kind-of-requires c κs = search (needs, room)
 
 add-result : tie.Need-add-result
 add-result c = search needs

@@ -1,14 +1,15 @@
 -- `walk_tags::mate_fits` meets its contract. Assumes nothing.
 use borrow.Author.Needs.{needs}
+use Rattle.words.proofs.Fields.{room}
 use Rattle.walk_tags.proofs.TestLaws.{mate-not, mate-back}
 use Rattle.walk_tags.proofs.mate_fits.Statement.{statement}
 use Rattle.walk_tags.proofs.mate_fits.Tie as tie
 
 mate-of-requires : tie.Need-mate-of-requires
-mate-of-requires c κs = search needs
+mate-of-requires c κs = search (needs, room)
 
 mate-of-requires-2 : tie.Need-mate-of-requires-2
-mate-of-requires-2 c κs = search needs
+mate-of-requires-2 c κs = search (needs, room)
 
 at-end-requires : tie.Need-at-end-requires
 at-end-requires c κs = search needs

@@ -1,14 +1,15 @@
 -- `walk_tags::open_after` meets its contract. Assumes nothing.
 use borrow.Author.Needs.{needs}
+use Rattle.words.proofs.Fields.{room}
 use Rattle.walk_tags.proofs.TagLaws.{kind-fitting, open-right}
 use Rattle.walk_tags.proofs.open_after.Statement.{statement}
 use Rattle.walk_tags.proofs.open_after.Tie as tie
 
 kind-of-requires : tie.Need-kind-of-requires
-kind-of-requires c κs = search needs
+kind-of-requires c κs = search (needs, room)
 
 up-of-requires : tie.Need-up-of-requires
-up-of-requires c κs = search needs
+up-of-requires c κs = search (needs, room)
 
 at-begin-requires : tie.Need-at-begin-requires
 at-begin-requires c κs = rw (c .before .kind-of .ensures) (kind-fitting _ _ _ _ _ (c .before .before .before .pre .1))

@@ -1,11 +1,12 @@
 -- `walk_tags::record_fits` meets its contract. Assumes nothing.
 use borrow.Author.Needs.{needs}
+use Rattle.words.proofs.Fields.{room}
 use Rattle.walk_tags.proofs.TestLaws.{record-up-not, record-mate-not, record-mark}
 use Rattle.walk_tags.proofs.record_fits.Statement.{statement}
 use Rattle.walk_tags.proofs.record_fits.Tie as tie
 
 kind-of-requires : tie.Need-kind-of-requires
-kind-of-requires c κs = search needs
+kind-of-requires c κs = search (needs, room)
 
 up-fits-requires : tie.Need-up-fits-requires
 up-fits-requires c κs = search needs

@@ -1,12 +1,13 @@
 -- `walk_tags::tag_fits` meets its contract. Assumes nothing.
 use borrow.Author.Needs.{needs}
+use Rattle.words.proofs.Fields.{room}
 use Rattle.walk_tags.proofs.TagLaws.{kind-given, kind-unfit, beside, record-right}
 use Rattle.walk_tags.proofs.TestLaws.{tag-not, tag-kind}
 use Rattle.walk_tags.proofs.tag_fits.Statement.{statement}
 use Rattle.walk_tags.proofs.tag_fits.Tie as tie
 
 prior-of-requires : tie.Need-prior-of-requires
-prior-of-requires c κs = search needs
+prior-of-requires c κs = search (needs, room)
 
 same-requires : tie.Need-same-requires
 same-requires c κs = search needs
@@ -15,7 +16,7 @@ returns : tie.Need-returns
 returns c = tag-not _ _ _ _ _ (c .before .before .prior-of .ensures) (c .before .same .ensures) (c .if1 .taken)
 
 kind-of-requires : tie.Need-kind-of-requires
-kind-of-requires c κs = search needs
+kind-of-requires c κs = search (needs, room)
 
 is-kind-requires : tie.Need-is-kind-requires
 is-kind-requires c κs = search needs

@@ -1,15 +1,16 @@
 -- `walk_tags::up_fits` meets its contract. Assumes nothing.
 use borrow.Author.Needs.{needs}
 use native.Mathlib.Omega.{arith}
+use Rattle.words.proofs.Fields.{room}
 use Rattle.walk_tags.proofs.TestLaws.{up-not, up-tag}
 use Rattle.walk_tags.proofs.up_fits.Statement.{statement}
 use Rattle.walk_tags.proofs.up_fits.Tie as tie
 
 up-of-requires : tie.Need-up-of-requires
-up-of-requires c κs = search needs
+up-of-requires c κs = search (needs, room)
 
 up-of-requires-2 : tie.Need-up-of-requires-2
-up-of-requires-2 c κs = search needs
+up-of-requires-2 c κs = search (needs, room)
 
 at-end-requires : tie.Need-at-end-requires
 at-end-requires c κs = search needs

@@ -1,6 +1,6 @@
 -- `words::get` meets its contract. Assumes nothing.
 use borrow.Author.Needs.{needs}
-use Rattle.calls.specs.Words.{field}
+use Rattle.store_types.specs.Layout.{records-at, field}
 use Rattle.words.proofs.get.Statement.{statement}
 use Rattle.words.proofs.get.Tie as tie
 
@@ -20,10 +20,11 @@ mul-result-2 : tie.Need-mul-result-2
 mul-result-2 c = search needs
 
 shared-slice-read-result : tie.Need-shared-slice-read-result
+unfolding records-at
 shared-slice-read-result c = search needs
 
 returns : tie.Need-returns
-unfolding field
+unfolding field records-at
 returns c = search needs
 
 pub get-spec : {M : Type 1} → statement M

@@ -1,6 +1,6 @@
 -- `words::put` meets its contract. Assumes nothing.
 use borrow.Author.Needs.{needs}
-use Rattle.words.specs.Fields.{with-field}
+use Rattle.store_types.specs.Layout.{records-at, with-field}
 use Rattle.words.proofs.put.Statement.{statement}
 use Rattle.words.proofs.put.Tie as tie
 
@@ -20,13 +20,14 @@ mul-words-2 : tie.Need-mul-words-2
 mul-words-2 c = search needs
 
 slice-write-words : tie.Need-slice-write-words
+unfolding records-at
 slice-write-words c = search needs
 
 same-length : tie.Need-same-length
 same-length c = search needs
 
 returns : tie.Need-returns
-unfolding with-field
+unfolding with-field records-at
 returns c = search needs
 
 pub put-spec : {M : Type 1} → statement M

@@ -3,7 +3,7 @@ use mathlib.Core.Path.{_≡_, refl, ap, sym, _∙_}
 use Prim.Native.Nat.{_+_, _≤_, _-_}
 use native.Mathlib.Omega.{arith}
 use lib.ListN.{length, drop}
-use Rattle.tree.specs.Specimens.{same}
+use Rattle.lists.specs.Lists.{same}
 use Rattle.console.proofs.Scans.{same-turn, same-not, same-end, same-length}
 use Rattle.console.proofs.fields.same_bytes.Statement.{statement}
 use Rattle.console.proofs.fields.same_bytes.Tie as tie

@@ -3,7 +3,7 @@
 use Prim.Native.Nat.{_-_}
 use native.Mathlib.Omega.{arith}
 use Rattle.edit_model.specs.Split.{left-of}
-use Rattle.renumber.proofs.Rows.{room}
+use Rattle.words.proofs.Fields.{room}
 use Rattle.renumber.proofs.Splits.{Leftward, left-start, left-spent, left-below, left-on, left-stops}
 use Rattle.renumber.proofs.ancestors.left_of.Statement.{statement}
 use Rattle.renumber.proofs.ancestors.left_of.Tie as tie
@@ -24,7 +24,7 @@ at-least-requires c κs = c .before .before .before .pre
 
 prior-of-requires : tie.Need-prior-of-requires Inv-loop μ-loop
 prior-of-requires c κs =
-    room (c .before .before .before .before .before .pre) (left-below (c .before .before .before .loop .inv) (c .before .before .loop-test .taken) (c .before .at-least .ensures) (c .if1 .taken)) 2 (omega arith)
+    room (c .before .before .before .before .before .pre) (left-below (c .before .before .before .loop .inv) (c .before .before .loop-test .taken) (c .before .at-least .ensures) (c .if1 .taken))
 
 add-steps : tie.Need-add-steps Inv-loop μ-loop
 add-steps c = omega arith

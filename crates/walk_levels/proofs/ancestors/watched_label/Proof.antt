@@ -1,14 +1,16 @@
 -- `walk_levels::ancestors::watched_label` meets its contract. Assumes nothing.
 use borrow.Author.Needs.{needs}
+use native.Mathlib.Omega.{arith}
+use Rattle.words.proofs.Fields.{header-long, room}
 use Rattle.walk_levels.proofs.AncestorNumbers.{label-tag, label-none}
 use Rattle.walk_levels.proofs.ancestors.watched_label.Statement.{statement}
 use Rattle.walk_levels.proofs.ancestors.watched_label.Tie as tie
 
 shared-slice-read-if1 : tie.Need-shared-slice-read-if1
-shared-slice-read-if1 c = search needs
+shared-slice-read-if1 c = omega (arith, header-long)
 
 label-of-requires : tie.Need-label-of-requires
-label-of-requires c κs = search needs
+label-of-requires c κs = search (needs, room)
 
 returns : tie.Need-returns
 returns c = label-tag _ _ (c .before .if1 .taken) (c .label-of .ensures)

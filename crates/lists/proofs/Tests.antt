@@ -1,0 +1,32 @@
+-- Laws on tests: a goal by the two answers, and what both answers of a conjunction or disjunction say of its parts.
+-- Assumes nothing.
+use mathlib.Core.Path.{_≡_, refl}
+use mathlib.Core.Bool.{Bool, true, false, _&&_, _||_, true≢false, false≢true}
+
+-- a goal by the two answers of a test
+pub by-test : {G : Type 0} (t : Bool) → (t ≡ true → G) → (t ≡ false → G) → G
+by-test true f g = f refl
+by-test false f g = g refl
+
+-- a test that cannot be passed fails
+pub fails : (t : Bool) → (t ≡ true → ⊥) → t ≡ false
+fails t h = by-test t (λ e. absurd (h e)) (λ e. e)
+
+pub and-left : (a b : Bool) → (a && b) ≡ true → a ≡ true
+and-left true b e = refl
+and-left false b e = absurd (false≢true e)
+
+pub and-right : (a b : Bool) → (a && b) ≡ true → b ≡ true
+and-right true b e = e
+and-right false b e = absurd (false≢true e)
+
+pub and-both : {a b : Bool} → a ≡ true → b ≡ true → (a && b) ≡ true
+and-both {a} {b} p q = rw (p, q)
+
+pub or-left-false : (a b : Bool) → (a || b) ≡ false → a ≡ false
+or-left-false true b e = e
+or-left-false false b e = refl
+
+pub or-right-false : (a b : Bool) → (a || b) ≡ false → b ≡ false
+or-right-false true b e = absurd (true≢false e)
+or-right-false false b e = e

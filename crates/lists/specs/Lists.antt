@@ -1,0 +1,25 @@
+-- Lists that definitions of several crates need. Assumes nothing: these are definitions.
+use mathlib.Core.Bool.{Bool, true, false, _&&_}
+use mathlib.Core.List.{List, [], _∷_}
+use Prim.Native.Nat.{ℕ, zero, suc}
+use lib.Dec.{eqb}
+
+-- from, from + 1, .. : count numbers
+unfoldable pub numbers : (from count : ℕ) → List ℕ
+numbers x zero = []
+numbers x (suc n) = x ∷ numbers (suc x) n
+
+unfoldable pub same : List ℕ → List ℕ → Bool
+same [] [] = true
+same [] (y ∷ ys) = false
+same (x ∷ xs) [] = false
+same (x ∷ xs) (y ∷ ys) = eqb x y && same xs ys
+
+unfoldable pub all-hold : {A : Type 0} → (holds : A → Bool) → List A → Bool
+all-hold h [] = true
+all-hold h (e ∷ es) = h e && all-hold h es
+
+-- a first element for the first of some lists, which is begun where there is none
+unfoldable pub with-first : (element : ℕ) → List (List ℕ) → List (List ℕ)
+with-first c [] = (c ∷ []) ∷ []
+with-first c (f ∷ fs) = (c ∷ f) ∷ fs
