@@ -12,6 +12,7 @@ use lib.Seq.{drop-cons, drop-append-add}
 use Rattle.store_types.specs.Limits.{no-tag, label-limit, most-tags}
 use Rattle.store_types.specs.Layout.{header-words, tag-words, words-for}
 use Rattle.lists.proofs.Tests.{by-test}
+use Rattle.words.proofs.Fields.{words-next}
 use Rattle.tree.specs.Row.{insert-at}
 use Rattle.tree.specs.Forest.{leaves, size, labels, spread}
 use Rattle.tree.specs.Book.{Book, height, labels-of, split-of, moved}
@@ -152,13 +153,15 @@ module _ (ws : List ℕ) (st : Store) (says : Says ws st) (p : ℕ) (fits : p �
   -- both tags, not numbered yet
   added-both : added (added-at ws st p t) (suc (count st)) (count st) (u .mate) (u .up) (kind-word (u .kind) (u .marked))
       ≡ image-words both ++ drop (words-for header-words (suc (suc (count st)))) ws
-  unfolding image-of words-for
+  unfolding image-of
   added-both =
       let v = image-of st in
       let rest = image-said ws st says .0 in
       let is = image-said ws st says .1 in
       let many = ap length is ∙ length-append (image-words v) rest in
-      let at : words-for header-words (suc (suc (count st))) ≡ length (image-words v) + (tag-words + tag-words) = omega (arith, length-image v) in
+      let more = words-next (count st) in
+      let more-two = words-next (suc (count st)) in
+      let at : words-for header-words (suc (suc (count st))) ≡ length (image-words v) + (tag-words + tag-words) = omega (arith, length-image v, more, more-two) in
       rw is
       (added-two (proper-image own) few-more p in-row t u rest (omega (arith, length-image v))
       ∙ rw (at, drop-append-add (image-words v) rest (tag-words + tag-words)))

@@ -3,7 +3,7 @@
 use mathlib.Core.Path.{_≡_, refl, ap, sym, _∙_}
 use mathlib.Core.Bool.{false, cond}
 use mathlib.Core.List.{List, [], _∷_, _++_, headD, append-assoc}
-use Prim.Native.Nat.{ℕ, zero, suc, max, _≤_, _<_}
+use Prim.Native.Nat.{ℕ, zero, suc, max, _+_, _≤_, _<_}
 use native.Mathlib.Omega.{arith}
 use borrow.Author.Tests.{ltb-true}
 use lib.Dec.{ltb}
@@ -60,8 +60,7 @@ module _ (ws : List ℕ) (st : Store) (says : Says ws st) (y : ℕ) (accepted : 
   few = omega (arith, a .few)
 
   room : words-for header-words (suc (suc (count st))) ≤ length ws
-  unfolding words-for
-  room = omega (arith, a .room)
+  room = let two : count st + 2 ≡ suc (suc (count st)) = omega arith in rw two at (a .room)
 
   labels-fit : width st (height (book-with p st)) ≤ label-limit
   labels-fit = labels-said ws st says begin (end ∷ []) y a

@@ -11,6 +11,7 @@ use lib.Seq.{drop-drop}
 use Rattle.store_types.specs.Limits.{no-tag, label-limit, most-tags}
 use Rattle.store_types.specs.Layout.{header-words, tag-words, words-for}
 use Rattle.lists.proofs.Tests.{fails}
+use Rattle.words.proofs.Fields.{words-next}
 use Rattle.tree.specs.Book.{height, tags, labels-of, base, power-width, root-full, inserted, split-of, moved}
 use Rattle.tree.specs.Promise.{Widths, Step, Second-tag}
 use Rattle.tree_laws.proofs.Labels.{power-widths}
@@ -73,8 +74,7 @@ module _ (ws : List ℕ) (st : Store) (says : Says ws st) (p : ℕ) (fits : p �
     few-one = omega arith
 
     room-one : words-for header-words (suc (count st)) ≤ length ws
-    unfolding words-for
-    room-one = omega arith
+    room-one = omega (arith, words-next (suc (count st)))
 
     low : book-with p st .under ≤ 22
     unfolding power-width base
@@ -132,8 +132,7 @@ module _ (ws : List ℕ) (st : Store) (says : Says ws st) (p : ℕ) (fits : p �
     pub turn-words : applied (added (words-of (grown p t st) ++ drop (words-for header-words (suc (count st))) ws) (suc (count st)) (count st) (u .mate) (u .up) (kind-word (u .kind) (u .marked))) (widths-of ws) (book-with p st .r)
         (suc (suc (count st))) (plain-plan (words-of (grown p t st) ++ drop (words-for header-words (suc (count st))) ws) (widths-of ws) (book-with p st .under) (count st)) .words
         ≡ words-of (grown (suc p) u (grown p t st)) ++ drop (words-for header-words (suc (suc (count st)))) ws
-    unfolding words-for
     turn-words =
         let rest = drop (words-for header-words (suc (count st))) ws in
-        let further : words-for header-words (suc (count st)) + tag-words ≡ words-for header-words (suc (suc (count st))) = omega arith in
+        let further : words-for header-words (suc (count st)) + tag-words ≡ words-for header-words (suc (suc (count st))) = sym (words-next (suc (count st))) in
         rw (store-image (grown p t st), next-said rest (rw length-drop (omega arith)), image-is _ (grown (suc p) u (grown p t st)) alike-after, drop-drop tag-words (words-for header-words (suc (count st))) ws, further)

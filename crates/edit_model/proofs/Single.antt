@@ -12,6 +12,7 @@ use lib.Seq.{drop-cons, drop-append-add}
 use Rattle.store_types.specs.Limits.{no-tag, label-limit, most-tags}
 use Rattle.store_types.specs.Layout.{header-words, tag-words, words-for}
 use Rattle.lists.proofs.Tests.{by-test}
+use Rattle.words.proofs.Fields.{words-next}
 use Rattle.tree.specs.Row.{insert-at}
 use Rattle.tree.specs.Forest.{Forest, leaves, size, labels, leaf-row, spread}
 use Rattle.tree.specs.Book.{Book, height, labels-of, root-full, inserted, split-of, moved}
@@ -132,12 +133,13 @@ module _ (ws : List ℕ) (st : Store) (says : Says ws st) (p : ℕ) (fits : p �
 
   -- the new tag, not numbered yet
   added-said : added-at ws st p t ≡ image-words (image-with p t st) ++ drop (words-for header-words (suc (count st))) ws
-  unfolding image-of words-for
+  unfolding image-of
   added-said =
       let v = image-of st in
       let rest = image-said ws st says .0 in
       let is = image-said ws st says .1 in
       let many = ap length is ∙ length-append (image-words v) rest in
+      let more = words-next (count st) in
       let at : words-for header-words (suc (count st)) ≡ length (image-words v) + tag-words = omega (arith, length-image v) in
       rw is
       (added-image (proper-image own) (own .few) p (omega (arith, own .as-many)) t rest (omega (arith, length-image v))

@@ -14,7 +14,7 @@ pub fn behind(words: &[u32], n: u32, place: TagId) -> TagId
     ensures { λ x. ⌜ x .0 ≡ tag-behind (now (words .entry)) (place .0) ⌝ }
 {
     if place.is_none() {
-        return TagId(words[5]);
+        return TagId(words[words::AT_FIRST]);
     }
     words::next_of(words, place)
 }
@@ -59,7 +59,7 @@ fn link_place(words: &mut [u32], n: u32, place: TagId)
     ensures { λ _. ⌜ now (words .exit) ≡ linked-place (now (words .entry)) (place .0) n ⌝ }
 {
     if place.is_none() {
-        words[5] = n;
+        words[words::AT_FIRST] = n;
     } else {
         words::set_next(words, place, TagId(n));
     }
@@ -84,7 +84,7 @@ pub fn add_tag(words: &mut [u32], n: u32, place: TagId, mate: TagId, up: TagId, 
     write_record(words, TagId(n), next, place, mate, up, kind);
     link_place(words, n, place);
     link_next(words, n, next);
-    words[4] = n + 1;
+    words[words::AT_COUNT] = n + 1;
 }
 
 // H is one higher where the root was split.
@@ -92,7 +92,7 @@ pub fn raise(words: &mut [u32], split: usize)
     requires { ⌜ (header-words ≤ length (now words)) × (word-at (now words) at-height < 4294967295) ⌝ }
     ensures { λ _. ⌜ now (words .exit) ≡ raised-words (now (words .entry)) split ⌝ }
 {
-    if split == words[3] as usize {
-        words[3] = words[3] + 1;
+    if split == words[words::AT_HEIGHT] as usize {
+        words[words::AT_HEIGHT] = words[words::AT_HEIGHT] + 1;
     }
 }

@@ -16,7 +16,7 @@ fn place_refused(place: TagId, words: &[u32]) -> u32
     if place.is_none() {
         return 0;
     }
-    if words[4] <= place.0 {
+    if words[words::AT_COUNT] <= place.0 {
         return 8;
     }
     if 16 <= words::kind_of(words, place) {
@@ -30,16 +30,16 @@ fn room_refused(k: u32, words: &[u32]) -> u32
     requires { ⌜ Says (now words) (said (now words)) × (k ≤ 2) ⌝ }
     ensures { λ v. ⌜ v ≡ room-refusal (length (now (words .entry))) k (said (now (words .entry))) ⌝ }
 {
-    let all = words[4] + k;
+    let all = words[words::AT_COUNT] + k;
     if 200000 < all {
         return 6;
     }
     if words.len() < 8 + 6 * (all as usize) {
         return 6;
     }
-    let s = words[1] as u64;
-    let r = words[2] as u64;
-    let h = words[3];
+    let s = words[words::AT_S] as u64;
+    let r = words[words::AT_R] as u64;
+    let h = words[words::AT_HEIGHT];
     let highs = walk_levels::table(s, r, h as usize);
     if (all as u64) < highs[h as usize] {
         return 0;

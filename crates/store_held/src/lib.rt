@@ -31,7 +31,7 @@ pub fn hold(tag: TagId, words: &[u32]) -> HoldReply
     let start = words::label_of(words, tag);
     let end = end_label(tag, words);
     HoldReply::Held(HeldPair {
-        book: words[6],
+        book: words[words::AT_BOOK],
         tag,
         start,
         end,
@@ -46,12 +46,12 @@ pub fn question(pair: HeldPair, tag: TagId, words: &[u32]) -> QuestionReply
     if first != 0 {
         return QuestionReply::Refused(first);
     }
-    let book = words[6];
+    let book = words[words::AT_BOOK];
     if !same(pair.book, book) {
         return QuestionReply::Answered(Answer::Stale);
     }
     let section = pair.tag;
-    if words[4] <= section.0 || words[4] <= tag.0 {
+    if words[words::AT_COUNT] <= section.0 || words[words::AT_COUNT] <= tag.0 {
         return QuestionReply::Refused(8);
     }
     if words::kind_of(words, section) % 16 != 1 {

@@ -12,7 +12,7 @@ use lib.Dec.{eqb}
 use lib.ListN.{length, getD, replicate}
 use Rattle.store_types.specs.Limits.{no-tag, label-limit, most-tags}
 use Rattle.lists.proofs.Tests.{by-test}
-use Rattle.store_types.specs.Layout.{at-s, at-r, at-height, at-count, word-at, words-for}
+use Rattle.store_types.specs.Layout.{at-s, at-r, at-height, at-count, word-at}
 use Rattle.tree.specs.Book.{height}
 use Rattle.calls.specs.Kind.{Kind, kind-word}
 use Rattle.calls.specs.Store.{Fact, fact, count, row}
@@ -134,7 +134,7 @@ module _ (ws : List ℕ) (says : Says ws (said ws)) (c : Kind) (ks : List Kind) 
   count-is = issued ws says (c ∷ ks) y a
 
   pub tag-fits : Tag-fits ws (word-at ws at-count) y
-  unfolding image-of words-for words-said
+  unfolding image-of words-said
   tag-fits =
       let p = position y (said ws) in
       let next : behind ws y ≡ getD (row (said ws)) p no-tag =

@@ -56,8 +56,9 @@ module _ {k : ℕ} {ws w l : List ℕ} {n y u r : ℕ} {p : Plan} (h : Ready 1 k
   begin-tag = rw (h .tags) (tag-fits ws said-now begin (end ∷ []) y both-row)
 
   pub room-for-two : Records ws (suc (suc n))
-  unfolding words-for
-  room-for-two = record { few = omega (arith, issued, both-row .few); long = omega (arith, issued, both-row .room) }
+  room-for-two =
+      let two : count (said ws) + 2 ≡ suc (suc n) = omega (arith, issued) in
+      record { few = omega (arith, issued, both-row .few); long = rw two at (both-row .room) }
 
   low-there : word-at ws at-height ≤ 22
   low-there = omega (arith, ranges ws said-now .high)

@@ -8,7 +8,7 @@ use lib.Dec.{ltb}
 use lib.ListN.{length, getD, length-append, List·getD-eq-default}
 use Rattle.store_types.specs.Limits.{no-tag, most-tags}
 use Rattle.lists.proofs.Tests.{by-test}
-use Rattle.store_types.specs.Layout.{words-for, Records}
+use Rattle.store_types.specs.Layout.{header-words, words-for, Records}
 use Rattle.tree.specs.Row.{place}
 use Rattle.calls.specs.Store.{next-in}
 use Rattle.edit_model.specs.Image.{image-words}
@@ -22,12 +22,9 @@ use Rattle.insert_link.specs.Needs.{Tag-or-none}
 
 module _ {us : List ℕ} {n : ℕ} (g : Words-in us n) (few : n ≤ most-tags) where
   pub records-in : Records us n
-  unfolding words-for
   records-in =
-      record {
-        few = few;
-        long = omega (arith, g .counted, length-image (g .image), ap length (g .words-are) ∙ length-append (image-words (g .image)) (g .rest));
-      }
+      let own : words-for header-words (length (g .image .facts)) ≤ length us = omega (arith, length-image (g .image), ap length (g .words-are) ∙ length-append (image-words (g .image)) (g .rest)) in
+      record { few = few; long = rw (g .counted) at own }
 
   -- what stands at a place of the row is a tag; behind the last stands none
   pub place-or-none : (i : ℕ) → Tag-or-none n (getD (g .image .tags) i no-tag)

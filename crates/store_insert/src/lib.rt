@@ -92,7 +92,7 @@ fn insert_end(words: &mut [u32], n: u32, up: TagId, r: u64, widths: &[u64; 24], 
     requires { ⌜ End-fits (now words) n r (now widths) (now lows) ⌝ }
     ensures { λ _. ⌜ now (words .exit) ≡ end-edit (now (widths .entry)) n (up .0) (now (words .entry)) ⌝ }
 {
-    let under = words[3] as usize - 1;
+    let under = words[words::AT_HEIGHT] as usize - 1;
     let p = insert_plan::plain_plan(words, n + 1, TagId(n), under, widths);
     insert_link::add_tag(words, n + 1, TagId(n), TagId(n), up, 2);
     insert_plan::apply(words, n + 2, r, p, widths, lows);
@@ -144,10 +144,10 @@ fn change(kind: u8, place: TagId, words: &mut [u32], sizes: &[u32; 24]) -> Done
     requires { ⌜ (insert-refused kind (place .0) (now words) ≡ 0) × (now sizes ≡ sizes-at (now words) (place .0) (replicate 24 0)) ⌝ }
     ensures { λ d. ⌜ Edits (now (words .exit)) (d .moved) (d .split) (call-edit kind (place .0) (now (words .entry))) ⌝ }
 {
-    let s = words[1] as u64;
-    let r = words[2] as u64;
-    let h = words[3] as usize;
-    let n = words[4];
+    let s = words[words::AT_S] as u64;
+    let r = words[words::AT_R] as u64;
+    let h = words[words::AT_HEIGHT] as usize;
+    let n = words[words::AT_COUNT];
     let widths = walk_levels::table(1, s * r - 1, h);
     let lows = walk_levels::table(1, r, h);
     let highs = walk_levels::table(s, r, h);
@@ -169,9 +169,9 @@ pub fn insert(kind: u8, place: TagId, words: &mut [u32]) -> InsertReply
     if refusal != 0 {
         return InsertReply::Refused(refusal);
     }
-    let n = words[4];
+    let n = words[words::AT_COUNT];
     let done = change(kind, place, words, &sizes);
-    words[7] = words[7] + 1;
+    words[words::AT_STAMP] = words[words::AT_STAMP] + 1;
     InsertReply::Inserted {
         first: TagId(n),
         moved: done.moved,

@@ -51,8 +51,8 @@ pub fn mark(tag: TagId, words: &mut [u32]) -> MarkReply
     if refusal != 0 {
         return MarkReply::Refused(refusal);
     }
-    let n = words[4];
+    let n = words[words::AT_COUNT];
     let marked = mark_section(words, n, tag);
-    words[7] = words[7] + 1;
+    words[words::AT_STAMP] = words[words::AT_STAMP] + 1;
     MarkReply::Marked(marked)
 }
