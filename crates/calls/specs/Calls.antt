@@ -49,7 +49,8 @@ unfoldable pub after : (w : ℕ) → List Call → Store → Store
 after w [] st = st
 after w (c ∷ cs) st = after w cs (after-one w c st)
 
--- book numbers are words (u32 in the calls themselves)
+-- whether the book numbers of loads, accepted or not, are words (u32 in the entries themselves); no statement but one on
+-- the store's own number asks for it
 unfoldable pub Fits : Call → Type 0
 Fits (load s r b cs) = b < word-limit
 Fits (insert c y) = Unit {0}
@@ -70,7 +71,7 @@ pub data Event : Type 0 where
 
 -- the entries' contracts: what the reply is, and what the words then hold
 unfoldable pub Happens : Event → (before after : List ℕ) → Type 0
-Happens (loads s r b cs q) ws vs = (q ≡ load-reply s r b cs ws) × (vs ≡ load-words s r b cs ws) × (b < word-limit)
+Happens (loads s r b cs q) ws vs = (q ≡ load-reply s r b cs ws) × (vs ≡ load-words s r b cs ws)
 Happens (inserts c y q) ws vs = (q ≡ insert-reply c y ws) × (vs ≡ insert-words c y ws)
 Happens (marks x q) ws vs = (q ≡ mark-reply x ws) × (vs ≡ mark-words x ws)
 Happens (holds x q) ws vs = (q ≡ hold-reply x ws) × (vs ≡ ws)

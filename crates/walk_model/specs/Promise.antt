@@ -5,12 +5,11 @@ use mathlib.Core.List.{List}
 use mathlib.Core.Logic.{_↔_}
 use Prim.Native.Nat.{ℕ, suc, _*_, _^_, _≤_, _<_}
 use lib.ListN.{length}
-use Rattle.store_types.specs.Limits.{word-limit}
 use Rattle.tree.specs.Forest.{Forest, leaves, labels}
 use Rattle.tree.specs.Promise.{Widths}
 use Rattle.tree_laws.proofs.Good.{Good}
 use Rattle.calls.specs.Store.{Store}
-use Rattle.calls.specs.Words.{Says, word-at}
+use Rattle.calls.specs.Words.{Says}
 use Rattle.walk_model.specs.Levels.{Tables, entry, start-levels, labels-pass}
 use Rattle.walk_model.specs.Walk.{words-pass}
 
@@ -29,6 +28,6 @@ Levels-right =
     length xs ≡ length ls → length ls < s * r ^ suc under → ((under ≡ 0 → ⊥) → 1 ≤ length ls) →
     (labels-pass t under 0 0 (start-levels t) ls ≡ true) ↔ ((f : Forest) × Good s r f under × (leaves f ≡ xs) × (labels f w under 0 ≡ ls))
 
--- words pass if and only if they say a store; the book number is a word, as all that a slice of words holds
+-- words pass if and only if they say a store
 unfoldable pub Walk-right : Type 0
-Walk-right = (ws : List ℕ) → word-at ws 6 < word-limit → (words-pass ws ≡ true) ↔ ((st : Store) × Says ws st)
+Walk-right = (ws : List ℕ) → (words-pass ws ≡ true) ↔ ((st : Store) × Says ws st)
