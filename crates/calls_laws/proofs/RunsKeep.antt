@@ -34,16 +34,16 @@ use Rattle.calls_laws.proofs.ListsKeep.{lists-keep}
 -- ROOM: the words of the store after an accepted call fit the lent words
 
 -- a sound store has words for as many tags as its tree has leaves
-length-sound : (st : Store) → sound st ≡ true → length (words-of st) ≡ words-for (size (st .book .root))
+pub length-sound : (st : Store) → sound st ≡ true → length (words-of st) ≡ words-for (size (st .book .root))
 length-sound st e = length-words st ∙ ap words-for (sym (facts-of st e .as-many))
 
-load-fits : (w s r b : ℕ) (cs : List ℕ) → load-refusal w s r cs ≡ 0 → sound (load-store s r b cs) ≡ true → length (words-of (load-store s r b cs)) ≤ w
+pub load-fits : (w s r b : ℕ) (cs : List ℕ) → load-refusal w s r cs ≡ 0 → sound (load-store s r b cs) ≡ true → length (words-of (load-store s r b cs)) ≤ w
 unfolding load-store
 load-fits w s r b cs e good =
     let passed = accepted-load w s r cs e in
     rw (length-sound (load-store s r b cs) good, size-loaded s r (length cs) (passed .degrees .r-least)) (passed .room)
 
-changed-fits : (w : ℕ) (c : Call) (st : Store) → sound st ≡ true → words-for (count st) ≤ w → refusal w c st ≡ 0 → sound (changed c st) ≡ true →
+pub changed-fits : (w : ℕ) (c : Call) (st : Store) → sound st ≡ true → words-for (count st) ≤ w → refusal w c st ≡ 0 → sound (changed c st) ≡ true →
     length (words-of (changed c st)) ≤ w
 unfolding refusal changed insert-store book-after mark-store words-for
 changed-fits w (load s r b cs) st h room e good = load-fits w s r b cs e good
@@ -62,7 +62,7 @@ changed-fits w (mark x) st h room e good = omega (arith, length-sound (mark-stor
 
 -- WHAT A REPLY TELLS, by its refusal: whether the call was accepted, and the total after it
 
-load-told : (k n h : ℕ) → load-accepted (load-outcome k n h) ≡ eqb k 0
+pub load-told : (k n h : ℕ) → load-accepted (load-outcome k n h) ≡ eqb k 0
 unfolding load-accepted load-outcome
 load-told zero n h = refl
 load-told (suc k) n h = sym (eqb·suc-zero k)
@@ -73,12 +73,12 @@ load-total zero n h t = refl
 load-total (suc k) n h t = rw (eqb·suc-zero k)
 
 -- a reply that says so is that of an accepted load
-load-zero : (k a c n h : ℕ) → Loaded n h ≡ load-outcome k a c → k ≡ 0
+pub load-zero : (k a c n h : ℕ) → Loaded n h ≡ load-outcome k a c → k ≡ 0
 unfolding load-outcome
 load-zero zero a c n h e = refl
 load-zero (suc k) a c n h e = let z : _≡_ {A = ℕ} 0 1 = cc in absurd (omega arith)
 
-insert-told : (k x m h : ℕ) → insert-accepted (insert-outcome k x m h) ≡ eqb k 0
+pub insert-told : (k x m h : ℕ) → insert-accepted (insert-outcome k x m h) ≡ eqb k 0
 unfolding insert-accepted insert-outcome
 insert-told zero x m h = refl
 insert-told (suc k) x m h = sym (eqb·suc-zero k)
@@ -88,7 +88,7 @@ unfolding total-after-insert insert-outcome
 insert-total zero x m h t = refl
 insert-total (suc k) x m h t = rw (eqb·suc-zero k)
 
-mark-told : (k n : ℕ) → mark-accepted (mark-outcome k n) ≡ eqb k 0
+pub mark-told : (k n : ℕ) → mark-accepted (mark-outcome k n) ≡ eqb k 0
 unfolding mark-accepted mark-outcome
 mark-told zero n = refl
 mark-told (suc k) n = sym (eqb·suc-zero k)
@@ -98,12 +98,12 @@ either-way true t = refl
 either-way false t = refl
 
 -- ONE CALL over words: its reply tells whether it was accepted and, with t moved before, the total u; and what is written
-record Replied (w : ℕ) (c : Call) (st : Store) (accepted : Bool) (t u : ℕ) (ws us : List ℕ) : Type 0 where
-  right : accepted ≡ accepts w c st
-  total : u ≡ cond (accepts w c st) (moved-by c st t) t
-  words : us ≡ written (refusal w c st) (words-of (changed c st)) ws
+pub record Replied (w : ℕ) (c : Call) (st : Store) (accepted : Bool) (t u : ℕ) (ws us : List ℕ) : Type 0 where
+  pub right : accepted ≡ accepts w c st
+  pub total : u ≡ cond (accepts w c st) (moved-by c st t) t
+  pub words : us ≡ written (refusal w c st) (words-of (changed c st)) ws
 
-load-replied : (s r b : ℕ) (cs ws us : List ℕ) (q : LoadReply) (st : Store) (t : ℕ) → Happens (loads s r b cs q) ws us →
+pub load-replied : (s r b : ℕ) (cs ws us : List ℕ) (q : LoadReply) (st : Store) (t : ℕ) → Happens (loads s r b cs q) ws us →
     Replied (length ws) (load s r b cs) st (load-accepted q) t (total-after-load q t) ws us
 unfolding Happens accepts refusal changed moved-by load-reply load-words
 load-replied s r b cs ws us q st t h =
@@ -114,7 +114,7 @@ load-replied s r b cs ws us q st t h =
     }
 
 module _ (ws us : List ℕ) (st : Store) (h : Says ws st) where
-  insert-replied : (c y : ℕ) (q : InsertReply) (t : ℕ) → Happens (inserts c y q) ws us →
+  pub insert-replied : (c y : ℕ) (q : InsertReply) (t : ℕ) → Happens (inserts c y q) ws us →
       Replied (length ws) (insert c y) st (insert-accepted q) t (total-after-insert q t) ws us
   unfolding Happens accepts refusal changed moved-by insert-reply insert-words insert-refused
   insert-replied c y q t (reply, new) =
@@ -126,7 +126,7 @@ module _ (ws us : List ℕ) (st : Store) (h : Says ws st) where
         words = new ∙ rw (same, store);
       }
 
-  mark-replied : (x : ℕ) (q : MarkReply) (t : ℕ) → Happens (marks x q) ws us → Replied (length ws) (mark x) st (mark-accepted q) t t ws us
+  pub mark-replied : (x : ℕ) (q : MarkReply) (t : ℕ) → Happens (marks x q) ws us → Replied (length ws) (mark x) st (mark-accepted q) t t ws us
   unfolding Happens accepts refusal changed moved-by mark-reply mark-words
   mark-replied x q t (reply, new) =
       let same = refusal-said ws st h (section-refusal x) in
@@ -143,7 +143,7 @@ record Ran (w : ℕ) (st : Store) (t : ℕ) (ts : List Told) (u : ℕ) (end : Li
   says : Says end (after w (map (λ x. x .call) ts) st)
 
 -- the words after a call say the store after it, and are as many
-call-says : {c : Call} {st : Store} {q : Bool} {t v : ℕ} {ws us : List ℕ} → Says ws st → Replied (length ws) c st q t v ws us →
+pub call-says : {c : Call} {st : Store} {q : Bool} {t v : ℕ} {ws us : List ℕ} → Says ws st → Replied (length ws) c st q t v ws us →
     Says us (after-one (length ws) c st) × (length us ≡ length ws)
 unfolding after-one accepts Says
 call-says {c} {st} {ws} h one =
@@ -182,7 +182,7 @@ ran w (marks x q ∷ es) ws end st t l h (us, here, rest) =
     ran-on l h (mark-replied ws us st h x q t here) (λ m g. ran w es us end _ _ m g rest)
 ran w (holds x q ∷ es) ws end st t l h (us, here, rest) = ran w es ws end st t l h (rw (here .1) at rest)
 ran w (asks p d q ∷ es) ws end st t l h (us, here, rest) = ran w es ws end st t l h (rw (here .1) at rest)
-ran w (lists x ts ls q ∷ es) ws end st t l h (us, here, rest) = ran w es ws end st t l h (rw (here .1) at rest)
+ran w (lists x ts ls ts′ ls′ q ∷ es) ws end st t l h (us, here, rest) = ran w es ws end st t l h (rw (here .3) at rest)
 
 -- words that say a kept store hold what the reference list says
 words-kept : {ws : List ℕ} {st : Store} {a : Reference} {t : ℕ} → Says ws st → Kept st a t → Words-kept ws st a
@@ -200,7 +200,7 @@ words-kept {ws} {st} h k =
     }
 
 -- the words after an accepted load, whatever they held before
-load-says : (s r b n h : ℕ) (ks old ws : List ℕ) → Happens (loads s r b ks (Loaded n h)) old ws →
+pub load-says : (s r b n h : ℕ) (ks old ws : List ℕ) → Happens (loads s r b ks (Loaded n h)) old ws →
     (load-refusal (length old) s r ks ≡ 0) × Says ws (load-store s r b ks) × (length ws ≡ length old)
 unfolding Load-sound Happens load-reply load-words written
 load-says s r b n h ks old ws (reply, new) =

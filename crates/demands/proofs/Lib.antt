@@ -1,0 +1,4 @@
+pub mod Said
+pub mod EveryCall
+pub mod Differences
+pub mod Runs
