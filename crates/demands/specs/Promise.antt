@@ -2,9 +2,11 @@
 use mathlib.Core.Path.{_≡_}
 use mathlib.Core.Bool.{Bool, true, false}
 use mathlib.Core.List.{List, map}
-use Prim.Native.Nat.{ℕ}
+use mathlib.Core.Logic.{_↔_, _⊎_}
+use Prim.Native.Nat.{ℕ, _%_, _<_}
 use lib.ListN.{length}
 use Rattle.store_types.specs.declared.HeldPair.{HeldPair}
+use Rattle.store_types.specs.declared.Answer.the-variants.{Yes, No, Stale}
 use Rattle.store_types.specs.declared.LoadReply.the-variants.{Loaded}
 use Rattle.store_types.specs.declared.InsertReply.the-variants.{Inserted}
 use Rattle.store_types.specs.declared.MarkReply.the-variants.{Marked}
@@ -17,11 +19,11 @@ use Rattle.store_types.specs.declared.ListReply.the-variants as list-said
 use Rattle.calls.specs.Store.{Store}
 use Rattle.calls.specs.Sound.{sound}
 use Rattle.calls.specs.Listing.{listed-tags, listed-labels}
-use Rattle.calls.specs.Words.{words-of, Says, word-at}
-use Rattle.calls.specs.Replies.{said, load-reply, insert-reply, insert-words, mark-reply, mark-words, hold-reply, question-reply, list-reply, list-tags, list-labels, load-words}
+use Rattle.calls.specs.Words.{words-of, Says, word-at, field, label-field}
+use Rattle.calls.specs.Replies.{said, insert-reply, insert-words, mark-reply, mark-words, hold-reply, question-reply, list-reply, list-tags, list-labels}
 use Rattle.calls.specs.Calls.{Event, loads, inserts, marks, holds, asks, lists, Happens, Run, load-accepted, insert-accepted, mark-accepted, told}
 use Rattle.calls.specs.Reference.{Reference, total, reference-load, reference-after}
-use Rattle.demands.specs.Words.{Book-row, Fronted, labels-changed, became-marked}
+use Rattle.demands.specs.Words.{Book-row, Stand, is-marked, unmarked-of, Inside, Fronted, labels-changed, became-marked}
 
 -- DEMAND 1, of any words and each of the six calls. Whether a call was accepted, and whether it is one that changes the store
 unfoldable pub held : HoldReply → Bool
@@ -115,3 +117,60 @@ request (lists x ts ls us ms q) = list x ts ls
 
 unfoldable pub Runs-exist : Type 0
 Runs-exist = (ws : List ℕ) (qs : List Request) → (es : List Event) × (end : List ℕ) × (map request es ≡ qs) × Run ws es end
+
+-- DEMAND 2, of the entries' replies on any words. Words that say a store
+abbrev pub Says-some : List ℕ → Type 0
+Says-some ws = (st : Store) × Says ws st
+
+-- the pair's tag and d are tags, and the pair's is a begin, marked or not
+pub record Asked-words (p : HeldPair) (d : ℕ) (ws : List ℕ) : Type 0 where
+  pub tag : p .tag .0 < word-at ws 4
+  pub other : d < word-at ws 4
+  pub begin : field ws (p .tag .0) 5 % 16 ≡ 1
+
+-- a pair that still speaks of its section: its book number and labels are the words', and the section is not marked
+pub record Current-words (p : HeldPair) (ws : List ℕ) : Type 0 where
+  pub book : p .book ≡ word-at ws 6
+  pub start : p .start .0 ≡ label-field ws (p .tag .0)
+  pub end : p .end .0 ≡ label-field ws (field ws (p .tag .0) 3)
+  pub unmarked : is-marked ws (p .tag .0) ≡ false
+
+-- yes: along next stand the begin, later d, later the begin's mate. Yes, no and stale, each if and only if
+unfoldable pub Enclosed : HeldPair → (d : ℕ) → (words : List ℕ) → Type 0
+Enclosed p d ws = Stand ws (p .tag .0) d (field ws (p .tag .0) 3)
+
+pub record Reply-right (p : HeldPair) (d : ℕ) (ws : List ℕ) : Type 0 where
+  pub if-yes :
+      (question-reply p d ws ≡ question-said.Answered Yes)
+      ↔ (Says-some ws × Asked-words p d ws × Current-words p ws × (is-marked ws d ≡ false) × Enclosed p d ws)
+  pub if-no :
+      (question-reply p d ws ≡ question-said.Answered No)
+      ↔ (Says-some ws × Asked-words p d ws × Current-words p ws × (is-marked ws d ≡ false) × (Enclosed p d ws → ⊥))
+  pub if-stale :
+      (question-reply p d ws ≡ question-said.Answered Stale)
+      ↔ (Says-some ws × ((p .book ≡ word-at ws 6 → ⊥) ⊎ ((p .book ≡ word-at ws 6) × Asked-words p d ws × (Current-words p ws → ⊥))))
+
+unfoldable pub Question-right : Type 0
+Question-right = (p : HeldPair) (d : ℕ) (ws : List ℕ) → Reply-right p d ws
+
+-- HOLD: the book number, the tag, and the label words of the tag and its mate
+pub record Held-words (p : HeldPair) (x : ℕ) (ws : List ℕ) : Type 0 where
+  pub book : p .book ≡ word-at ws 6
+  pub tag : p .tag .0 ≡ x
+  pub start : p .start .0 ≡ label-field ws x
+  pub end : p .end .0 ≡ label-field ws (field ws x 3)
+
+unfoldable pub Hold-right : Type 0
+Hold-right = (x : ℕ) (p : HeldPair) (ws : List ℕ) → hold-reply x ws ≡ hold-said.Held p → Held-words p x ws
+
+-- LIST: in front of the two lists stand exactly the unmarked tags that next meets inside the section, in order, and their
+-- label words
+pub record Listed-words (x n : ℕ) (ws ts ls : List ℕ) : Type 0 where
+  pub inside : List ℕ
+  pub met : Inside ws x inside
+  pub counted : n ≡ length (unmarked-of ws inside)
+  pub tags : Fronted (unmarked-of ws inside) ts (list-tags x ws ts ls)
+  pub labels : Fronted (map (label-field ws) (unmarked-of ws inside)) ls (list-labels x ws ts ls)
+
+unfoldable pub List-right : Type 0
+List-right = (x n : ℕ) (ws ts ls : List ℕ) → list-reply x ws ts ls ≡ list-said.Listed n → Listed-words x n ws ts ls
