@@ -42,7 +42,7 @@ total-last g x (suc n) =
     rw same (omega (arith, total-last g (suc x) n))
 
 -- numbers of tags added up from 0 on are a count
-count-total : (g : ℕ → ℕ) (p : ℕ → Bool) (n : ℕ) → ((x : ℕ) → x < n → g x ≡ cond (p x) 1 0) → total g (numbers 0 n) ≡ count-below n p
+pub count-total : (g : ℕ → ℕ) (p : ℕ → Bool) (n : ℕ) → ((x : ℕ) → x < n → g x ≡ cond (p x) 1 0) → total g (numbers 0 n) ≡ count-below n p
 unfolding count-below numbers
 count-total g p zero each = refl
 count-total g p (suc n) each =

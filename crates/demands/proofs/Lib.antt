@@ -5,3 +5,8 @@ pub mod Runs
 pub mod Places
 pub mod Asked
 pub mod Listed
+pub mod Quotients
+pub mod Ancestors
+pub mod Digits
+pub mod Stacks
+pub mod SoundWords

@@ -3,8 +3,9 @@ use mathlib.Core.Path.{_≡_}
 use mathlib.Core.Bool.{Bool, true, false}
 use mathlib.Core.List.{List, map}
 use mathlib.Core.Logic.{_↔_, _⊎_}
-use Prim.Native.Nat.{ℕ, _%_, _<_}
+use Prim.Native.Nat.{ℕ, _%_, _≤_, _<_}
 use lib.ListN.{length}
+use Rattle.store_types.specs.Limits.{header-words}
 use Rattle.store_types.specs.declared.HeldPair.{HeldPair}
 use Rattle.store_types.specs.declared.Answer.the-variants.{Yes, No, Stale}
 use Rattle.store_types.specs.declared.LoadReply.the-variants.{Loaded}
@@ -20,9 +21,10 @@ use Rattle.calls.specs.Store.{Store}
 use Rattle.calls.specs.Sound.{sound}
 use Rattle.calls.specs.Listing.{listed-tags, listed-labels}
 use Rattle.calls.specs.Words.{words-of, Says, word-at, field, label-field}
-use Rattle.calls.specs.Replies.{said, insert-reply, insert-words, mark-reply, mark-words, hold-reply, question-reply, list-reply, list-tags, list-labels}
+use Rattle.calls.specs.Replies.{said, refusal-over, insert-reply, insert-words, mark-reply, mark-words, hold-reply, question-reply, list-reply, list-tags, list-labels}
 use Rattle.calls.specs.Calls.{Event, loads, inserts, marks, holds, asks, lists, Happens, Run, load-accepted, insert-accepted, mark-accepted, told}
 use Rattle.calls.specs.Reference.{Reference, total, reference-load, reference-after}
+use Rattle.demands.specs.Sound.{Sound-words}
 use Rattle.demands.specs.Words.{Book-row, Stand, is-marked, unmarked-of, Inside, Fronted, labels-changed, became-marked}
 
 -- DEMAND 1, of any words and each of the six calls. Whether a call was accepted, and whether it is one that changes the store
@@ -174,3 +176,14 @@ pub record Listed-words (x n : ℕ) (ws ts ls : List ℕ) : Type 0 where
 
 unfoldable pub List-right : Type 0
 List-right = (x n : ℕ) (ws ts ls : List ℕ) → list-reply x ws ts ls ≡ list-said.Listed n → Listed-words x n ws ts ls
+
+-- SOUNDNESS as document 01 writes it is that of a store: words are sound if and only if they say one. So 2 is refused
+-- exactly where document 01's sentences fail.
+unfoldable pub Sound-says : Type 0
+Sound-says = (ws : List ℕ) → Sound-words ws ↔ Says-some ws
+
+-- by every call that is not a load, whatever it refuses besides
+unfoldable pub Unsound-two : Type 0
+Unsound-two =
+    (ws : List ℕ) (refusal : Store → ℕ) → header-words ≤ length ws → ((st : Store) → refusal st ≡ 2 → ⊥) →
+    (refusal-over ws refusal ≡ 2) ↔ (Sound-words ws → ⊥)
