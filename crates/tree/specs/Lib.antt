@@ -1,5 +1,6 @@
 pub mod Row
 pub mod Forest
+pub mod Good
 pub mod Book
 pub mod Spelling
 pub mod Reach

@@ -16,3 +16,4 @@ pub mod Reach
 pub mod Second
 pub mod Account
 pub mod Both
+pub mod Made
