@@ -9,6 +9,7 @@ use Rattle.tree.specs.Row.{numbers, member, place, insert-at, all-below}
 use Rattle.tree.specs.Forest.{leaves, size, trees, spread}
 use Rattle.tree.specs.Good.{Complete}
 use Rattle.tree.specs.Book.{Book, height, tags, labels-in-order, label-of, base, loaded, inserted, split-of, moved, book-within}
+use Rattle.tree.specs.Families.{families-of, Joins}
 use Rattle.tree.specs.Reach.{left-of, border, split-book, reach-bound}
 
 -- widths that a tree of s and r may be numbered by; the powers of b are one choice
@@ -96,3 +97,9 @@ Load-tags = (s r n : ℕ) → 2 ≤ r → tags (loaded s r n) ≡ numbers 0 n
 
 unfoldable pub Insertion-tags : Type 0
 Insertion-tags = (p x : ℕ) (k : Book) → Sane k → p ≤ size (k .root) → tags (inserted p x k) ≡ insert-at p (x ∷ []) (tags k)
+
+-- and where no node is split, the new leaf has the parent of the tag at its place: at the front the first tag's, in an empty
+-- book the root
+unfoldable pub Insertion-family : Type 0
+Insertion-family =
+    (p x : ℕ) (k : Book) → Sane k → p ≤ size (k .root) → split-of p k ≡ 0 → Joins p x (families-of k) (families-of (inserted p x k))

@@ -17,3 +17,4 @@ pub mod Second
 pub mod Account
 pub mod Both
 pub mod Made
+pub mod Families
