@@ -10,3 +10,4 @@ pub mod Ancestors
 pub mod Digits
 pub mod Stacks
 pub mod SoundWords
+pub mod Specimens
