@@ -20,7 +20,7 @@ use Rattle.calls.specs.Store.{Store}
 use Rattle.calls.specs.Load.{load-refusal, load-store}
 use Rattle.calls.specs.Insert.{insert-kinds, insert-refusal, insert-store, insert-moved}
 use Rattle.calls.specs.Mark.{section-refusal, mark-store}
-use Rattle.calls.specs.Replies.{load-reply, load-words, insert-reply, insert-words, mark-reply, mark-words, hold-reply, question-reply, list-reply}
+use Rattle.calls.specs.Replies.{load-reply, load-words, insert-reply, insert-words, mark-reply, mark-words, hold-reply, question-reply, list-reply, list-tags, list-labels}
 
 -- the calls that may change a store; their arguments are words
 pub data Call : Type 0 where
@@ -49,7 +49,8 @@ unfoldable pub after : (w : ℕ) → List Call → Store → Store
 after w [] st = st
 after w (c ∷ cs) st = after w cs (after-one w c st)
 
--- book numbers are words (u32 in the calls themselves)
+-- whether the book numbers of loads, accepted or not, are words (u32 in the entries themselves); no statement but one on
+-- the store's own number asks for it
 unfoldable pub Fits : Call → Type 0
 Fits (load s r b cs) = b < word-limit
 Fits (insert c y) = Unit {0}
@@ -59,23 +60,25 @@ unfoldable pub All-fit : List Call → Type 0
 All-fit [] = Unit {0}
 All-fit (c ∷ cs) = Fits c × All-fit cs
 
--- ON WORDS: a call with its reply. Hold, question and list may come in between; they write no word of the store
+-- ON WORDS: a call with its reply; of a list also what the two lent lists held before it and hold now. Hold, question and
+-- list may come in between; they write no word of the store
 pub data Event : Type 0 where
   loads : (s r number : ℕ) → (kinds : List ℕ) → LoadReply → Event
   inserts : (kind place : ℕ) → InsertReply → Event
   marks : (section : ℕ) → MarkReply → Event
   holds : (section : ℕ) → HoldReply → Event
   asks : HeldPair → (d : ℕ) → QuestionReply → Event
-  lists : (section : ℕ) → (tags labels : List ℕ) → ListReply → Event
+  lists : (section : ℕ) → (tags labels tags-now labels-now : List ℕ) → ListReply → Event
 
 -- the entries' contracts: what the reply is, and what the words then hold
 unfoldable pub Happens : Event → (before after : List ℕ) → Type 0
-Happens (loads s r b cs q) ws vs = (q ≡ load-reply s r b cs ws) × (vs ≡ load-words s r b cs ws) × (b < word-limit)
+Happens (loads s r b cs q) ws vs = (q ≡ load-reply s r b cs ws) × (vs ≡ load-words s r b cs ws)
 Happens (inserts c y q) ws vs = (q ≡ insert-reply c y ws) × (vs ≡ insert-words c y ws)
 Happens (marks x q) ws vs = (q ≡ mark-reply x ws) × (vs ≡ mark-words x ws)
 Happens (holds x q) ws vs = (q ≡ hold-reply x ws) × (vs ≡ ws)
 Happens (asks p d q) ws vs = (q ≡ question-reply p d ws) × (vs ≡ ws)
-Happens (lists x ts ls q) ws vs = (q ≡ list-reply x ws ts ls) × (vs ≡ ws)
+Happens (lists x ts ls us ms q) ws vs =
+    (q ≡ list-reply x ws ts ls) × (us ≡ list-tags x ws ts ls) × (ms ≡ list-labels x ws ts ls) × (vs ≡ ws)
 
 -- events one after the other, from words to words
 unfoldable pub Run : (before : List ℕ) → List Event → (after : List ℕ) → Type 0
@@ -107,7 +110,7 @@ told (inserts c y q ∷ es) = record { call = insert c y; accepted = insert-acce
 told (marks x q ∷ es) = record { call = mark x; accepted = mark-accepted q } ∷ told es
 told (holds x q ∷ es) = told es
 told (asks p d q ∷ es) = told es
-told (lists x ts ls q ∷ es) = told es
+told (lists x ts ls us ms q ∷ es) = told es
 
 unfoldable pub calls-of : List Event → List Call
 calls-of es = map (λ t. t .call) (told es)
@@ -128,7 +131,7 @@ total-moved t (inserts c y q ∷ es) = total-moved (total-after-insert q t) es
 total-moved t (marks x q ∷ es) = total-moved t es
 total-moved t (holds x q ∷ es) = total-moved t es
 total-moved t (asks p d q ∷ es) = total-moved t es
-total-moved t (lists x ts ls q ∷ es) = total-moved t es
+total-moved t (lists x ts ls us ms q ∷ es) = total-moved t es
 
 -- the same by the definitions, from a store on
 unfoldable pub moved-by : Call → Store → (total : ℕ) → ℕ

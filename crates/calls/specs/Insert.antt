@@ -49,23 +49,35 @@ insert-split ks y st = split-of-row (length ks) (position y st) (count st) (st .
 unfoldable pub raised : (s r n height : ℕ) → ℕ
 raised s r n h = cond (eqb n (s * r ^ h)) (suc h) h
 
--- refusal 7 of a row of k tags into n: one of its single insertions meets n + 1 ≥ s times r^H and b^(H + 1) > 2^32.
--- (For k = 1 and 2 this is document 01's n + k ≥ s times r^H and b^(H + 1) > 2^32.)
+-- REFUSAL 7 of k tags into n: n + k ≥ s times r^H and b^(H + 1) > 2^32
+unfoldable pub labels-end : (s r k n height : ℕ) → Bool
+labels-end s r k n h = leb (s * r ^ h) (n + k) && ltb label-limit (power-width s r (suc h))
+
+-- of a row of any length, which goes in tag by tag: one of its single insertions meets it
+-- (for k = 1 and 2 the same, in a sound store: Rows-end in Promise)
 unfoldable pub labels-run-out : (s r k n height : ℕ) → Bool
 labels-run-out s r zero n h = false
 labels-run-out s r (suc k) n h =
     (leb (s * r ^ h) (suc n) && ltb label-limit (power-width s r (suc h))) || labels-run-out s r k (suc n) (raised s r (suc n) h)
 
--- 8, 9, 6, 7 of a row of kinds, 0 where accepted; w is how many words are lent
-unfoldable pub row-refusal : (w : ℕ) → (kinds : List Kind) → (place : ℕ) → Store → ℕ
-row-refusal w ks y st =
+-- 8, 9, 6, 7 of k tags, 0 where accepted; w is how many words are lent, and `end` is whether labels do not suffice
+unfoldable pub tags-refused : (w k place : ℕ) → (end : Bool) → Store → ℕ
+tags-refused w k y e st =
     let n = count st in
-    let k = length ks in
     cond (not (eqb y no-tag) && leb n y) 8
     (cond (not (eqb y no-tag) && fact st y .marked) 9
     (cond (ltb most-tags (n + k) || ltb w (words-for header-words (n + k))) 6
-    (cond (labels-run-out (st .book .s) (st .book .r) k n (height (st .book))) 7 0)))
+    (cond e 7 0)))
 
 -- 4, 8, 9, 6, 7 of the call (1 and 2 are the words')
 unfoldable pub insert-refusal : (w kind place : ℕ) → Store → ℕ
-insert-refusal w c y st = cond (not (eqb c 1 || eqb c 3)) 4 (row-refusal w (insert-kinds c) y st)
+insert-refusal w c y st =
+    let k = length (insert-kinds c) in
+    cond (not (eqb c 1 || eqb c 3)) 4
+    (tags-refused w k y (labels-end (st .book .s) (st .book .r) k (count st) (height (st .book))) st)
+
+-- 8, 9, 6, 7 of a row of kinds of any length
+unfoldable pub row-refusal : (w : ℕ) → (kinds : List Kind) → (place : ℕ) → Store → ℕ
+row-refusal w ks y st =
+    let k = length ks in
+    tags-refused w k y (labels-run-out (st .book .s) (st .book .r) k (count st) (height (st .book))) st

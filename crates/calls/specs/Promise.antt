@@ -8,21 +8,21 @@ use mathlib.Core.Logic.{_↔_, _⊎_}
 use Prim.Native.Nat.{ℕ, _*_, _-_, _^_, _≤_, _<_}
 use lib.Dec.{ltb}
 use lib.ListN.{length}
-use Rattle.store_types.specs.Limits.{word-limit}
+use Rattle.store_types.specs.Limits.{word-limit, most-levels}
 use Rattle.store_types.specs.declared.HeldPair.{HeldPair}
 use Rattle.store_types.specs.declared.Answer.the-variants.{Yes, No, Stale}
 use Rattle.store_types.specs.declared.LoadReply.the-variants.{Loaded}
 use Rattle.store_types.specs.declared.QuestionReply.the-variants.{Answered}
 use Rattle.store_types.specs.Layout.{at-s, at-r, at-height, at-count, at-first, word-at, label-at}
 use Rattle.tree.specs.Row.{rises}
-use Rattle.tree.specs.Book.{height, labels-of, book-within}
+use Rattle.tree.specs.Book.{height, labels-of}
 use Rattle.tree.specs.Reach.{account-bound}
 use Rattle.calls.specs.Kind.{Kind, is-begin}
 use Rattle.calls.specs.Store.{Store, fact, count, row, place-of, width, label}
 use Rattle.calls.specs.Nesting.{nests}
-use Rattle.calls.specs.Sound.{sound}
+use Rattle.calls.specs.Sound.{tree-sound, sound}
 use Rattle.calls.specs.Load.{load-refusal, load-store}
-use Rattle.calls.specs.Insert.{row-refusal, insert-store}
+use Rattle.calls.specs.Insert.{labels-end, labels-run-out, row-refusal, insert-store}
 use Rattle.calls.specs.Mark.{section-refusal, mark-store}
 use Rattle.calls.specs.Held.{question}
 use Rattle.calls.specs.Words.{words-of, Says, follow, read}
@@ -31,7 +31,7 @@ use Rattle.calls.specs.Reference.{Reference, total, reference-load, refe
 
 -- ONE STEP, on any sound store: an accepted load, an accepted insertion of any row of kinds that nests, an accepted mark
 unfoldable pub Load-sound : Type 0
-Load-sound = (w s r b : ℕ) (cs : List ℕ) → load-refusal w s r cs ≡ 0 → b < word-limit → sound (load-store s r b cs) ≡ true
+Load-sound = (w s r b : ℕ) (cs : List ℕ) → load-refusal w s r cs ≡ 0 → sound (load-store s r b cs) ≡ true
 
 unfoldable pub Insert-sound : Type 0
 Insert-sound =
@@ -41,18 +41,29 @@ Insert-sound =
 unfoldable pub Mark-sound : Type 0
 Mark-sound = (x : ℕ) (st : Store) → sound st ≡ true → section-refusal x st ≡ 0 → sound (mark-store x st) ≡ true
 
--- EVERY LIST OF CALLS behind an accepted load
-pub record Behind-load (w s r b : ℕ) (ks : List ℕ) (cs : List Call) : Type 0 where
-  pub accepted : load-refusal w s r ks ≡ 0
-  pub fit : All-fit (load s r b ks ∷ cs)
+-- REFUSAL 7 of a row of one or two tags, tag by tag, is document 01's n + k ≥ s times r^H and b^(H + 1) > 2^32
+unfoldable pub Rows-end : Type 0
+Rows-end =
+    (st : Store) (k : ℕ) → sound st ≡ true → 1 ≤ k → k ≤ 2 →
+    labels-run-out (st .book .s) (st .book .r) k (count st) (height (st .book)) ≡ labels-end (st .book .s) (st .book .r) k (count st) (height (st .book))
 
+-- H is at most 17
+unfoldable pub Height-most : Type 0
+Height-most = (st : Store) → sound st ≡ true → height (st .book) ≤ most-levels
+
+-- EVERY LIST OF CALLS behind an accepted load. The tree keeps s and r in their ranges, b^H ≤ 2^32 and every node's limits
 unfoldable pub Stays-good : Type 0
 Stays-good =
-    (w s r b : ℕ) (ks : List ℕ) (cs : List Call) → Behind-load w s r b ks cs → book-within (after w cs (load-store s r b ks) .book) ≡ true
+    (w s r b : ℕ) (ks : List ℕ) (cs : List Call) → load-refusal w s r ks ≡ 0 → tree-sound (after w cs (load-store s r b ks)) ≡ true
 
 unfoldable pub Stores-sound : Type 0
 Stores-sound =
-    (w s r b : ℕ) (ks : List ℕ) (cs : List Call) → Behind-load w s r b ks cs → sound (after w cs (load-store s r b ks)) ≡ true
+    (w s r b : ℕ) (ks : List ℕ) (cs : List Call) → load-refusal w s r ks ≡ 0 → sound (after w cs (load-store s r b ks)) ≡ true
+
+-- and where every load's book number is a word, so is the store's (which document 03 has in its soundness)
+unfoldable pub Numbers-fit : Type 0
+Numbers-fit =
+    (w s r b : ℕ) (ks : List ℕ) (cs : List Call) → All-fit (load s r b ks ∷ cs) → after w cs (load-store s r b ks) .number < word-limit
 
 -- LABELS TELL: in a sound store comparing labels is comparing places
 unfoldable pub Labels-tell : Type 0
@@ -115,7 +126,7 @@ pub record Kept (st : Store) (a : Reference) (t : ℕ) : Type 0 where
 
 unfoldable pub Lists-keep : Type 0
 Lists-keep =
-    (w s r b : ℕ) (ks : List ℕ) (cs : List Call) → Behind-load w s r b ks cs →
+    (w s r b : ℕ) (ks : List ℕ) (cs : List Call) → load-refusal w s r ks ≡ 0 →
     Kept (after w cs (load-store s r b ks)) (reference-after (judged w cs (load-store s r b ks)) (reference-load s r (length ks)))
     (moved-after w cs (load-store s r b ks) 0)
 

@@ -1,9 +1,9 @@
 -- Sound stores (document 01, "Sound means"). Assumes nothing: these are definitions.
 use mathlib.Core.Bool.{Bool, _&&_}
 use Prim.Native.Nat.{ℕ, _+_}
-use lib.Dec.{ltb, leb, eqb}
+use lib.Dec.{leb, eqb}
 use lib.ListN.{length}
-use Rattle.store_types.specs.Limits.{no-tag, label-limit, word-limit, most-tags}
+use Rattle.store_types.specs.Limits.{no-tag, label-limit, most-tags}
 use Rattle.tree.specs.Row.{all-below}
 use Rattle.tree.specs.Book.{height, book-within}
 use Rattle.calls.specs.Store.{Store, count, row, width, marked-count}
@@ -21,9 +21,9 @@ tree-sound st = degrees-fit (st .book .s) (st .book .r) && (leb (width st (heigh
 unfoldable pub row-sound : Store → Bool
 row-sound st = leb (count st) most-tags && (eqb (length (row st)) (count st) && all-below (count st) (row st))
 
--- the book number is a word; stamp at most n plus the marked tags
-unfoldable pub header-sound : Store → Bool
-header-sound st = ltb (st .number) word-limit && leb (st .stamp) (count st + marked-count (st .facts))
+-- stamp at most n plus the marked tags (the book number is the caller's, any word: nothing is asked of it)
+unfoldable pub stamp-sound : Store → Bool
+stamp-sound st = leb (st .stamp) (count st + marked-count (st .facts))
 
 unfoldable pub sound : Store → Bool
-sound st = (tree-sound st && row-sound st) && (nested (st .facts) no-tag (row st) && header-sound st)
+sound st = (tree-sound st && row-sound st) && (nested (st .facts) no-tag (row st) && stamp-sound st)

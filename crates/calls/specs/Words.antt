@@ -7,14 +7,14 @@ use mathlib.Core.Option.{Option, none, some}
 use Prim.Native.Nat.{ℕ, zero, suc, pred, _+_, _*_, _-_}
 use lib.Dec.{leb, eqb}
 use lib.ListN.{length, getD, drop}
-use Rattle.store_types.specs.Limits.{no-tag}
-use Rattle.store_types.specs.Layout.{at-s, at-r, at-height, at-count, at-first, at-book, at-stamp, at-next, at-mate, at-up, at-kind, word-at, field, label-at}
+use Rattle.store_types.specs.Limits.{no-tag, most-levels, most-tags}
+use Rattle.store_types.specs.Layout.{at-s, at-r, at-height, at-count, at-first, at-book, at-stamp, header-words, at-next, at-mate, at-up, at-kind, word-at, words-for, field, label-at}
 use Rattle.lists.specs.Lists.{numbers}
 use Rattle.tree.specs.Book.{Book, height, power-width}
 use Rattle.tree.specs.Spelling.{spelled}
 use Rattle.calls.specs.Kind.{kind-of, kind-word}
 use Rattle.calls.specs.Store.{Store, Fact, fact, count, row, label, next-in, prior-in}
-use Rattle.calls.specs.Sound.{sound}
+use Rattle.calls.specs.Sound.{degrees-fit, sound}
 
 -- THE WORDS OF A STORE. The header: the value 1; s; r; height H; tags issued n; first tag or no tag; book number; stamp
 unfoldable pub header : Store → List ℕ
@@ -67,9 +67,21 @@ starts-with [] ws = true
 starts-with (v ∷ vs) [] = false
 starts-with (v ∷ vs) (w ∷ ws) = eqb v w && starts-with vs ws
 
--- it is said where it is sound and these are its words; else none is
+-- the header's ranges and the room for n tags, which every sound store has; looked at first, so that no power, tag or
+-- record is computed of words that can say no store
+unfoldable pub header-in-range : List ℕ → Bool
+header-in-range ws =
+    let h = word-at ws at-height in
+    let n = word-at ws at-count in
+    (degrees-fit (word-at ws at-s) (word-at ws at-r) && (leb 1 h && leb h most-levels)) && (leb n most-tags && leb (words-for header-words n) (length ws))
+
+unfoldable pub read-in-range : (in-range : Bool) → List ℕ → Option Store
+read-in-range false ws = none
+read-in-range true ws = let st = read-store ws in cond (sound st && starts-with (words-of st) ws) (some st) none
+
+-- a store is said where it is sound and these are its words; else none is
 unfoldable pub read : List ℕ → Option Store
-read ws = let st = read-store ws in cond (sound st && starts-with (words-of st) ws) (some st) none
+read ws = read-in-range (header-in-range ws) ws
 
 -- new words over the front of old ones, of which the rest stay
 unfoldable pub in-front : (new old : List ℕ) → List ℕ

@@ -1,12 +1,12 @@
 -- An accepted insertion of a row of kinds that nests leaves a sound store. Assumes nothing.
 use mathlib.Core.Path.{_≡_, refl, ap, sym, _∙_}
-use mathlib.Core.Bool.{Bool, true, false, _&&_, _||_, not, cond, true≢false, or-true}
+use mathlib.Core.Bool.{Bool, true, false, _&&_, _||_, not, cond, true≢false, or-true, and-false}
 use mathlib.Core.List.{List, [], _∷_, _++_}
 use mathlib.Core.Logic.{_⊎_, inl, inr, ⊎-elim}
 use Prim.Native.Nat.{ℕ, zero, suc, _+_, _*_, _^_, _≤_, _<_}
-use native.Mathlib.Nat.{le-of-eq}
+use native.Mathlib.Nat.{le-of-eq, pow-suc, mul-assoc, mul-le-mul, mul-le-mul-left, one-le-pow}
 use native.Mathlib.Omega.{arith}
-use borrow.Author.Tests.{eq-eqb, ne-eqb, eqb-true, ltb-true, ltb-false, leb-false, le-leb}
+use borrow.Author.Tests.{eq-eqb, ne-eqb, eqb-true, lt-ltb, le-ltb, ltb-true, ltb-false, lt-leb, leb-true, leb-false, le-leb}
 use lib.Dec.{ltb, leb, eqb}
 use lib.ListN.{length, take, drop, length-append, List·getD-append}
 use lib.Seq.{take-suc}
@@ -23,9 +23,9 @@ use Rattle.tree_laws.proofs.Insertion.{inserted-s, inserted-r, inserted-under, 
 use Rattle.calls.specs.Kind.{Kind, is-begin}
 use Rattle.calls.specs.Store.{Store, Fact, no-fact, fact, count, row, place-of, marked-count}
 use Rattle.calls.specs.Nesting.{nests, new-facts}
-use Rattle.calls.specs.Insert.{position, up-at, book-after, insert-store, raised, labels-run-out, row-refusal}
-use Rattle.calls.specs.Promise.{Insert-sound}
-use Rattle.calls_laws.proofs.Tests.{passes, Sound, sane, facts-of, sound-of}
+use Rattle.calls.specs.Insert.{position, up-at, book-after, insert-store, raised, labels-end, labels-run-out, tags-refused, row-refusal}
+use Rattle.calls.specs.Promise.{Insert-sound, Rows-end}
+use Rattle.calls_laws.proofs.Tests.{passes, Sound, sane, root-limits, facts-of, sound-of}
 use Rattle.calls_laws.proofs.Nesting.{Step, begins, ends, stands, Pass, pass-join, pass-around, nested-of, chain-mark, Same, same-of, no-tag-fact, no-tag-same}
 use Rattle.calls_laws.proofs.NewFacts.{length-new-facts, pass-new}
 use Rattle.calls_laws.proofs.Sections.{row-below, in-row, is-tag, pass-row, At, pass-at}
@@ -68,6 +68,59 @@ labels-kept s r (suc n) p x k h es er l e fits =
     labels-kept s r n (suc p) (suc x) (inserted p x k) (sane-inserted p x k h l) (inserted-s p x k ∙ es) (inserted-r p x k ∙ er) (omega arith)
     (rw (sized, high) (or-right-false now later e)) (rw high (raised-fits s r m (height k) (or-left-false now later e) fits))
 
+-- REFUSAL 7: where n tags are below the root's limit L, labels of one or two tags more run out just where n + k comes to L
+-- and the next power of b is too large
+module _ (s r n h : ℕ) (s-least : 2 ≤ s) (r-least : 2 ≤ r) (below : n < s * r ^ h) where
+  run-none : (k : ℕ) → k ≤ 2 → n + k < s * r ^ h → labels-run-out s r k n h ≡ false
+  unfolding labels-run-out raised
+  run-none zero l m = refl
+  run-none (suc zero) l m = rw (lt-leb (s * r ^ h) (suc n) (omega arith))
+  run-none (suc (suc zero)) l m =
+      rw (lt-leb (s * r ^ h) (suc n) (omega arith), ne-eqb (suc n) (s * r ^ h) (λ e. omega arith), lt-leb (s * r ^ h) (suc (suc n)) (omega arith))
+  run-none (suc (suc (suc k))) l m = absurd (omega arith)
+
+  run-fits : (k : ℕ) → k ≤ 2 → power-width s r (suc h) ≤ label-limit → labels-run-out s r k n h ≡ false
+  unfolding labels-run-out raised
+  run-fits zero l m = refl
+  run-fits (suc zero) l m = simp (le-ltb label-limit (power-width s r (suc h)) m, and-false)
+  run-fits (suc (suc zero)) l m =
+      let first : (leb (s * r ^ h) (suc n) && ltb label-limit (power-width s r (suc h))) ≡ false =
+      simp (le-ltb label-limit (power-width s r (suc h)) m, and-false) in
+      rw first (by-test (eqb (suc n) (s * r ^ h))
+      (λ t. let full = eqb-true (suc n) (s * r ^ h) t in
+      let higher : s * r ^ suc h ≡ s * r ^ h * r = rw (pow-suc, mul-assoc) in
+      let more : s * r ^ h * 2 ≤ s * r ^ h * r = mul-le-mul-left (s * r ^ h) r-least in
+      let some : 2 * 1 ≤ s * r ^ h = mul-le-mul s-least (one-le-pow h r (omega arith)) in
+      rw (t, lt-leb (s * r ^ suc h) (suc (suc n)) (omega arith)))
+      (λ t. rw t (simp (le-ltb label-limit (power-width s r (suc h)) m, and-false))))
+  run-fits (suc (suc (suc k))) l m = absurd (omega arith)
+
+  run-over : (k : ℕ) → k ≤ 2 → s * r ^ h ≤ n + k → label-limit < power-width s r (suc h) → labels-run-out s r k n h ≡ true
+  unfolding labels-run-out raised
+  run-over zero l full m = absurd (omega arith)
+  run-over (suc zero) l full m = rw (le-leb (s * r ^ h) (suc n) (omega arith), lt-ltb label-limit (power-width s r (suc h)) m)
+  run-over (suc (suc zero)) l full m =
+      by-test (leb (s * r ^ h) (suc n))
+      (λ t. rw (t, lt-ltb label-limit (power-width s r (suc h)) m))
+      (λ t. let low = leb-false (s * r ^ h) (suc n) t in
+      rw (t, ne-eqb (suc n) (s * r ^ h) (λ e. omega arith), le-leb (s * r ^ h) (suc (suc n)) (omega arith), lt-ltb label-limit (power-width s r (suc h)) m))
+  run-over (suc (suc (suc k))) l full m = absurd (omega arith)
+
+  run-out-is-end : (k : ℕ) → k ≤ 2 → labels-run-out s r k n h ≡ labels-end s r k n h
+  unfolding labels-end
+  run-out-is-end k l =
+      by-test (leb (s * r ^ h) (n + k))
+      (λ t. rw t (by-test (ltb label-limit (power-width s r (suc h)))
+      (λ u. rw u (run-over k l (leb-true _ _ t) (ltb-true _ _ u)))
+      (λ u. rw u (run-fits k l (ltb-false _ _ u)))))
+      (λ t. rw t (run-none k l (leb-false _ _ t)))
+
+pub rows-end : Rows-end
+unfolding Rows-end
+rows-end st k e some l =
+    let h = facts-of st e in
+    run-out-is-end (st .book .s) (st .book .r) (count st) (height (st .book)) (h .degrees .s-least) (h .degrees .r-least) (root-limits h .0) k l
+
 -- WHAT AN ACCEPTED INSERTION is asked of: the front, or an unmarked tag
 pub record Row-accepted (w : ℕ) (ks : List Kind) (y : ℕ) (st : Store) : Type 0 where
   pub place : (y ≡ no-tag) ⊎ ((y < count st) × (fact st y .marked ≡ false))
@@ -76,7 +129,7 @@ pub record Row-accepted (w : ℕ) (ks : List Kind) (y : ℕ) (st : Store) : Type
   pub labels : labels-run-out (st .book .s) (st .book .r) (length ks) (count st) (height (st .book)) ≡ false
 
 pub accepted-row : (w : ℕ) (ks : List Kind) (y : ℕ) (st : Store) → row-refusal w ks y st ≡ 0 → Row-accepted w ks y st
-unfolding row-refusal
+unfolding row-refusal tags-refused
 accepted-row w ks y st r =
     let n = count st in
     let a = passes (not (eqb y no-tag) && leb n y) 7 _ r in
@@ -214,6 +267,5 @@ insert-sound w y ks st e n some r =
       as-many = omega arith;
       each = rw (counted, tags-are) (all-below-with (count st) k p (row st) (h .each));
       nesting = nested-of _ no-tag _ (rw tags-are (pass-with h ks p m g n (a .few)));
-      number-fits = h .number-fits;
       stamp-fits = omega (arith, h .stamp-fits, marked-append (st .facts) (new-facts m [] (count st) ks));
     })

@@ -3,6 +3,7 @@ pub mod Nesting
 pub mod NewFacts
 pub mod Sections
 pub mod Marks
+pub mod Heights
 pub mod Inserts
 pub mod Steps
 pub mod Pairs

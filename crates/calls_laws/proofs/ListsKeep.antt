@@ -3,12 +3,11 @@
 use mathlib.Core.Path.{sym, _≡_, refl, ap, _∙_}
 use mathlib.Core.Bool.{Bool, true, false, cond}
 use mathlib.Core.List.{List, [], _∷_}
-use Prim.Native.Nat.{ℕ, zero, suc, _+_, _-_, _≤_, _<_}
+use Prim.Native.Nat.{ℕ, zero, suc, _+_, _-_, _≤_}
 use native.Mathlib.Omega.{arith}
 use borrow.Author.Tests.{eqb-true}
 use lib.Dec.{eqb}
 use lib.ListN.{length}
-use Rattle.store_types.specs.Limits.{word-limit}
 use Rattle.lists.proofs.Tests.{by-test}
 use Rattle.tree.specs.Forest.{size}
 use Rattle.tree.specs.Book.{Book, height, base, power-width, loaded, root-full, inserted, inserted-row}
@@ -23,7 +22,7 @@ use Rattle.calls.specs.Sound.{sound}
 use Rattle.calls.specs.Load.{load-refusal, load-store}
 use Rattle.calls.specs.Insert.{insert-kinds, position, book-after, insert-store, insert-moved, raised, row-refusal}
 use Rattle.calls.specs.Mark.{mark-store}
-use Rattle.calls.specs.Calls.{Call, load, insert, mark, refusal, changed, accepts, after-one, after, Fits, All-fit, moved-by, moved-after, judged}
+use Rattle.calls.specs.Calls.{Call, load, insert, mark, refusal, changed, accepts, after-one, after, moved-by, moved-after, judged}
 use Rattle.calls.specs.Reference.{Reference, reference-load, reference-position, raised-by, reference-insert, reference-call, reference-told, reference-after}
 use Rattle.calls.specs.Promise.{Load-sound, Kept, Lists-keep}
 use Rattle.calls_laws.proofs.Tests.{facts-of}
@@ -85,13 +84,13 @@ kept-of {st} {a} {t} f =
     }
 
 -- LOAD: a store begins beside its reference list, whatever was before
-started : (w s r b : ℕ) (ks : List ℕ) → load-refusal w s r ks ≡ 0 → b < word-limit →
+started : (w s r b : ℕ) (ks : List ℕ) → load-refusal w s r ks ≡ 0 →
     Follows (load-store s r b ks) (reference-load s r (length ks)) 0
 unfolding Load-sound load-store reference-load loaded
-started w s r b ks e fit =
+started w s r b ks e =
     let degrees = accepted-load w s r ks e .degrees in
     record {
-      is-sound = load-sound w s r b ks e fit;
+      is-sound = load-sound w s r b ks e;
       tags = tags-loaded s r (length ks) (degrees .r-least);
       degree-s = refl;
       degree-r = refl;
@@ -120,12 +119,12 @@ module _ (w y : ℕ) (ks : List Kind) {st : Store} {a : Reference} {t : ℕ} (f 
 
 -- ONE CALL and every list of calls
 -- accepted
-follows-changed : (w : ℕ) (c : Call) {st : Store} {a : Reference} {t : ℕ} → Fits c → Follows st a t → refusal w c st ≡ 0 → sound (changed c st) ≡ true →
+follows-changed : (w : ℕ) (c : Call) {st : Store} {a : Reference} {t : ℕ} → Follows st a t → refusal w c st ≡ 0 → sound (changed c st) ≡ true →
     Follows (changed c st) (reference-call c a) (moved-by c st t)
-unfolding Fits refusal changed reference-call moved-by mark-store
-follows-changed w (load s r b ks) fit f e good = started w s r b ks e fit
-follows-changed w (insert c y) {st} fit f e good = inserted-beside w y (insert-kinds c) f (insert-passed w c y st e) good
-follows-changed w (mark x) fit f e good =
+unfolding refusal changed reference-call moved-by mark-store
+follows-changed w (load s r b ks) f e good = started w s r b ks e
+follows-changed w (insert c y) {st} f e good = inserted-beside w y (insert-kinds c) f (insert-passed w c y st (f .is-sound) e) good
+follows-changed w (mark x) f e good =
     record {
       is-sound = good;
       tags = f .tags;
@@ -136,21 +135,21 @@ follows-changed w (mark x) fit f e good =
     }
 
 -- accepted or refused
-follows-one : (w : ℕ) (c : Call) {st : Store} {a : Reference} {t : ℕ} → Fits c → Follows st a t →
+follows-one : (w : ℕ) (c : Call) {st : Store} {a : Reference} {t : ℕ} → Follows st a t →
     Follows (after-one w c st) (reference-told (record { call = c; accepted = accepts w c st }) a) (cond (accepts w c st) (moved-by c st t) t)
 unfolding after-one reference-told accepts
-follows-one w c {st} fit f =
+follows-one w c {st} f =
     by-test (eqb (refusal w c st) 0)
-    (λ e. let zero′ = eqb-true _ _ e in rw e (follows-changed w c fit f zero′ (changed-sound w c st fit (f .is-sound) zero′)))
+    (λ e. let zero′ = eqb-true _ _ e in rw e (follows-changed w c f zero′ (changed-sound w c st (f .is-sound) zero′)))
     (λ e. rw e f)
 
-follows-all : (w : ℕ) (cs : List Call) {st : Store} {a : Reference} {t : ℕ} → All-fit cs → Follows st a t →
+follows-all : (w : ℕ) (cs : List Call) {st : Store} {a : Reference} {t : ℕ} → Follows st a t →
     Follows (after w cs st) (reference-after (judged w cs st) a) (moved-after w cs st t)
-unfolding All-fit after reference-after judged moved-after
-follows-all w [] fit f = f
-follows-all w (c ∷ cs) fit f = follows-all w cs (fit .1) (follows-one w c (fit .0) f)
+unfolding after reference-after judged moved-after
+follows-all w [] f = f
+follows-all w (c ∷ cs) f = follows-all w cs (follows-one w c f)
 
 -- THE THIRD DEMAND, on stores
 pub lists-keep : Lists-keep
-unfolding Lists-keep All-fit Fits
-lists-keep w s r b ks cs h = kept-of (follows-all w cs (h .fit .1) (started w s r b ks (h .accepted) (h .fit .0)))
+unfolding Lists-keep
+lists-keep w s r b ks cs e = kept-of (follows-all w cs (started w s r b ks e))

@@ -158,6 +158,5 @@ mark-sound x st e r =
       as-many = h .as-many ∙ sym n;
       each = rw n (h .each);
       nesting = nested-of (mark-facts st x 0 (st .facts)) no-tag (row st) (pass-after h x c);
-      number-fits = h .number-fits;
       stamp-fits = omega (arith, h .stamp-fits, count-marked st x 0 (st .facts), some-marked st x 0 (st .facts) x (a .tag) (a .unmarked) own);
     })

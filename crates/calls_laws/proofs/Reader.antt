@@ -3,19 +3,20 @@
 use mathlib.Core.Path.{_≡_, refl, ap, sym, _∙_}
 use mathlib.Core.Bool.{Bool, true, false, _&&_, cond, true≢false}
 use mathlib.Core.List.{List, [], _∷_, _++_, map}
-use Prim.Native.Nat.{ℕ, zero, suc, _+_, _-_, _<_}
+use mathlib.Core.Option.{some}
+use Prim.Native.Nat.{ℕ, zero, suc, _+_, _-_, _≤_, _<_}
 use native.Mathlib.Nat.{zero-add, not-suc-le-zero, le-of-suc-le-suc}
 use native.Mathlib.Omega.{arith}
-use borrow.Author.Tests.{eq-eqb, eqb-true}
+use borrow.Author.Tests.{eq-eqb, eqb-true, le-leb}
 use lib.Dec.{leb, eqb}
-use lib.ListN.{length, getD, drop, length-map}
+use lib.ListN.{length, getD, drop, length-map, length-append}
 use lib.Seq.{drop-cons, drop-length, ext-getD}
 use Rattle.store_types.specs.Limits.{no-tag}
 use Rattle.lists.proofs.Tests.{and-left, and-right, and-both, by-test}
-use Rattle.store_types.specs.Layout.{label-at}
+use Rattle.store_types.specs.Layout.{header-words, words-for, label-at}
 use Rattle.lists.specs.Lists.{numbers}
 use Rattle.lists.proofs.Numbers.{length-numbers, getD-numbers}
-use Rattle.tree.specs.Book.{label-of, labels-of, root-within, book-within}
+use Rattle.tree.specs.Book.{height, label-of, labels-of, root-within, book-within}
 use Rattle.tree.specs.Forest.{within-limits}
 use Rattle.tree_laws.proofs.Good.{good-of}
 use Rattle.tree_laws.proofs.Rows.{Distinct, member-getD, place-getD, distinct-all-below}
@@ -24,10 +25,11 @@ use Rattle.tree_laws.proofs.Spelled.{spelled-good}
 use Rattle.calls.specs.Kind.{Kind, begin, end, text, code, kind-of, kind-word}
 use Rattle.calls.specs.Store.{Store, no-fact, fact, count, row, width, next-in}
 use Rattle.calls.specs.Sound.{sound}
-use Rattle.calls.specs.Words.{words-of, Says, follow, read-fact, read-book, read-store, starts-with, read}
-use Rattle.calls.specs.Promise.{Reader-right, Says-one, Reads-back}
-use Rattle.calls_laws.proofs.Tests.{Sound, facts-of}
-use Rattle.calls_laws.proofs.Fields.{tag-says, header-says}
+use Rattle.calls.specs.Words.{words-of, Says, follow, read-fact, read-book, read-store, starts-with, header-in-range, read-in-range, read}
+use Rattle.calls.specs.Promise.{Height-most, Reader-right, Says-one, Reads-back}
+use Rattle.calls_laws.proofs.Tests.{Sound, facts-of, degrees-test}
+use Rattle.calls_laws.proofs.Heights.{height-most}
+use Rattle.calls_laws.proofs.Fields.{length-words, tag-says, header-says}
 
 -- an element of a mapped list, whatever the element that is given past the end
 pub getD-map : {A B : Type 0} (f : A → B) (xs : List A) (i : ℕ) (d : A) (e : B) → i < length xs → getD (map f xs) i e ≡ f (getD xs i d)
@@ -135,26 +137,40 @@ rest-of (v ∷ vs) [] e = absurd (true≢false (sym e))
 rest-of (v ∷ vs) (w ∷ ws) e =
     rw (eqb-true v w (and-left (eqb v w) (starts-with vs ws) e)) (ap (λ l. w ∷ l) (rest-of vs ws (and-right (eqb v w) (starts-with vs ws) e)))
 
+-- THE HEADER of a sound store is in its ranges
+in-range : (st : Store) (rest : List ℕ) → sound st ≡ true → header-in-range (words-of st ++ rest) ≡ true
+unfolding header-in-range Height-most
+in-range st rest e =
+    let h = facts-of st e in
+    let head = header-says st rest in
+    let high = height-most st e in
+    let room : words-for header-words (count st) ≤ length (words-of st ++ rest) = omega (arith, length-words st, length-append (words-of st) rest) in
+    rw (head .degree-s, head .degree-r, head .levels, head .issued)
+    (and-both (and-both (degrees-test _ _ (h .degrees)) (and-both (le-leb 1 (height (st .book)) (omega arith)) (le-leb _ _ high)))
+    (and-both (le-leb _ _ (h .few)) (le-leb _ _ room)))
+
 -- a store's words are read as that store
 pub reads-back : Reads-back
-unfolding Reads-back read
-reads-back st rest e = rw (store-read st rest (facts-of st e), e, starts-front (words-of st) rest)
+unfolding Reads-back read read-in-range
+reads-back st rest e = rw (in-range st rest e, store-read st rest (facts-of st e), e, starts-front (words-of st) rest)
 
 -- words are read as a store if and only if they say it
 pub reader-right : Reader-right
-unfolding Reader-right Reads-back Says read
-reader-right ws st = (
-  λ e. by-test (sound (read-store ws) && starts-with (words-of (read-store ws)) ws)
-      (λ t. let same : read-store ws ≡ st = (let q = rw t at e in cc) in (
-        rw same at (and-left (sound (read-store ws)) (starts-with (words-of (read-store ws)) ws) t),
-        (
-          drop (length (words-of st)) ws,
-          rest-of (words-of st) ws (rw same at (and-right (sound (read-store ws)) (starts-with (words-of (read-store ws)) ws) t)),
-        ),
-      ))
-      (λ t. let q : _≡_ {A = ℕ} 0 1 = (let r = rw t at e in cc) in absurd (omega arith)),
-  λ h. rw (h .1 .1) (reads-back st (h .1 .0) (h .0)),
-)
+unfolding Reader-right Reads-back Says read read-in-range
+reader-right ws st = (λ e. go (header-in-range ws) e, λ h. rw (h .1 .1) (reads-back st (h .1 .0) (h .0)))
+  where
+    go : (b : Bool) → read-in-range b ws ≡ some st → Says ws st
+    go false e = let q : _≡_ {A = ℕ} 0 1 = cc in absurd (omega arith)
+    go true e =
+        by-test (sound (read-store ws) && starts-with (words-of (read-store ws)) ws)
+        (λ t. let same : read-store ws ≡ st = (let q = rw t at e in cc) in (
+          rw same at (and-left (sound (read-store ws)) (starts-with (words-of (read-store ws)) ws) t),
+          (
+            drop (length (words-of st)) ws,
+            rest-of (words-of st) ws (rw same at (and-right (sound (read-store ws)) (starts-with (words-of (read-store ws)) ws) t)),
+          ),
+        ))
+        (λ t. let q : _≡_ {A = ℕ} 0 1 = (let r = rw t at e in cc) in absurd (omega arith))
 
 -- and so they say at most one
 pub says-one : Says-one

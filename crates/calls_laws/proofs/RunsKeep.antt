@@ -22,7 +22,7 @@ use Rattle.calls.specs.Insert.{insert-kinds, position, book-after, insert-refus
 use Rattle.calls.specs.Mark.{section-refusal, mark-store}
 use Rattle.calls.specs.Words.{words-of, Says, in-front}
 use Rattle.calls.specs.Replies.{refusal-over, written, load-outcome, load-reply, load-words, insert-outcome, insert-refused, insert-reply, insert-words, mark-outcome, mark-reply, mark-words}
-use Rattle.calls.specs.Calls.{Call, load, insert, mark, refusal, changed, accepts, after-one, after, Fits, All-fit, Event, loads, inserts, marks, holds, asks, lists, Happens, Run, Told, load-accepted, insert-accepted, mark-accepted, told, calls-of, total-after-load, total-after-insert, total-moved, moved-by, moved-after, judged}
+use Rattle.calls.specs.Calls.{Call, load, insert, mark, refusal, changed, accepts, after-one, after, Event, loads, inserts, marks, holds, asks, lists, Happens, Run, Told, load-accepted, insert-accepted, mark-accepted, told, calls-of, total-after-load, total-after-insert, total-moved, moved-by, moved-after, judged}
 use Rattle.calls.specs.Reference.{Reference}
 use Rattle.calls.specs.Promise.{Load-sound, Kept, Lists-keep, Words-kept, Runs-keep}
 use Rattle.calls_laws.proofs.Tests.{sane, facts-of}
@@ -35,23 +35,23 @@ use Rattle.calls_laws.proofs.ListsKeep.{lists-keep}
 -- ROOM: the words of the store after an accepted call fit the lent words
 
 -- a sound store has words for as many tags as its tree has leaves
-length-sound : (st : Store) → sound st ≡ true → length (words-of st) ≡ words-for header-words (size (st .book .root))
+pub length-sound : (st : Store) → sound st ≡ true → length (words-of st) ≡ words-for header-words (size (st .book .root))
 length-sound st e = length-words st ∙ ap (words-for header-words) (sym (facts-of st e .as-many))
 
-load-fits : (w s r b : ℕ) (cs : List ℕ) → load-refusal w s r cs ≡ 0 → sound (load-store s r b cs) ≡ true → length (words-of (load-store s r b cs)) ≤ w
+pub load-fits : (w s r b : ℕ) (cs : List ℕ) → load-refusal w s r cs ≡ 0 → sound (load-store s r b cs) ≡ true → length (words-of (load-store s r b cs)) ≤ w
 unfolding load-store
 load-fits w s r b cs e good =
     let passed = accepted-load w s r cs e in
     rw (length-sound (load-store s r b cs) good, size-loaded s r (length cs) (passed .degrees .r-least)) (passed .room)
 
-changed-fits : (w : ℕ) (c : Call) (st : Store) → sound st ≡ true → words-for header-words (count st) ≤ w → refusal w c st ≡ 0 → sound (changed c st) ≡ true →
+pub changed-fits : (w : ℕ) (c : Call) (st : Store) → sound st ≡ true → words-for header-words (count st) ≤ w → refusal w c st ≡ 0 → sound (changed c st) ≡ true →
     length (words-of (changed c st)) ≤ w
 unfolding refusal changed insert-store book-after mark-store words-for
 changed-fits w (load s r b cs) st h room e good = load-fits w s r b cs e good
 changed-fits w (insert c y) st h room e good =
     let ks = insert-kinds c in
     let f = facts-of st h in
-    let accepted = insert-passed w c y st e in
+    let accepted = insert-passed w c y st h e in
     omega (
       arith,
       length-sound (insert-store ks y st) good,
@@ -63,7 +63,7 @@ changed-fits w (mark x) st h room e good = omega (arith, length-sound (mark-stor
 
 -- WHAT A REPLY TELLS, by its refusal: whether the call was accepted, and the total after it
 
-load-told : (k n h : ℕ) → load-accepted (load-outcome k n h) ≡ eqb k 0
+pub load-told : (k n h : ℕ) → load-accepted (load-outcome k n h) ≡ eqb k 0
 unfolding load-accepted load-outcome
 load-told zero n h = refl
 load-told (suc k) n h = sym (eqb·suc-zero k)
@@ -74,12 +74,12 @@ load-total zero n h t = refl
 load-total (suc k) n h t = rw (eqb·suc-zero k)
 
 -- a reply that says so is that of an accepted load
-load-zero : (k a c n h : ℕ) → Loaded n h ≡ load-outcome k a c → k ≡ 0
+pub load-zero : (k a c n h : ℕ) → Loaded n h ≡ load-outcome k a c → k ≡ 0
 unfolding load-outcome
 load-zero zero a c n h e = refl
 load-zero (suc k) a c n h e = let z : _≡_ {A = ℕ} 0 1 = cc in absurd (omega arith)
 
-insert-told : (k x m h : ℕ) → insert-accepted (insert-outcome k x m h) ≡ eqb k 0
+pub insert-told : (k x m h : ℕ) → insert-accepted (insert-outcome k x m h) ≡ eqb k 0
 unfolding insert-accepted insert-outcome
 insert-told zero x m h = refl
 insert-told (suc k) x m h = sym (eqb·suc-zero k)
@@ -89,7 +89,7 @@ unfolding total-after-insert insert-outcome
 insert-total zero x m h t = refl
 insert-total (suc k) x m h t = rw (eqb·suc-zero k)
 
-mark-told : (k n : ℕ) → mark-accepted (mark-outcome k n) ≡ eqb k 0
+pub mark-told : (k n : ℕ) → mark-accepted (mark-outcome k n) ≡ eqb k 0
 unfolding mark-accepted mark-outcome
 mark-told zero n = refl
 mark-told (suc k) n = sym (eqb·suc-zero k)
@@ -99,43 +99,39 @@ either-way true t = refl
 either-way false t = refl
 
 -- ONE CALL over words: its reply tells whether it was accepted and, with t moved before, the total u; and what is written
-record Replied (w : ℕ) (c : Call) (st : Store) (accepted : Bool) (t u : ℕ) (ws us : List ℕ) : Type 0 where
-  fit : Fits c
-  right : accepted ≡ accepts w c st
-  total : u ≡ cond (accepts w c st) (moved-by c st t) t
-  words : us ≡ written (refusal w c st) (words-of (changed c st)) ws
+pub record Replied (w : ℕ) (c : Call) (st : Store) (accepted : Bool) (t u : ℕ) (ws us : List ℕ) : Type 0 where
+  pub right : accepted ≡ accepts w c st
+  pub total : u ≡ cond (accepts w c st) (moved-by c st t) t
+  pub words : us ≡ written (refusal w c st) (words-of (changed c st)) ws
 
-load-replied : (s r b : ℕ) (cs ws us : List ℕ) (q : LoadReply) (st : Store) (t : ℕ) → Happens (loads s r b cs q) ws us →
+pub load-replied : (s r b : ℕ) (cs ws us : List ℕ) (q : LoadReply) (st : Store) (t : ℕ) → Happens (loads s r b cs q) ws us →
     Replied (length ws) (load s r b cs) st (load-accepted q) t (total-after-load q t) ws us
-unfolding Happens Fits accepts refusal changed moved-by load-reply load-words
+unfolding Happens accepts refusal changed moved-by load-reply load-words
 load-replied s r b cs ws us q st t h =
     record {
-      fit = h .2;
       right = ap load-accepted (h .0) ∙ load-told (load-refusal (length ws) s r cs) _ _;
       total = ap (λ p. total-after-load p t) (h .0) ∙ load-total (load-refusal (length ws) s r cs) _ _ t;
       words = h .1;
     }
 
 module _ (ws us : List ℕ) (st : Store) (h : Says ws st) where
-  insert-replied : (c y : ℕ) (q : InsertReply) (t : ℕ) → Happens (inserts c y q) ws us →
+  pub insert-replied : (c y : ℕ) (q : InsertReply) (t : ℕ) → Happens (inserts c y q) ws us →
       Replied (length ws) (insert c y) st (insert-accepted q) t (total-after-insert q t) ws us
-  unfolding Happens Fits accepts refusal changed moved-by insert-reply insert-words insert-refused
+  unfolding Happens accepts refusal changed moved-by insert-reply insert-words insert-refused
   insert-replied c y q t (reply, new) =
       let same = refusal-said ws st h (insert-refusal (length ws) c y) in
       let store = said-store ws st h in
       record {
-        fit = tt;
         right = ap insert-accepted reply ∙ (insert-told (insert-refused c y ws) _ _ _ ∙ ap (λ k. eqb k 0) same);
         total = ap (λ p. total-after-insert p t) reply ∙ (insert-total (insert-refused c y ws) _ _ _ t ∙ rw (same, store));
         words = new ∙ rw (same, store);
       }
 
-  mark-replied : (x : ℕ) (q : MarkReply) (t : ℕ) → Happens (marks x q) ws us → Replied (length ws) (mark x) st (mark-accepted q) t t ws us
-  unfolding Happens Fits accepts refusal changed moved-by mark-reply mark-words
+  pub mark-replied : (x : ℕ) (q : MarkReply) (t : ℕ) → Happens (marks x q) ws us → Replied (length ws) (mark x) st (mark-accepted q) t t ws us
+  unfolding Happens accepts refusal changed moved-by mark-reply mark-words
   mark-replied x q t (reply, new) =
       let same = refusal-said ws st h (section-refusal x) in
       record {
-        fit = tt;
         right = ap mark-accepted reply ∙ (mark-told (refusal-over ws (section-refusal x)) _ ∙ ap (λ k. eqb k 0) same);
         total = sym (either-way (eqb (section-refusal x st) 0) t);
         words = new ∙ rw (same, said-store ws st h);
@@ -145,16 +141,15 @@ module _ (ws us : List ℕ) (st : Store) (h : Says ws st) where
 record Ran (w : ℕ) (st : Store) (t : ℕ) (ts : List Told) (u : ℕ) (end : List ℕ) : Type 0 where
   refused-right : ts ≡ judged w (map (λ x. x .call) ts) st
   moved-right : u ≡ moved-after w (map (λ x. x .call) ts) st t
-  fit : All-fit (map (λ x. x .call) ts)
   says : Says end (after w (map (λ x. x .call) ts) st)
 
 -- the words after a call say the store after it, and are as many
-call-says : {c : Call} {st : Store} {q : Bool} {t v : ℕ} {ws us : List ℕ} → Says ws st → Replied (length ws) c st q t v ws us →
+pub call-says : {c : Call} {st : Store} {q : Bool} {t v : ℕ} {ws us : List ℕ} → Says ws st → Replied (length ws) c st q t v ws us →
     Says us (after-one (length ws) c st) × (length us ≡ length ws)
 unfolding after-one accepts Says
 call-says {c} {st} {ws} h one =
     let w = length ws in
-    let good = changed-sound w c st (one .fit) (h .0) in (
+    let good = changed-sound w c st (h .0) in (
       rw (one .words) (written-says ws st (changed c st) (refusal w c st) h good),
       rw (one .words)
           (length-written (refusal w c st) (words-of (changed c st)) ws (λ e. changed-fits w c st (h .0) (words-fit ws st h) e (good e))),
@@ -164,7 +159,7 @@ call-says {c} {st} {ws} h one =
 ran-on : {w : ℕ} {c : Call} {st : Store} {q : Bool} {t v u : ℕ} {ts : List Told} {ws us end : List ℕ} → length ws ≡ w → Says ws st →
     Replied (length ws) c st q t v ws us → (length us ≡ w → Says us (after-one w c st) → Ran w (after-one w c st) v ts u end) →
     Ran w st t (record { call = c; accepted = q } ∷ ts) u end
-unfolding judged moved-after All-fit after
+unfolding judged moved-after after
 ran-on {w} {c} {st} {ts} l h one onward =
     let next = call-says h one in
     let rest = onward (next .1 ∙ l) (rw l at (next .0)) in
@@ -172,15 +167,14 @@ ran-on {w} {c} {st} {ts} l h one onward =
     record {
       refused-right = rw told-right (ap (λ x. record { call = c; accepted = accepts w c st } ∷ x) (rest .refused-right));
       moved-right = rest .moved-right ∙ ap (moved-after w (map (λ x. x .call) ts) (after-one w c st)) (rw l at (one .total));
-      fit = (one .fit, rest .fit);
       says = rest .says;
     }
 
 -- every run
 ran : (w : ℕ) (es : List Event) (ws end : List ℕ) (st : Store) (t : ℕ) → length ws ≡ w → Says ws st → Run ws es end →
     Ran w st t (told es) (total-moved t es) end
-unfolding Happens Run told total-moved judged moved-after All-fit after
-ran w [] ws end st t l h same = record { refused-right = refl; moved-right = refl; fit = tt; says = rw same h }
+unfolding Happens Run told total-moved judged moved-after after
+ran w [] ws end st t l h same = record { refused-right = refl; moved-right = refl; says = rw same h }
 ran w (loads s r b cs q ∷ es) ws end st t l h (us, here, rest) =
     ran-on l h (load-replied s r b cs ws us q st t here) (λ m g. ran w es us end _ _ m g rest)
 ran w (inserts c y q ∷ es) ws end st t l h (us, here, rest) =
@@ -189,7 +183,7 @@ ran w (marks x q ∷ es) ws end st t l h (us, here, rest) =
     ran-on l h (mark-replied ws us st h x q t here) (λ m g. ran w es us end _ _ m g rest)
 ran w (holds x q ∷ es) ws end st t l h (us, here, rest) = ran w es ws end st t l h (rw (here .1) at rest)
 ran w (asks p d q ∷ es) ws end st t l h (us, here, rest) = ran w es ws end st t l h (rw (here .1) at rest)
-ran w (lists x ts ls q ∷ es) ws end st t l h (us, here, rest) = ran w es ws end st t l h (rw (here .1) at rest)
+ran w (lists x ts ls ts′ ls′ q ∷ es) ws end st t l h (us, here, rest) = ran w es ws end st t l h (rw (here .3) at rest)
 
 -- words that say a kept store hold what the reference list says
 words-kept : {ws : List ℕ} {st : Store} {a : Reference} {t : ℕ} → Says ws st → Kept st a t → Words-kept ws st a
@@ -207,13 +201,13 @@ words-kept {ws} {st} h k =
     }
 
 -- the words after an accepted load, whatever they held before
-load-says : (s r b n h : ℕ) (ks old ws : List ℕ) → Happens (loads s r b ks (Loaded n h)) old ws →
+pub load-says : (s r b n h : ℕ) (ks old ws : List ℕ) → Happens (loads s r b ks (Loaded n h)) old ws →
     (load-refusal (length old) s r ks ≡ 0) × Says ws (load-store s r b ks) × (length ws ≡ length old)
 unfolding Load-sound Happens load-reply load-words written
-load-says s r b n h ks old ws (reply, new, fit) =
+load-says s r b n h ks old ws (reply, new) =
     let accepted = load-zero (load-refusal (length old) s r ks) _ _ n h reply in
     let st = load-store s r b ks in
-    let good = load-sound (length old) s r b ks accepted fit in
+    let good = load-sound (length old) s r b ks accepted in
     let front : ws ≡ in-front (words-of st) old = new ∙ rw accepted in (
       accepted,
       rw front (says-in-front old st good),
@@ -222,10 +216,10 @@ load-says s r b n h ks old ws (reply, new, fit) =
 
 -- THE THIRD DEMAND, over words and replies
 pub runs-keep : Runs-keep
-unfolding Runs-keep Lists-keep Happens calls-of All-fit Fits
+unfolding Runs-keep Lists-keep Happens calls-of
 runs-keep s r b n h ks old ws end es first run =
     let (accepted, says, many) = load-says s r b n h ks old ws first in
     let done = ran (length old) es ws end (load-store s r b ks) 0 many says run in
-    let keeps = lists-keep (length old) s r b ks (calls-of es) (record { accepted = accepted; fit = (first .2, done .fit) }) in
+    let keeps = lists-keep (length old) s r b ks (calls-of es) accepted in
     let kept = rw (← done .refused-right, ← done .moved-right) at keeps in
     record { refused-right = done .refused-right; words = words-kept (done .says) kept; kept = kept }

@@ -1,14 +1,14 @@
 -- An accepted load leaves a sound store, and so does every list of calls behind it. Assumes nothing.
 use mathlib.Core.Path.{_≡_, refl, ap, sym, _∙_}
-use mathlib.Core.Bool.{Bool, true, false, _||_, not, cond}
+use mathlib.Core.Bool.{Bool, true, false, _&&_, _||_, not, cond}
 use mathlib.Core.List.{List, [], _∷_, map}
-use Prim.Native.Nat.{ℕ, suc, _≤_}
+use Prim.Native.Nat.{ℕ, suc, _≤_, _<_}
 use native.Mathlib.Omega.{arith}
 use borrow.Author.Tests.{ltb-false, not-false, eqb-true}
 use lib.Dec.{ltb, eqb}
 use lib.ListN.{length, length-map}
-use Rattle.store_types.specs.Limits.{no-tag, label-limit, most-tags}
-use Rattle.lists.proofs.Tests.{by-test}
+use Rattle.store_types.specs.Limits.{no-tag, label-limit, word-limit, most-tags}
+use Rattle.lists.proofs.Tests.{by-test, and-left}
 use Rattle.store_types.specs.Layout.{header-words, words-for}
 use Rattle.tree.specs.Book.{loaded, load-under, power-width}
 use Rattle.tree_laws.proofs.Rows.{all-below-numbers}
@@ -16,16 +16,17 @@ use Rattle.tree_laws.proofs.Load.{tags-loaded, size-loaded, sane-loaded}
 use Rattle.calls.specs.Kind.{begin, end, text, kind-of}
 use Rattle.calls.specs.Store.{Store, Fact, fact-in}
 use Rattle.calls.specs.Nesting.{nests, new-facts}
-use Rattle.calls.specs.Sound.{degrees-fit, sound}
+use Rattle.calls.specs.Sound.{degrees-fit, tree-sound, row-sound, sound}
 use Rattle.calls.specs.Load.{all-kinds, load-refusal, load-store}
-use Rattle.calls.specs.Insert.{insert-kinds, insert-refusal, row-refusal}
+use Rattle.calls.specs.Insert.{insert-kinds, insert-store, insert-refusal, row-refusal}
+use Rattle.calls.specs.Mark.{mark-store}
 use Rattle.calls.specs.Calls.{Call, load, insert, mark, refusal, changed, accepts, after-one, after, Fits, All-fit}
-use Rattle.calls.specs.Promise.{Load-sound, Insert-sound, Mark-sound, Stays-good, Stores-sound}
-use Rattle.calls_laws.proofs.Tests.{passes, Degrees, degrees-of, facts-of, sound-of}
+use Rattle.calls.specs.Promise.{Load-sound, Insert-sound, Mark-sound, Rows-end, Stays-good, Stores-sound, Numbers-fit}
+use Rattle.calls_laws.proofs.Tests.{passes, Degrees, degrees-of, sound-of}
 use Rattle.calls_laws.proofs.Nesting.{nested-of, no-tag-fact}
 use Rattle.calls_laws.proofs.NewFacts.{length-new-facts, pass-new}
 use Rattle.calls_laws.proofs.Marks.{mark-sound}
-use Rattle.calls_laws.proofs.Inserts.{insert-sound}
+use Rattle.calls_laws.proofs.Inserts.{insert-sound, rows-end}
 
 -- what an accepted load is asked of
 pub record Load-accepted (w s r : ℕ) (cs : List ℕ) : Type 0 where
@@ -58,7 +59,7 @@ accepted-load w s r cs e =
 -- an accepted load leaves a sound store
 pub load-sound : Load-sound
 unfolding Load-sound load-store loaded
-load-sound w s r b cs e fits =
+load-sound w s r b cs e =
     let a = accepted-load w s r cs e in
     let n = length cs in
     let ks = map kind-of cs in
@@ -76,50 +77,70 @@ load-sound w s r b cs e fits =
       as-many = size-loaded s r n (a .degrees .r-least) ∙ sym counted;
       each = rw (counted, tags-are) (all-below-numbers n);
       nesting = nested-of fs no-tag _ (rw tags-are (rw as-kinds at (pass-new fs few no-tag free 0 no-tag [] 0 ks [] refl refl (a .nesting) refl)));
-      number-fits = fits;
       stamp-fits = omega arith;
     })
 
--- the call inserts one of its two rows
-pub insert-passed : (w c y : ℕ) (st : Store) → insert-refusal w c y st ≡ 0 → row-refusal w (insert-kinds c) y st ≡ 0
-unfolding insert-refusal
-insert-passed w c y st e = passes (not (eqb c 1 || eqb c 3)) 3 _ e .1
-
--- which nest
-pub kinds-nest : (c : ℕ) → (nests 0 (insert-kinds c) ≡ true) × (1 ≤ length (insert-kinds c))
+-- the call's two rows nest
+pub kinds-nest : (c : ℕ) → (nests 0 (insert-kinds c) ≡ true) × (1 ≤ length (insert-kinds c)) × (length (insert-kinds c) ≤ 2)
 unfolding nests insert-kinds
 kinds-nest c = go (eqb c 1)
   where
-    go : (t : Bool) → (nests 0 (cond t (begin ∷ end ∷ []) (text ∷ [])) ≡ true) × (1 ≤ length (cond t (begin ∷ end ∷ []) (text ∷ [])))
-    go true = (refl, omega arith)
-    go false = (refl, omega arith)
+    go : (t : Bool) → (nests 0 (cond t (begin ∷ end ∷ []) (text ∷ [])) ≡ true) × (1 ≤ length (cond t (begin ∷ end ∷ []) (text ∷ []))) × (length (cond t (begin ∷ end ∷ []) (text ∷ [])) ≤ 2)
+    go true = (refl, omega arith, omega arith)
+    go false = (refl, omega arith, omega arith)
+
+-- and it inserts one of them
+pub insert-passed : (w c y : ℕ) (st : Store) → sound st ≡ true → insert-refusal w c y st ≡ 0 → row-refusal w (insert-kinds c) y st ≡ 0
+unfolding insert-refusal row-refusal Rows-end
+insert-passed w c y st e z =
+    let k = kinds-nest c in
+    rw (rows-end st (length (insert-kinds c)) e (k .1) (k .2)) (passes (not (eqb c 1 || eqb c 3)) 3 _ z .1)
 
 -- one call: an accepted one leaves a sound store, a refused one the same
-pub changed-sound : (w : ℕ) (c : Call) (st : Store) → Fits c → sound st ≡ true → refusal w c st ≡ 0 → sound (changed c st) ≡ true
-unfolding refusal changed Fits Load-sound Insert-sound Mark-sound
-changed-sound w (load s r b cs) st fits e n = load-sound w s r b cs n fits
-changed-sound w (insert c y) st fits e n =
+pub changed-sound : (w : ℕ) (c : Call) (st : Store) → sound st ≡ true → refusal w c st ≡ 0 → sound (changed c st) ≡ true
+unfolding refusal changed Load-sound Insert-sound Mark-sound
+changed-sound w (load s r b cs) st e n = load-sound w s r b cs n
+changed-sound w (insert c y) st e n =
     let k = kinds-nest c in
-    insert-sound w y (insert-kinds c) st e (k .0) (k .1) (insert-passed w c y st n)
-changed-sound w (mark x) st fits e n = mark-sound x st e n
+    insert-sound w y (insert-kinds c) st e (k .0) (k .1) (insert-passed w c y st e n)
+changed-sound w (mark x) st e n = mark-sound x st e n
 
-pub one-sound : (w : ℕ) (c : Call) (st : Store) → Fits c → sound st ≡ true → sound (after-one w c st) ≡ true
+pub one-sound : (w : ℕ) (c : Call) (st : Store) → sound st ≡ true → sound (after-one w c st) ≡ true
 unfolding after-one accepts
-one-sound w c st fits e =
-    by-test (eqb (refusal w c st) 0) (λ t. rw t (changed-sound w c st fits e (eqb-true _ _ t))) (λ t. rw t e)
+one-sound w c st e =
+    by-test (eqb (refusal w c st) 0) (λ t. rw t (changed-sound w c st e (eqb-true _ _ t))) (λ t. rw t e)
 
 -- a list of calls
-pub after-sound : (w : ℕ) (cs : List Call) (st : Store) → All-fit cs → sound st ≡ true → sound (after w cs st) ≡ true
-unfolding after All-fit
-after-sound w [] st fits e = e
-after-sound w (c ∷ cs) st fits e = after-sound w cs (after-one w c st) (fits .1) (one-sound w c st (fits .0) e)
+pub after-sound : (w : ℕ) (cs : List Call) (st : Store) → sound st ≡ true → sound (after w cs st) ≡ true
+unfolding after
+after-sound w [] st e = e
+after-sound w (c ∷ cs) st e = after-sound w cs (after-one w c st) (one-sound w c st e)
 
 -- every list of calls behind an accepted load leaves a sound store, so its tree keeps its limits
 pub stores-sound : Stores-sound
-unfolding Stores-sound Load-sound All-fit Fits
-stores-sound w s r b ks cs h =
-    after-sound w cs (load-store s r b ks) (h .fit .1) (load-sound w s r b ks (h .accepted) (h .fit .0))
+unfolding Stores-sound Load-sound
+stores-sound w s r b ks cs e = after-sound w cs (load-store s r b ks) (load-sound w s r b ks e)
 
 pub stays-good : Stays-good
-unfolding Stays-good Stores-sound
-stays-good w s r b ks cs h = facts-of (after w cs (load-store s r b ks)) (stores-sound w s r b ks cs h) .within
+unfolding Stays-good Stores-sound sound
+stays-good w s r b ks cs e =
+    let st = after w cs (load-store s r b ks) in
+    and-left (tree-sound st) (row-sound st) (and-left (tree-sound st && row-sound st) _ (stores-sound w s r b ks cs e))
+
+-- THE STORE'S NUMBER is that of a load, so a word where each of them is
+number-changed : (w : ℕ) (c : Call) (st : Store) → Fits c → st .number < word-limit → changed c st .number < word-limit
+unfolding changed Fits load-store insert-store mark-store
+number-changed w (load s r b cs) st fits l = fits
+number-changed w (insert c y) st fits l = l
+number-changed w (mark x) st fits l = l
+
+number-after : (w : ℕ) (cs : List Call) (st : Store) → All-fit cs → st .number < word-limit → after w cs st .number < word-limit
+unfolding after after-one All-fit
+number-after w [] st fits l = l
+number-after w (c ∷ cs) st fits l =
+    number-after w cs (after-one w c st) (fits .1)
+    (by-test (accepts w c st) (λ t. rw t (number-changed w c st (fits .0) l)) (λ t. rw t l))
+
+pub numbers-fit : Numbers-fit
+unfolding Numbers-fit All-fit Fits load-store
+numbers-fit w s r b ks cs fits = number-after w cs (load-store s r b ks) (fits .1) (fits .0)

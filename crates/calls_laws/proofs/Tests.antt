@@ -1,19 +1,20 @@
 -- What a passed test of a sound store says, field by field. Assumes nothing.
 use mathlib.Core.Path.{_≡_, refl}
-use mathlib.Core.Bool.{Bool, true, false, _&&_, cond}
-use Prim.Native.Nat.{ℕ, suc, _+_, _≤_, _<_}
+use mathlib.Core.Bool.{Bool, true, false, _&&_, _||_, cond}
+use Prim.Native.Nat.{ℕ, suc, _+_, _*_, _^_, _≤_, _<_}
 use native.Mathlib.Omega.{arith}
-use borrow.Author.Tests.{ltb-true, leb-true, eqb-true, lt-ltb, le-leb, eq-eqb}
+use borrow.Author.Tests.{ltb-true, leb-true, eqb-true, le-leb, eq-eqb}
 use lib.Dec.{ltb, leb, eqb}
 use lib.ListN.{length}
-use Rattle.store_types.specs.Limits.{no-tag, label-limit, word-limit, most-tags}
+use Rattle.store_types.specs.Limits.{no-tag, label-limit, most-tags}
 use Rattle.lists.proofs.Tests.{and-left, and-right, and-both}
 use Rattle.tree.specs.Row.{all-below}
-use Rattle.tree.specs.Book.{height, book-within}
+use Rattle.tree.specs.Forest.{size, within-limits}
+use Rattle.tree.specs.Book.{height, root-within, book-within}
 use Rattle.tree.specs.Promise.{Sane}
 use Rattle.calls.specs.Store.{Store, count, row, width, marked-count}
 use Rattle.calls.specs.Nesting.{nested}
-use Rattle.calls.specs.Sound.{degrees-fit, tree-sound, row-sound, header-sound, sound}
+use Rattle.calls.specs.Sound.{degrees-fit, tree-sound, row-sound, stamp-sound, sound}
 
 -- a call that is not refused passes each test
 pub passes : (t : Bool) (k rest : ℕ) → cond t (suc k) rest ≡ 0 → (t ≡ false) × (rest ≡ 0)
@@ -52,20 +53,30 @@ pub record Sound (st : Store) : Type 0 where
   pub as-many : length (row st) ≡ count st
   pub each : all-below (count st) (row st) ≡ true
   pub nesting : nested (st .facts) no-tag (row st) ≡ true
-  pub number-fits : st .number < word-limit
   pub stamp-fits : st .stamp ≤ count st + marked-count (st .facts)
 
 pub sane : {st : Store} → Sound st → Sane (st .book)
 sane h = record { s-least = h .degrees .s-least; r-least = h .degrees .r-least; within = h .within }
 
+-- its root's limits, as those of n
+pub root-limits : {st : Store} → Sound st →
+    (count st < st .book .s * st .book .r ^ height (st .book))
+    × ((eqb (st .book .under) 0 || leb (2 * st .book .r ^ st .book .under) (count st)) ≡ true)
+unfolding book-within root-within
+root-limits {st} h =
+    let k = st .book in
+    let below = ltb (size (k .root)) (k .s * k .r ^ height k) in
+    let least = eqb (k .under) 0 || leb (2 * k .r ^ k .under) (size (k .root)) in
+    let root = and-left (below && least) (within-limits (k .root) (k .s) (k .r) (k .under)) (h .within) in
+    (rw (h .as-many) at (ltb-true (size (k .root)) (k .s * k .r ^ height k) (and-left below least root)), rw (h .as-many) at (and-right below least root))
+
 pub facts-of : (st : Store) → sound st ≡ true → Sound st
-unfolding sound tree-sound row-sound header-sound
+unfolding sound tree-sound row-sound stamp-sound
 facts-of st e =
-    let front = and-left (tree-sound st && row-sound st) (nested (st .facts) no-tag (row st) && header-sound st) e in
-    let back = and-right (tree-sound st && row-sound st) (nested (st .facts) no-tag (row st) && header-sound st) e in
+    let front = and-left (tree-sound st && row-sound st) (nested (st .facts) no-tag (row st) && stamp-sound st) e in
+    let back = and-right (tree-sound st && row-sound st) (nested (st .facts) no-tag (row st) && stamp-sound st) e in
     let tree = and-left (tree-sound st) (row-sound st) front in
     let tags = and-right (tree-sound st) (row-sound st) front in
-    let head = and-right (nested (st .facts) no-tag (row st)) (header-sound st) back in
     let limits = and-right (degrees-fit (st .book .s) (st .book .r)) (leb (width st (height (st .book))) label-limit && book-within (st .book)) tree in
     let numbers = and-right (leb (count st) most-tags) (eqb (length (row st)) (count st) && all-below (count st) (row st)) tags in
     record {
@@ -76,15 +87,14 @@ facts-of st e =
       few = leb-true _ _ (and-left (leb (count st) most-tags) (eqb (length (row st)) (count st) && all-below (count st) (row st)) tags);
       as-many = eqb-true _ _ (and-left (eqb (length (row st)) (count st)) (all-below (count st) (row st)) numbers);
       each = and-right (eqb (length (row st)) (count st)) (all-below (count st) (row st)) numbers;
-      nesting = and-left (nested (st .facts) no-tag (row st)) (header-sound st) back;
-      number-fits = ltb-true _ _ (and-left (ltb (st .number) word-limit) (leb (st .stamp) (count st + marked-count (st .facts))) head);
-      stamp-fits = leb-true _ _ (and-right (ltb (st .number) word-limit) (leb (st .stamp) (count st + marked-count (st .facts))) head);
+      nesting = and-left (nested (st .facts) no-tag (row st)) (stamp-sound st) back;
+      stamp-fits = leb-true _ _ (and-right (nested (st .facts) no-tag (row st)) (stamp-sound st) back);
     }
 
 pub sound-of : (st : Store) → Sound st → sound st ≡ true
-unfolding sound tree-sound row-sound header-sound
+unfolding sound tree-sound row-sound stamp-sound
 sound-of st h =
     and-both
     (and-both (and-both (degrees-test _ _ (h .degrees)) (and-both (le-leb _ _ (h .labels-fit)) (h .within)))
     (and-both (le-leb _ _ (h .few)) (and-both (eq-eqb _ _ (h .as-many)) (h .each))))
-    (and-both (h .nesting) (and-both (lt-ltb _ _ (h .number-fits)) (le-leb _ _ (h .stamp-fits))))
+    (and-both (h .nesting) (le-leb _ _ (h .stamp-fits)))

@@ -133,8 +133,8 @@ text-fact st y = record { kind = text; marked = false; mate = count st; up = up-
 
 module _ (ws : List ℕ) (st : Store) (says : Says ws st) (y : ℕ) (accepted : insert-refusal (length ws) 3 y st ≡ 0) where
   row-accepted : Row-accepted (length ws) (text ∷ []) y st
-  unfolding insert-kinds
-  row-accepted = accepted-row (length ws) (text ∷ []) y st (insert-passed (length ws) 3 y st accepted)
+  unfolding insert-kinds Says
+  row-accepted = accepted-row (length ws) (text ∷ []) y st (insert-passed (length ws) 3 y st (says .0) accepted)
 
   text-is : text-edit y ws ≡ edit-of ws y (text-fact st y)
   unfolding text-edit kind-word code
@@ -170,8 +170,8 @@ begin-fact st y = record { kind = begin; marked = false; mate = suc (count st); 
 
 module _ (ws : List ℕ) (st : Store) (says : Says ws st) (y : ℕ) (accepted : insert-refusal (length ws) 1 y st ≡ 0) where
   pub element-accepted : Row-accepted (length ws) (begin ∷ end ∷ []) y st
-  unfolding insert-kinds
-  element-accepted = accepted-row (length ws) (begin ∷ end ∷ []) y st (insert-passed (length ws) 1 y st accepted)
+  unfolding insert-kinds Says
+  element-accepted = accepted-row (length ws) (begin ∷ end ∷ []) y st (insert-passed (length ws) 1 y st (says .0) accepted)
 
   begin-is : begin-edit y ws ≡ edit-of ws y (begin-fact st y)
   unfolding begin-edit kind-word code

@@ -5,15 +5,14 @@ use Prim.Native.Nat.{ℕ, pred, _+_, _*_, _-_, _^_, _≤_, _<_}
 use native.Mathlib.Nat.{mul-le-mul, mul-le-mul-right, pow-le-pow-left, pow-le-pow-right, one-mul, lt-of-not-le}
 use native.Mathlib.Omega.{arith}
 use lib.ListN.{length}
-use Rattle.store_types.specs.Limits.{word-limit, label-limit}
+use Rattle.store_types.specs.Limits.{label-limit}
 use Rattle.lists.proofs.Tests.{and-left}
-use Rattle.store_types.specs.Layout.{at-s, at-r, at-height, at-count, at-book, header-words, word-at, words-for}
+use Rattle.store_types.specs.Layout.{at-s, at-r, at-height, at-count, header-words, word-at, words-for}
 use Rattle.words.proofs.Fields.{header-fits}
 use Rattle.tree.specs.Book.{base, power-width}
 use Rattle.calls.specs.Words.{Says}
 use Rattle.calls.specs.Replies.{said}
-use Rattle.calls_laws.proofs.Tests.{Degrees, facts-of}
-use Rattle.calls_laws.proofs.WordSteps.{header-said}
+use Rattle.calls_laws.proofs.Tests.{Degrees}
 use Rattle.walk_model.specs.Levels.{entry}
 use Rattle.walk_model.specs.Walk.{table, header-passes, walk, shape-of, start, words-pass}
 use Rattle.walk_model.specs.Promise.{Walk-right}
@@ -49,8 +48,7 @@ module _ (ws : List ℕ) (h : Says ws (said ws)) where
   pub header-of : Header ws (word-at ws at-s) (word-at ws at-r) (pred (word-at ws at-height)) (word-at ws at-count)
   unfolding Says words-pass Walk-right
   header-of =
-      let fits : word-at ws at-book < word-limit = omega (arith, header-said ws (said ws) h .number, facts-of (said ws) (h .0) .number-fits) in
-      header-facts ws (and-left (header-passes ws) (walk ws (shape-of ws) (word-at ws at-count) 0 (start ws)) (walk-right ws fits .1 (said ws, h)))
+      header-facts ws (and-left (header-passes ws) (walk ws (shape-of ws) (word-at ws at-count) 0 (start ws)) (walk-right ws .1 (said ws, h)))
 
   pub ranges : Ranges (word-at ws at-s) (word-at ws at-r) (word-at ws at-height) (word-at ws at-count)
   unfolding power-width base

@@ -2,20 +2,17 @@
 use mathlib.Core.Path.{_≡_, refl, sym, _∙_}
 use mathlib.Core.Bool.{Bool, true, false, _&&_, not, cond, and-false}
 use mathlib.Core.List.{List}
-use Prim.Native.Nat.{ℕ, zero, suc, _+_, _*_, _-_, _^_, _≤_, _<_}
-use native.Mathlib.Nat.{pow-suc, mul-assoc, mul-le-mul, mul-le-mul-left, one-le-pow}
+use Prim.Native.Nat.{ℕ, suc, _+_, _*_, _-_, _^_, _≤_, _<_}
 use native.Mathlib.Numerals.{add-one}
-use native.Mathlib.Omega.{arith}
-use borrow.Author.Tests.{ne-eqb, lt-ltb, le-ltb, le-leb, lt-leb, leb-true, leb-false, eqb-true}
+use borrow.Author.Tests.{ne-eqb, lt-ltb, le-ltb, le-leb, lt-leb, leb-true, leb-false}
 use lib.Dec.{ltb, leb, eqb}
 use lib.ListN.{length}
 use Rattle.store_types.specs.Limits.{no-tag, most-tags, label-limit}
 use Rattle.lists.proofs.Tests.{by-test}
 use Rattle.store_types.specs.Layout.{at-s, at-r, at-height, at-count, at-kind, word-at, words-for, field}
-use Rattle.tree.specs.Book.{base, power-width}
-use Rattle.calls.specs.Kind.{Kind}
+use Rattle.tree.specs.Book.{height, base, power-width}
 use Rattle.calls.specs.Store.{Store, fact, count}
-use Rattle.calls.specs.Insert.{insert-kinds, raised, labels-run-out, row-refusal, insert-refusal}
+use Rattle.calls.specs.Insert.{insert-kinds, labels-end, tags-refused, insert-refusal}
 use Rattle.calls.specs.Words.{Says}
 use Rattle.calls.specs.Replies.{said, insert-refused, refusal-over}
 use Rattle.calls_laws.proofs.WordSteps.{header-said, refusal-said}
@@ -23,7 +20,6 @@ use Rattle.walk_header.specs.Needs.{power-fits}
 use Rattle.store_refuse.specs.Needs.{Tag-said}
 use Rattle.store_refuse.proofs.Laws.{refused-first, accepted-says, kind-of-tag}
 use Rattle.insert_refuse.specs.Parts.{place-refusal, room-refusal, tags-refusal}
-use Rattle.insert_refuse.proofs.Headers.{ranges}
 
 -- THE PLACE y: t says whether it is the front
 module _ (ws : List ℕ) (y : ℕ) {t : Bool} (e : t ≡ eqb y no-tag) where
@@ -49,46 +45,8 @@ module _ (ws : List ℕ) (y : ℕ) {t : Bool} (e : t ≡ eqb y no-tag) where
       unfolding place-refusal
       place-fine m = rw (← e, p, ← header-said ws (said ws) h .issued, lt-leb (word-at ws at-count) y l, ← kind-of-tag tag .marks, ← q, lt-leb 16 k m)
 
--- LABELS: where n tags are below the root's limit L, those of one or two tags more run out just where n + k comes to L
--- and the next power of b is too large
-module _ (s r n h : ℕ) (s-least : 2 ≤ s) (r-least : 2 ≤ r) (below : n < s * r ^ h) where
-  pub run-none : (k : ℕ) → k ≤ 2 → n + k < s * r ^ h → labels-run-out s r k n h ≡ false
-  unfolding labels-run-out raised
-  run-none zero l m = refl
-  run-none (suc zero) l m = rw (lt-leb (s * r ^ h) (suc n) (omega arith))
-  run-none (suc (suc zero)) l m =
-      rw (lt-leb (s * r ^ h) (suc n) (omega arith), ne-eqb (suc n) (s * r ^ h) (λ e. omega arith), lt-leb (s * r ^ h) (suc (suc n)) (omega arith))
-  run-none (suc (suc (suc k))) l m = absurd (omega arith)
-
-  pub run-fits : (k : ℕ) → k ≤ 2 → power-width s r (suc h) ≤ label-limit → labels-run-out s r k n h ≡ false
-  unfolding labels-run-out raised
-  run-fits zero l m = refl
-  run-fits (suc zero) l m = simp (le-ltb label-limit (power-width s r (suc h)) m, and-false)
-  run-fits (suc (suc zero)) l m =
-      let first : (leb (s * r ^ h) (suc n) && ltb label-limit (power-width s r (suc h))) ≡ false =
-      simp (le-ltb label-limit (power-width s r (suc h)) m, and-false) in
-      rw first (by-test (eqb (suc n) (s * r ^ h))
-      (λ t. let full = eqb-true (suc n) (s * r ^ h) t in
-      let higher : s * r ^ suc h ≡ s * r ^ h * r = rw (pow-suc, mul-assoc) in
-      let more : s * r ^ h * 2 ≤ s * r ^ h * r = mul-le-mul-left (s * r ^ h) r-least in
-      let some : 2 * 1 ≤ s * r ^ h = mul-le-mul s-least (one-le-pow h r (omega arith)) in
-      rw (t, lt-leb (s * r ^ suc h) (suc (suc n)) (omega arith)))
-      (λ t. rw t (simp (le-ltb label-limit (power-width s r (suc h)) m, and-false))))
-  run-fits (suc (suc (suc k))) l m = absurd (omega arith)
-
-  pub run-over : (k : ℕ) → k ≤ 2 → s * r ^ h ≤ n + k → label-limit < power-width s r (suc h) → labels-run-out s r k n h ≡ true
-  unfolding labels-run-out raised
-  run-over zero l full m = absurd (omega arith)
-  run-over (suc zero) l full m = rw (le-leb (s * r ^ h) (suc n) (omega arith), lt-ltb label-limit (power-width s r (suc h)) m)
-  run-over (suc (suc zero)) l full m =
-      by-test (leb (s * r ^ h) (suc n))
-      (λ t. rw (t, lt-ltb label-limit (power-width s r (suc h)) m))
-      (λ t. let low = leb-false (s * r ^ h) (suc n) t in
-      rw (t, ne-eqb (suc n) (s * r ^ h) (λ e. omega arith), le-leb (s * r ^ h) (suc (suc n)) (omega arith), lt-ltb label-limit (power-width s r (suc h)) m))
-  run-over (suc (suc (suc k))) l full m = absurd (omega arith)
-
 -- THE ROOM for k tags more: n are there, and L is the root's limit
-module _ (ws : List ℕ) (h : Says ws (said ws)) (k : ℕ) (l : k ≤ 2) where
+module _ (ws : List ℕ) (h : Says ws (said ws)) (k : ℕ) where
   pub room-many : most-tags < word-at ws at-count + k → 6 ≡ room-refusal (length ws) k (said ws)
   unfolding room-refusal
   room-many m = rw (← header-said ws (said ws) h .issued, lt-ltb most-tags (word-at ws at-count + k) m)
@@ -99,16 +57,15 @@ module _ (ws : List ℕ) (h : Says ws (said ws)) (k : ℕ) (l : k ≤ 2) where
     room-short m = rw (← header-said ws (said ws) h .issued, le-ltb most-tags (word-at ws at-count + k) few, lt-ltb (length ws) (8 + 6 * (word-at ws at-count + k)) m)
 
     module _ (long : 8 + 6 * (word-at ws at-count + k) ≤ length ws) where
-      by-labels : (t : Bool) → labels-run-out (word-at ws at-s) (word-at ws at-r) k (word-at ws at-count) (word-at ws at-height) ≡ t → cond t 7 0 ≡ room-refusal (length ws) k (said ws)
+      by-labels : (t : Bool) → labels-end (word-at ws at-s) (word-at ws at-r) k (word-at ws at-count) (word-at ws at-height) ≡ t → cond t 7 0 ≡ room-refusal (length ws) k (said ws)
       unfolding room-refusal words-for
       by-labels t e =
           let f = header-said ws (said ws) h in
           rw (← f .issued, le-ltb most-tags (word-at ws at-count + k) few, le-ltb (length ws) (8 + 6 * (word-at ws at-count + k)) long, ← f .degree-s, ← f .degree-r, ← f .levels, e)
 
       pub room-below : word-at ws at-count + k < word-at ws at-s * word-at ws at-r ^ word-at ws at-height → 0 ≡ room-refusal (length ws) k (said ws)
-      room-below m =
-          let f = ranges ws h in
-          by-labels false (run-none _ _ _ _ (f .degrees .s-least) (f .degrees .r-least) (f .below) k l m)
+      unfolding labels-end
+      room-below m = by-labels false (rw (lt-leb (word-at ws at-s * word-at ws at-r ^ word-at ws at-height) (word-at ws at-count + k) m))
 
       -- where n + k comes to the limit, t says whether the next power fits
       module _ {t : Bool} (e : t ≡ power-fits (word-at ws at-s * word-at ws at-r - 1) (word-at ws at-height + 1)) where
@@ -117,14 +74,19 @@ module _ (ws : List ℕ) (h : Says ws (said ws)) (k : ℕ) (l : k ≤ 2) where
         power-next = e ∙ rw add-one
 
         pub room-fits : t ≡ true → 0 ≡ room-refusal (length ws) k (said ws)
+        unfolding labels-end
         room-fits p =
-            let f = ranges ws h in
-            by-labels false (run-fits _ _ _ _ (f .degrees .s-least) (f .degrees .r-least) (f .below) k l (leb-true _ _ (sym power-next ∙ p)))
+            by-labels false
+            (simp (le-ltb label-limit (power-width (word-at ws at-s) (word-at ws at-r) (suc (word-at ws at-height))) (leb-true _ _ (sym power-next ∙ p)), and-false))
 
         pub room-none : t ≡ false → word-at ws at-s * word-at ws at-r ^ word-at ws at-height ≤ word-at ws at-count + k → 7 ≡ room-refusal (length ws) k (said ws)
+        unfolding labels-end
         room-none p m =
-            let f = ranges ws h in
-            by-labels true (run-over _ _ _ _ (f .degrees .s-least) (f .degrees .r-least) (f .below) k l m (leb-false _ _ (sym power-next ∙ p)))
+            by-labels true
+            (rw (
+              le-leb (word-at ws at-s * word-at ws at-r ^ word-at ws at-height) (word-at ws at-count + k) m,
+              lt-ltb label-limit (power-width (word-at ws at-s) (word-at ws at-r) (suc (word-at ws at-height))) (leb-false _ _ (sym power-next ∙ p)),
+            ))
 
 -- BOTH, in this order
 module _ (w k y : ℕ) (st : Store) {p : ℕ} (e : p ≡ place-refusal y st) where
@@ -136,9 +98,10 @@ module _ (w k y : ℕ) (st : Store) {p : ℕ} (e : p ≡ place-refusal y st) whe
   unfolding tags-refusal
   refused-room z q = rw (← e, z) q
 
-row-parts : (w : ℕ) (ks : List Kind) (y : ℕ) (st : Store) → row-refusal w ks y st ≡ tags-refusal w (length ks) y st
-unfolding row-refusal tags-refusal place-refusal room-refusal
-row-parts w ks y st =
+in-parts : (w k y : ℕ) (st : Store) →
+    tags-refused w k y (labels-end (st .book .s) (st .book .r) k (count st) (height (st .book))) st ≡ tags-refusal w k y st
+unfolding tags-refused tags-refusal place-refusal room-refusal
+in-parts w k y st =
     by-test (not (eqb y no-tag) && leb (count st) y) (λ t. rw t)
     (λ t. rw t (by-test (not (eqb y no-tag) && fact st y .marked) (λ m. rw m) (λ m. rw m)))
 
@@ -154,11 +117,11 @@ module _ (ws : List ℕ) (c y : ℕ) {v : ℕ} (e : v ≡ refusal-over ws (λ st
 
     pub refused-element : {k : ℕ} → c ≡ 1 → k ≡ tags-refusal (length ws) 2 y (said ws) → k ≡ insert-refused c y ws
     unfolding insert-refused insert-refusal insert-kinds
-    refused-element one q = rw (refusal-said ws (said ws) said-of, one, row-parts) q
+    refused-element one q = rw (refusal-said ws (said ws) said-of, one, in-parts) q
 
     pub refused-text : {k : ℕ} → c ≡ 3 → k ≡ tags-refusal (length ws) 1 y (said ws) → k ≡ insert-refused c y ws
     unfolding insert-refused insert-refusal insert-kinds
-    refused-text three q = rw (refusal-said ws (said ws) said-of, three, row-parts) q
+    refused-text three q = rw (refusal-said ws (said ws) said-of, three, in-parts) q
 
     pub refused-kind : (c ≡ 1 → ⊥) → (c ≡ 3 → ⊥) → 4 ≡ insert-refused c y ws
     unfolding insert-refused insert-refusal

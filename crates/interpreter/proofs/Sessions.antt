@@ -3,11 +3,11 @@ use mathlib.Core.Path.{_≡_, refl, ap, sym, _∙_}
 use mathlib.Core.Logic.{by-cases}
 use mathlib.Core.Bool.{Bool, true, false, cond}
 use mathlib.Core.List.{List, [], _∷_, _++_, append-assoc}
-use Prim.Native.Nat.{ℕ, suc}
+use Prim.Native.Nat.{ℕ, zero, suc, _≤_}
 use native.Mathlib.Decide.{decLe}
 use native.Mathlib.Omega.{arith}
 use borrow.Author.Tests.{lt-ltb}
-use lib.ListN.{length, take, drop}
+use lib.ListN.{length, take, drop, length-drop}
 use lib.Dec.{eqb}
 use lib.Seq.{take-all, take-take, length-take-le}
 use Rattle.console.specs.Line.{parsed, line-limit}
@@ -99,5 +99,36 @@ unfolding whole lines behind
 from-held ends = refl
 from-held (piece {t = t} {ps = ps} x y) = ap (λ k. t ++ k) (from-held y) ∙ through x (whole ps)
 
+printed-of : (ws : List ℕ) (ps : List (List ℕ)) (t : List ℕ) → Talks [] ws ps t → t ≡ texts ws (lines (whole ps))
+printed-of ws ps t r = from-held r ∙ ap (texts ws) (behind-none (lines (whole ps)))
+
+-- EVERY PIECE IS PASSED: a step goes on in a piece that is not used up
+goes-on : (c : ℕ) (p : List ℕ) (k : ℕ) → length (c ∷ p) ≤ suc k → length (drop (step-length (c ∷ p)) (c ∷ p)) ≤ k
+unfolding step-length has-feed stretch
+goes-on c p k l = go (eqb c 10) (has-feed p)
+  where
+    go : (t u : Bool) → length (drop (cond (cond t true u) (suc (length (cond t [] (c ∷ stretch p)))) (length (cond t [] (c ∷ stretch p)))) (c ∷ p)) ≤ k
+    go true u = omega arith
+    go false true = omega (arith, length-drop (suc (length (stretch p))) p)
+    go false false = omega (arith, length-drop (length (stretch p)) p)
+
+pub passes-all : (k : ℕ) (h ws p : List ℕ) → length p ≤ k → (h' : List ℕ) × (ws' : List ℕ) × (t : List ℕ) × Passes h ws p h' ws' t
+passes-all zero h ws [] l = (h, ws, [], over)
+passes-all zero h ws (c ∷ p) l = absurd (omega arith)
+passes-all (suc k) h ws [] l = (h, ws, [], over)
+passes-all (suc k) h ws (c ∷ p) l =
+    let (h', ws', t, x) = passes-all k (step-held h (c ∷ p)) (step-words h (c ∷ p) ws) (drop (step-length (c ∷ p)) (c ∷ p)) (goes-on c p k l) in
+    (h', ws', step-text h (c ∷ p) ws ++ t, step x)
+
+talks-all : (ps : List (List ℕ)) (h ws : List ℕ) → (t : List ℕ) × Talks h ws ps t
+talks-all [] h ws = (texts ws (last-line h), ends)
+talks-all (p ∷ ps) h ws =
+    let (h', ws', t, x) = passes-all (length p) h ws p (omega arith) in
+    let rest = talks-all ps h' ws' in
+    (t ++ rest .0, piece x (rest .1))
+
 pub pieces-printed : Pieces-printed
-pieces-printed ws ps t r = from-held r ∙ ap (texts ws) (behind-none (lines (whole ps)))
+pieces-printed ws ps t = (
+  printed-of ws ps t,
+  λ e. let all = talks-all ps [] ws in rw (e ∙ sym (printed-of ws ps (all .0) (all .1))) (all .1),
+)

@@ -2,9 +2,10 @@
 -- words before, as crate calls defines it; its reply's numbers as crate console prints them. Assumes nothing: these are
 -- definitions.
 use mathlib.Core.List.{List, [], _∷_, _++_}
-use Prim.Native.Nat.{ℕ, zero, suc}
-use lib.ListN.{length}
+use Prim.Native.Nat.{ℕ, zero, suc, _+_, _*_}
+use lib.ListN.{length, replicate}
 use Rattle.store_types.specs.Limits.{no-tag}
+use Rattle.store_types.specs.Layout.{header-words, tag-words}
 use Rattle.calls.specs.Listing.{list-refusal, listed-tags, listed-labels}
 use Rattle.calls.specs.Replies.{refusal-over, said, load-reply, load-numbers, load-words, insert-reply, insert-numbers, insert-words, mark-reply, mark-numbers, mark-words}
 use Rattle.console.specs.Line.{parsed}
@@ -12,9 +13,12 @@ use Rattle.reply_text.specs.Text.{reply-line, tag-lines, end-line, unknown-line
 use Rattle.console.specs.declared.Command.{Command}
 use Rattle.console.specs.declared.Command.the-variants.{Load, Insert, Mark, List as List-all, Unknown}
 
--- the store is for so many tags
+-- the store is for so many tags, all its words 0 at first
 abbrev pub book-tags : ℕ
 book-tags = 2000
+
+unfoldable pub first-words : List ℕ
+first-words = replicate (header-words + tag-words * book-tags) 0
 
 unfoldable pub load-text : (s r book : ℕ) → (kinds words : List ℕ) → List ℕ
 load-text s r b ks ws = reply-line (load-numbers (load-reply s r b ks ws))

@@ -47,10 +47,20 @@ pub data Passes : (held words piece held' words' printed : List ℕ) → Type 0 
   over : {h ws : List ℕ} → Passes h ws [] h ws []
   step : {h ws p h' ws' t : List ℕ} → Passes (step-held h p) (step-words h p ws) (drop (step-length p) p) h' ws' t → Passes h ws p h' ws' (step-text h p ws ++ t)
 
--- the same, whatever was printed
+-- the same, whatever was printed; every piece passes so
 pub record Passed (held words piece held' words' : List ℕ) : Type 0 where
   pub printed : List ℕ
   pub passes : Passes held words piece held' words' printed
+
+-- PIECES one after the other, each passed
+pub data Went : (held words : List ℕ) → (pieces : List (List ℕ)) → (held' words' : List ℕ) → Type 0 where
+  none : {h ws : List ℕ} → Went h ws [] h ws
+  onward : {h ws p h' ws' h'' ws'' : List ℕ} {ps : List (List ℕ)} → Passed h ws p h' ws' → Went h' ws' ps h'' ws'' → Went h ws (p ∷ ps) h'' ws''
+
+-- some pieces led from one hand and store to another
+pub record Led (held words held' words' : List ℕ) : Type 0 where
+  pub pieces : List (List ℕ)
+  pub went : Went held words pieces held' words'
 
 -- A SESSION: piece by piece, and what is in hand at the end of the input
 pub data Talks : (held words : List ℕ) → (pieces : List (List ℕ)) → (printed : List ℕ) → Type 0 where

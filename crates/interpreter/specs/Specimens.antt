@@ -3,17 +3,17 @@
 use mathlib.Core.List.{List, [], _∷_}
 use Prim.Native.Nat.{ℕ}
 use Prim.Native.String.{String}
-use lib.ListN.{replicate}
 use Rattle.line_reader.specs.Lines.{lines}
+use Rattle.interpreter.specs.Answer.{first-words}
 use Rattle.interpreter.specs.Session.{texts}
 
 pub record Printing : Type 0 where
   pub input : String
   pub printed : String
 
--- over a store for eight tags, all words 0 at first
+-- over the store that the program starts from
 unfoldable pub prints : (input : List ℕ) → List ℕ
-prints cs = texts (replicate 56 0) (lines cs)
+prints cs = texts first-words (lines cs)
 
 abbrev pub inputs : List Printing
 inputs =

@@ -5,7 +5,7 @@ use mathlib.Core.List.{List, [], _∷_, _++_, map, append-assoc, append-nil}
 use Prim.Native.Nat.{ℕ, zero, suc, _+_, _≤_}
 use native.Mathlib.Omega.{arith}
 use lib.Dec.{eqb}
-use lib.ListN.{length, take, drop}
+use lib.ListN.{length, take, drop, length-drop}
 use lib.Seq.{take-all, take-take}
 use Rattle.lists.specs.Lists.{with-first}
 use Rattle.line_reader.specs.Lines.{lines}
@@ -75,6 +75,33 @@ from-held {m} (line {h = h} {p = p} {ps = ps} {ls = ls} e r) l =
     let later : ls ≡ map (take (suc m)) (lines (rest-of p ++ whole ps)) = from-held r (omega arith) ∙ ap (λ k. map (take (suc m)) k) (behind-none (lines (rest-of p ++ whole ps))) in
     ap (λ k. in-hand (suc m) h p ∷ k) later ∙ ap (λ k. map (take (suc m)) (behind h k)) (sym (feed-lines p (whole ps) e))
 
+handed-out : (n : ℕ) → 1 ≤ n → (ps ls : List (List ℕ)) → Reads n [] ps ls → ls ≡ map (take n) (lines (whole ps))
+handed-out zero l ps ls r = absurd (omega arith)
+handed-out (suc m) l ps ls r = from-held r (omega arith) ∙ ap (λ k. map (take (suc m)) k) (behind-none (lines (whole ps)))
+
+-- EVERY INPUT IS READ. Behind a line feed a piece is shorter
+shorter : (p : List ℕ) (k : ℕ) → has-feed p ≡ true → length p ≤ suc k → length (rest-of p) ≤ k
+unfolding has-feed
+shorter [] k e l = absurd (let z : _≡_ {A = ℕ} 0 1 = cc in omega arith)
+shorter (c ∷ p) k e l = omega (arith, length-drop (suc (length (stretch (c ∷ p)))) (c ∷ p))
+
+module _ (n : ℕ) (ps : List (List ℕ)) (onward : (h : List ℕ) → (ls : List (List ℕ)) × Reads n h ps ls) where
+  read-piece : (k : ℕ) (h p : List ℕ) → length p ≤ k → (ls : List (List ℕ)) × Reads n h (p ∷ ps) ls
+  unfolding has-feed
+  read-piece zero h [] l = let rest = onward (in-hand n h []) in (rest .0, next refl (rest .1))
+  read-piece zero h (c ∷ p) l = absurd (omega arith)
+  read-piece (suc k) h p l = go (has-feed p) refl (λ e. read-piece k [] (rest-of p) (shorter p k e l))
+    where
+      go : (b : Bool) → has-feed p ≡ b → (has-feed p ≡ true → (ls : List (List ℕ)) × Reads n [] (rest-of p ∷ ps) ls) → (ls : List (List ℕ)) × Reads n h (p ∷ ps) ls
+      go true e more = (in-hand n h p ∷ more e .0, line e (more e .1))
+      go false e more = (onward (in-hand n h p) .0, next e (onward (in-hand n h p) .1))
+
+read-all : (n : ℕ) (ps : List (List ℕ)) (h : List ℕ) → (ls : List (List ℕ)) × Reads n h ps ls
+read-all n [] h = (last-line h, ends)
+read-all n (p ∷ ps) h = read-piece n ps (λ k. read-all n ps k) (length p) h p (omega arith)
+
 pub any-pieces : Any-pieces
-any-pieces zero l ps ls r = absurd (omega arith)
-any-pieces (suc m) l ps ls r = from-held r (omega arith) ∙ ap (λ k. map (take (suc m)) k) (behind-none (lines (whole ps)))
+any-pieces n l ps ls = (
+  handed-out n l ps ls,
+  λ e. let all = read-all n ps [] in rw (e ∙ sym (handed-out n l ps (all .0) (all .1))) (all .1),
+)

@@ -174,7 +174,8 @@ module _ (ws : List ℕ) (c y : ℕ) (z : insert-refused c y ws ≡ 0) where
   store-accepted = accepted-store ws (insert-refusal (length ws) c y) z
 
   pub row-accepted : Row-accepted (length ws) (insert-kinds c) y (said ws)
-  row-accepted = accepted-row (length ws) (insert-kinds c) y (said ws) (insert-passed (length ws) c y (said ws) store-accepted)
+  unfolding Says
+  row-accepted = accepted-row (length ws) (insert-kinds c) y (said ws) (insert-passed (length ws) c y (said ws) (says-accepted .0) store-accepted)
 
   -- its kind is 1 or 3
   pub kind-accepted : (c ≡ 1 → ⊥) → c ≡ 3

@@ -10,7 +10,7 @@ use borrow.Author.Tests.{lt-ltb, le-ltb, le-leb, lt-leb, ne-eqb}
 use lib.Dec.{ltb, leb, eqb}
 use lib.ListN.{length}
 use Rattle.store_types.specs.Limits.{word-limit}
-use Rattle.store_types.specs.Layout.{at-count, at-book, header-words, at-kind, word-at, field, Room}
+use Rattle.store_types.specs.Layout.{at-count, header-words, at-kind, word-at, field, Room}
 use Rattle.lists.proofs.Tests.{by-test}
 use Rattle.words.proofs.Fields.{header-fits, record-room}
 use Rattle.calls.specs.Kind.{Kind, begin, end, text, code, kind-word, is-begin, is-end}
@@ -26,21 +26,21 @@ use Rattle.walk_model.specs.Walk.{words-pass}
 use Rattle.walk_model.proofs.Decides.{passes-says, fails-none}
 use Rattle.store_refuse.specs.Needs.{Tag-said}
 
--- REFUSALS, by the walk's verdict; a book number is a word, as all that a slice of words holds
+-- REFUSALS, by the walk's verdict
 module _ (ws : List ℕ) (f : Store → ℕ) where
   pub refused-short : length ws < header-words → refusal-over ws f ≡ 1
   unfolding refusal-over
   refused-short l = rw (lt-ltb (length ws) header-words l)
 
-  pub refused-unsound : word-at ws at-book < word-limit → header-words ≤ length ws → words-pass ws ≡ false → refusal-over ws f ≡ 2
+  pub refused-unsound : header-words ≤ length ws → words-pass ws ≡ false → refusal-over ws f ≡ 2
   unfolding refusal-over on-store
-  refused-unsound fits l e = rw (le-ltb (length ws) header-words l, fails-none ws fits e)
+  refused-unsound l e = rw (le-ltb (length ws) header-words l, fails-none ws e)
 
   pub refused-said : Says ws (said ws) → refusal-over ws f ≡ f (said ws)
   refused-said h = refusal-said ws (said ws) h f
 
-  pub refused-passing : word-at ws at-book < word-limit → words-pass ws ≡ true → refusal-over ws f ≡ f (said ws)
-  refused-passing fits e = refused-said (passes-says ws fits e)
+  pub refused-passing : words-pass ws ≡ true → refusal-over ws f ≡ f (said ws)
+  refused-passing e = refused-said (passes-says ws e)
 
   -- words that are not refused say their store, and its own tests pass
   pub accepted-says : refusal-over ws f ≡ 0 → Says ws (said ws)

@@ -16,3 +16,8 @@ word-limit = 4294967296
 -- at most so many tags, marked ones counted
 abbrev pub most-tags : ℕ
 most-tags = 200000
+
+-- no sound store is higher than this: for H of 2 or more its root has at least 2 times r^(H − 1) tags, and r is at least 2
+-- (calls/specs/Promise.antt: Height-most)
+abbrev pub most-levels : ℕ
+most-levels = 17

@@ -2,10 +2,12 @@
 // what is printed of what was read is crate interpreter's.
 ghost use mathlib.Core.Path.{_≡_};
 ghost use mathlib.Core.Bool.{true};
+ghost use mathlib.Core.List.{[]};
 ghost use Prim.Native.Nat.{_≤_};
 ghost use lib.ListN.{length, take};
 ghost use Rattle.io.specs.Counts.{Counts};
-ghost use Rattle.interpreter.specs.Session.{Passed};
+ghost use Rattle.interpreter.specs.Answer.{first-words};
+ghost use Rattle.interpreter.specs.Session.{Passed, Led};
 use libc::STDIN_FILENO;
 use libc::STDOUT_FILENO;
 
@@ -15,7 +17,8 @@ struct Served {
     printed: bool,
 }
 
-// The front of a buffer, written whole.
+// The front of a buffer, written whole. That the bytes went out is what `io::write_all` says by its bool; it has no contract,
+// so that nothing is proved of it here.
 fn print(out: &[u8], count: usize) -> bool
     requires { ⌜ count ≤ length (now out) ⌝ }
 {
@@ -75,24 +78,36 @@ fn serve(
     }
 }
 
-// Piece by piece to the end of the input. How many bytes of a last line are in hand.
-fn serve_all(line: &mut [u8; 2101], words: &mut [u32], out: &mut [u8; 44064]) -> usize {
+// Piece by piece to the end of the input. How many bytes of a last line are in hand, and whether all was printed; where it
+// was, some pieces have led from the words at first to what is in hand and in the store.
+fn serve_all(line: &mut [u8; 2101], words: &mut [u32], out: &mut [u8; 44064]) -> Served
+    ensures { λ s. ⌜ (s .printed ≡ true → Led [] (now (words .entry)) (take (s .held) (now (line .exit))) (now (words .exit))) ⌝ }
+{
     let mut buffer = io::large_buffer();
     let mut held: usize = 0;
     let mut pieces = u64::MAX;
     while pieces > 0 {
         let n = read_piece(&mut buffer);
         if n == 0 {
-            return held;
+            return Served {
+                held: held,
+                printed: true,
+            };
         }
         let served = serve(&buffer[..n], line, held, words, out);
         if !served.printed {
-            return 0;
+            return Served {
+                held: 0,
+                printed: false,
+            };
         }
         held = served.held;
         pieces -= 1;
     }
-    held
+    Served {
+        held: held,
+        printed: true,
+    }
 }
 
 // The end of the input: a last line that lacks its line feed.
@@ -101,11 +116,20 @@ fn serve_last(line: &[u8; 2101], held: usize, words: &mut [u32], out: &mut [u8; 
     print(out, n);
 }
 
-// All of standard input, over a store for 2,000 tags, all words 0 at first.
+// The store that a run starts from: for 2,000 tags, all words 0.
+fn first_words() -> [u32; 12008]
+    ensures { λ ws. ⌜ ws ≡ first-words ⌝ }
+{
+    [0u32; 12008]
+}
+
+// All of standard input, over that store.
 pub fn run() {
-    let mut words = [0u32; 12008];
+    let mut words = first_words();
     let mut line = [0u8; 2101];
     let mut out = [0u8; 44064];
-    let held = serve_all(&mut line, &mut words, &mut out);
-    serve_last(&line, held, &mut words, &mut out);
+    let served = serve_all(&mut line, &mut words, &mut out);
+    if served.printed {
+        serve_last(&line, served.held, &mut words, &mut out);
+    }
 }

@@ -24,6 +24,12 @@ leaves (node g f) = leaves g ++ leaves f
 abbrev pub size : Forest → ℕ
 size f = length (leaves f)
 
+-- how many trees stand side by side in a forest
+abbrev pub trees : Forest → ℕ
+trees nil = 0
+trees (leaf x f) = suc (trees f)
+trees (node g f) = suc (trees f)
+
 -- the labels of the leaves, in book order: a node's i-th child of height j has the node's number plus i times width j
 -- (document 01: b^j), and a leaf's number is its label; a is the number of the forest's first tree
 unfoldable pub labels : Forest → (width : ℕ → ℕ) → (j a : ℕ) → List ℕ

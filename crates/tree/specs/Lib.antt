@@ -2,6 +2,7 @@ pub mod Row
 pub mod Forest
 pub mod Good
 pub mod Book
+pub mod Families
 pub mod Spelling
 pub mod Reach
 pub mod Promise

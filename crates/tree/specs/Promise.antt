@@ -2,11 +2,15 @@
 -- proof or says that it is owed. Assumes nothing.
 use mathlib.Core.Path.{_≡_}
 use mathlib.Core.Bool.{true, false}
-use mathlib.Core.List.{[], _∷_}
-use Prim.Native.Nat.{ℕ, suc, _*_, _≤_, _<_}
-use Rattle.tree.specs.Row.{member, place, all-below}
-use Rattle.tree.specs.Forest.{size}
-use Rattle.tree.specs.Book.{Book, height, tags, labels-in-order, label-of, base, inserted, split-of, moved, book-within}
+use mathlib.Core.List.{List, [], _∷_}
+use Prim.Native.Nat.{ℕ, suc, _*_, _^_, _≤_, _<_}
+use lib.ListN.{length}
+use Rattle.lists.specs.Lists.{numbers}
+use Rattle.tree.specs.Row.{member, place, insert-at, all-below}
+use Rattle.tree.specs.Forest.{leaves, size, trees, spread}
+use Rattle.tree.specs.Good.{Complete}
+use Rattle.tree.specs.Book.{Book, height, tags, labels-in-order, label-of, base, loaded, inserted, split-of, moved, book-within}
+use Rattle.tree.specs.Families.{families-of, Joins}
 use Rattle.tree.specs.Reach.{left-of, border, split-book, reach-bound}
 
 -- widths that a tree of s and r may be numbered by; the powers of b are one choice
@@ -69,3 +73,34 @@ Second-tag =
     × (split-of (suc p) (inserted p x k) ≡ 0 →
     (t : ℕ) → member t (tags k) ≡ true → Moves w (suc p) y t (inserted p x k) → Moves w p x t k)
     × (split-of (suc p) (inserted p x k) ≡ 0 → moved w k (inserted (suc p) y (inserted p x k)) ≡ moved w k (inserted p x k))
+
+-- WHAT LOAD AND SPLIT MAKE. Over s times r^j leaves: s complete r-ary trees of height j, over these leaves in order
+pub record Split-made (s r j : ℕ) (row : List ℕ) : Type 0 where
+  pub complete : Complete r (spread j r row) j
+  pub many : trees (spread j r row) ≡ s
+  pub over : leaves (spread j r row) ≡ row
+
+unfoldable pub Splits-complete : Type 0
+Splits-complete = (s r j : ℕ) (row : List ℕ) → 1 ≤ s → 2 ≤ r → length row ≡ s * r ^ j → Split-made s r j row
+
+-- H of a load: the smallest height of at least 1 with n < 2 times r^H
+pub record Smallest (r n height : ℕ) : Type 0 where
+  pub one : 1 ≤ height
+  pub fits : n < 2 * r ^ height
+  pub least : (i : ℕ) → 1 ≤ i → n < 2 * r ^ i → height ≤ i
+
+unfoldable pub Load-smallest : Type 0
+Load-smallest = (s r n : ℕ) → 2 ≤ r → Smallest r n (height (loaded s r n))
+
+-- the tags of a loaded book are 0 to n − 1 in order, and those of an insertion the old ones with the new one at its place
+unfoldable pub Load-tags : Type 0
+Load-tags = (s r n : ℕ) → 2 ≤ r → tags (loaded s r n) ≡ numbers 0 n
+
+unfoldable pub Insertion-tags : Type 0
+Insertion-tags = (p x : ℕ) (k : Book) → Sane k → p ≤ size (k .root) → tags (inserted p x k) ≡ insert-at p (x ∷ []) (tags k)
+
+-- and where no node is split, the new leaf has the parent of the tag at its place: at the front the first tag's, in an empty
+-- book the root
+unfoldable pub Insertion-family : Type 0
+Insertion-family =
+    (p x : ℕ) (k : Book) → Sane k → p ≤ size (k .root) → split-of p k ≡ 0 → Joins p x (families-of k) (families-of (inserted p x k))

@@ -16,12 +16,7 @@ use Rattle.tree.specs.Forest.{Forest, nil, leaf, node, leaves, size, labels, jo
 use Rattle.tree.specs.Book.{height, labels-of, base, power-width, root-within, book-within}
 use Rattle.tree.specs.Promise.{Widths, Labels-rise}
 use Rattle.tree_laws.proofs.Good.{good-of}
-
--- how many trees a forest has
-abbrev pub trees : Forest → ℕ
-trees nil = 0
-trees (leaf x f) = suc (trees f)
-trees (node g f) = suc (trees f)
+pub use Rattle.tree.specs.Forest.{trees}
 
 -- the end of the first of suc n trees and n more is the end of them all
 pub next-end : (a v n : ℕ) → a + v + n * v ≡ a + suc n * v

@@ -16,3 +16,5 @@ pub mod Reach
 pub mod Second
 pub mod Account
 pub mod Both
+pub mod Made
+pub mod Families

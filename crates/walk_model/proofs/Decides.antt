@@ -4,9 +4,7 @@ use mathlib.Core.Path.{_≡_, refl, sym, _∙_}
 use mathlib.Core.Bool.{true, false, true≢false}
 use mathlib.Core.List.{List}
 use mathlib.Core.Option.{Option, none, some}
-use Prim.Native.Nat.{ℕ, _<_}
-use Rattle.store_types.specs.Limits.{word-limit}
-use Rattle.store_types.specs.Layout.{at-book, word-at}
+use Prim.Native.Nat.{ℕ}
 use Rattle.calls.specs.Store.{Store}
 use Rattle.calls.specs.Words.{Says, read}
 use Rattle.calls.specs.Replies.{said}
@@ -17,11 +15,10 @@ use Rattle.walk_model.specs.Walk.{words-pass}
 use Rattle.walk_model.specs.Promise.{Walk-right}
 use Rattle.walk_model.proofs.WalkRight.{walk-right}
 
--- a book number is a word, as all that a slice of words holds
-module _ (ws : List ℕ) (fits : word-at ws at-book < word-limit) where
+module _ (ws : List ℕ) where
   pub passes-says : words-pass ws ≡ true → Says ws (said ws)
   unfolding Walk-right
-  passes-says e = let st = walk-right ws fits .0 e in rw (said-store ws (st .0) (st .1)) (st .1)
+  passes-says e = let st = walk-right ws .0 e in rw (said-store ws (st .0) (st .1)) (st .1)
 
   pub fails-none : words-pass ws ≡ false → read ws ≡ none
   unfolding Walk-right Reader-right
@@ -29,4 +26,4 @@ module _ (ws : List ℕ) (fits : word-at ws at-book < word-limit) where
     where
       go : (o : Option Store) → read ws ≡ o → o ≡ none
       go none q = refl
-      go (some st) q = absurd (true≢false (sym (walk-right ws fits .1 (st, reader-right ws st .0 q)) ∙ e))
+      go (some st) q = absurd (true≢false (sym (walk-right ws .1 (st, reader-right ws st .0 q)) ∙ e))

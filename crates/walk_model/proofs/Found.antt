@@ -8,7 +8,7 @@ use native.Mathlib.Omega.{arith}
 use borrow.Author.Tests.{leb-true, leb-false, eqb-true, lt-ltb}
 use lib.Dec.{leb, eqb}
 use lib.ListN.{getD, length-map}
-use Rattle.store_types.specs.Limits.{no-tag, word-limit, most-tags}
+use Rattle.store_types.specs.Limits.{no-tag, most-tags}
 use Rattle.lists.proofs.Tests.{and-left, and-right, and-both, by-test, fails}
 use Rattle.store_types.specs.Layout.{at-first, at-book, at-stamp, at-kind, word-at, field, label-at}
 use Rattle.lists.specs.Lists.{numbers}
@@ -163,9 +163,9 @@ module _ {s r u n : ℕ} (ws : List ℕ) (h : Header ws s r u n) (f : Forest) (g
       and-both (rw (← long) at root) (test-of s r f u good)
 
   -- it is sound, and these are its words
-  found-sound : word-at ws at-book < word-limit → word-at ws at-stamp ≤ n + total (mark-word ws) (leaves f) → Sound st
+  found-sound : word-at ws at-stamp ≤ n + total (mark-word ws) (leaves f) → Sound st
   unfolding found
-  found-sound number stamp =
+  found-sound stamp =
       let few : count st ≤ most-tags = omega (arith, issued, h .few) in
       let tags : (x : ℕ) → member x (leaves f) ≡ true → x < count st = λ x m. omega (arith, issued, below x m) in
       let as-many = long ∙ sym issued in
@@ -177,10 +177,9 @@ module _ {s r u n : ℕ} (ws : List ℕ) (h : Header ws s r u n) (f : Forest) (g
         as-many = as-many;
         each = rw issued each;
         nesting = sym (kinds-same ws st few says (leaves f) tags) ∙ rw issued kinds;
-        number-fits = number;
         stamp-fits = omega (arith, issued, marks-same ws st says (leaves f) distinct tags as-many);
       }
 
-  pub found-said : word-at ws at-book < word-limit → word-at ws at-stamp ≤ n + total (mark-word ws) (leaves f) → Says ws st
+  pub found-said : word-at ws at-stamp ≤ n + total (mark-word ws) (leaves f) → Says ws st
   unfolding Says
-  found-said number stamp = (sound-of st (found-sound number stamp), (_, rebuilt ws st says header-is (rw issued (h .room))))
+  found-said stamp = (sound-of st (found-sound stamp), (_, rebuilt ws st says header-is (rw issued (h .room))))

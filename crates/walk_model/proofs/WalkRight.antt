@@ -1,27 +1,25 @@
 -- The walk decides whether words say a store, if labels decide whether a tree has them (Levels-right).
 -- Assumes nothing more.
 use mathlib.Core.Path.{_≡_, refl, ap, sym, _∙_}
-use mathlib.Core.Bool.{true, _&&_, _||_}
+use mathlib.Core.Bool.{true}
 use mathlib.Core.List.{List, map}
 use mathlib.Core.Logic.{_↔_}
 use Prim.Native.Nat.{ℕ, zero, suc, pred, _*_, _^_, _≤_, _<_}
 use native.Mathlib.Nat.{one-le-pow}
 use native.Mathlib.Omega.{arith}
-use borrow.Author.Tests.{ltb-true, leb-true, ne-eqb}
-use lib.Dec.{ltb, leb, eqb}
+use borrow.Author.Tests.{leb-true, ne-eqb}
 use lib.ListN.{length, length-map}
-use Rattle.store_types.specs.Limits.{word-limit}
 use Rattle.lists.proofs.Tests.{and-left, and-right, and-both}
-use Rattle.store_types.specs.Layout.{at-s, at-r, at-height, at-count, at-first, at-book, at-next, word-at, field, label-at}
+use Rattle.store_types.specs.Layout.{at-s, at-r, at-height, at-count, at-first, at-next, word-at, field, label-at}
 use Rattle.tree.specs.Good.{Good}
-use Rattle.tree.specs.Forest.{Forest, leaves, size, labels, within-limits}
-use Rattle.tree.specs.Book.{power-width, height, root-within, book-within}
+use Rattle.tree.specs.Forest.{Forest, leaves, labels, within-limits}
+use Rattle.tree.specs.Book.{power-width, root-within, book-within}
 use Rattle.tree_laws.proofs.Good.{good-of}
 use Rattle.tree_laws.proofs.Rows.{distinct-all-below}
 use Rattle.tree_laws.proofs.Labels.{power-widths}
 use Rattle.calls.specs.Store.{Store, count, row}
 use Rattle.calls.specs.Words.{Says, follow}
-use Rattle.calls_laws.proofs.Tests.{Sound, facts-of}
+use Rattle.calls_laws.proofs.Tests.{Sound, root-limits, facts-of}
 use Rattle.calls_laws.proofs.Fields.{Tag-says, tag-says}
 use Rattle.calls_laws.proofs.WordSteps.{words-fit, header-said, labels-said}
 use Rattle.walk_model.specs.Levels.{start-levels, labels-pass}
@@ -56,9 +54,9 @@ length-follow zero ws x = refl
 length-follow (suc n) ws x = ap suc (length-follow n ws (field ws x at-next))
 
 -- WORDS THAT PASS say a store
-passed-said : Levels-right → (ws : List ℕ) → word-at ws at-book < word-limit → words-pass ws ≡ true → (st : Store) × Says ws st
+passed-said : Levels-right → (ws : List ℕ) → words-pass ws ≡ true → (st : Store) × Says ws st
 unfolding words-pass shape-of start start-levels
-passed-said levels ws number e =
+passed-said levels ws e =
     let rest = walk ws (shape-of ws) (word-at ws at-count) 0 (start ws) in
     let h = header-facts ws (and-left (header-passes ws) rest e) in
     let w = walked ws (shape-of ws) (word-at ws at-count) 0 (start ws) (omega arith) (and-right (header-passes ws) rest e) in
@@ -66,7 +64,7 @@ passed-said levels ws number e =
     let long = length-follow (word-at ws at-count) ws (word-at ws at-first) in
     let (f, good, same, labels-are) = row-labels levels h xs long .0 (w .labels) in (
       found ws (word-at ws at-s) (word-at ws at-r) (pred (word-at ws at-height)) (word-at ws at-count) f,
-      found-said ws h f good (ap length same ∙ long) (rw same (w .links)) (rw same labels-are) (rw same (w .kinds)) number (rw same (omega (arith, w .stamp))),
+      found-said ws h f good (ap length same ∙ long) (rw same (w .links)) (rw same labels-are) (rw same (w .kinds)) (rw same (omega (arith, w .stamp))),
     )
 
 -- WORDS THAT SAY A STORE pass
@@ -81,13 +79,8 @@ module _ (ws : List ℕ) (st : Store) (h : Says ws st) where
 
   -- its header's facts, its tree's limits, and the passes along its row
   pub facts : Header ws (st .book .s) (st .book .r) (st .book .under) (count st)
-  unfolding book-within root-within
   facts =
-      let k = st .book in
       let head = header-said ws st h in
-      let below = ltb (size (k .root)) (k .s * k .r ^ height k) in
-      let least = eqb (k .under) 0 || leb (2 * k .r ^ k .under) (size (k .root)) in
-      let root = and-left (below && least) (within-limits (k .root) (k .s) (k .r) (k .under)) (given .within) in
       record {
         version = head .version;
         degree-s = head .degree-s;
@@ -98,8 +91,8 @@ module _ (ws : List ℕ) (st : Store) (h : Says ws st) where
         few = given .few;
         room = words-fit ws st h;
         labels-fit = given .labels-fit;
-        below = rw (← given .as-many) (ltb-true _ _ (and-left below least root));
-        least = rw (← given .as-many) (and-right below least root);
+        below = root-limits given .0;
+        least = root-limits given .1;
       }
 
   pub good : Good (st .book .s) (st .book .r) (st .book .root) (st .book .under)
@@ -135,7 +128,7 @@ module _ (ws : List ℕ) (st : Store) (h : Says ws st) where
 -- words pass if and only if they say a store
 pub walk-right-from : Levels-right → Walk-right
 unfolding Walk-right
-walk-right-from levels ws number = (passed-said levels ws number, λ h. said-passes ws (h .0) (h .1) levels)
+walk-right-from levels ws = (passed-said levels ws, λ h. said-passes ws (h .0) (h .1) levels)
 
 pub walk-right : Walk-right
 walk-right = walk-right-from levels-right

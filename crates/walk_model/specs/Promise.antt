@@ -5,8 +5,6 @@ use mathlib.Core.List.{List}
 use mathlib.Core.Logic.{_↔_}
 use Prim.Native.Nat.{ℕ, suc, _*_, _^_, _≤_, _<_}
 use lib.ListN.{length}
-use Rattle.store_types.specs.Limits.{word-limit}
-use Rattle.store_types.specs.Layout.{at-book, word-at}
 use Rattle.tree.specs.Good.{Good}
 use Rattle.tree.specs.Forest.{Forest, leaves, labels}
 use Rattle.tree.specs.Promise.{Widths}
@@ -30,6 +28,6 @@ Levels-right =
     length xs ≡ length ls → length ls < s * r ^ suc under → ((under ≡ 0 → ⊥) → 1 ≤ length ls) →
     (labels-pass t under 0 0 (start-levels t) ls ≡ true) ↔ ((f : Forest) × Good s r f under × (leaves f ≡ xs) × (labels f w under 0 ≡ ls))
 
--- words pass if and only if they say a store; the book number is a word, as all that a slice of words holds
+-- words pass if and only if they say a store
 unfoldable pub Walk-right : Type 0
-Walk-right = (ws : List ℕ) → word-at ws at-book < word-limit → (words-pass ws ≡ true) ↔ ((st : Store) × Says ws st)
+Walk-right = (ws : List ℕ) → (words-pass ws ≡ true) ↔ ((st : Store) × Says ws st)

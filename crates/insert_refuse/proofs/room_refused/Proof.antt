@@ -23,7 +23,7 @@ add-all : tie.Need-add-all
 add-all c = omega (arith, fits (c .before .before))
 
 returns : tie.Need-returns
-returns c = let start = c .before .before .before in room-many _ (start .pre .0) _ (start .pre .1) (c .if1 .taken)
+returns c = let start = c .before .before .before in room-many _ (start .pre .0) _ (c .if1 .taken)
 
 cast-if2 : tie.Need-cast-if2
 cast-if2 c = search needs
@@ -35,7 +35,7 @@ add-if2 : tie.Need-add-if2
 add-if2 c = search needs
 
 returns-2 : tie.Need-returns-2
-returns-2 c = let start = c .before .before .before .before in room-short _ (start .pre .0) _ (start .pre .1) (c .before .if1 .left) (c .if2 .taken)
+returns-2 c = let start = c .before .before .before .before in room-short _ (start .pre .0) _ (c .before .if1 .left) (c .if2 .taken)
 
 shared-slice-read-s : tie.Need-shared-slice-read-s
 shared-slice-read-s c = search needs
@@ -74,7 +74,7 @@ returns-3 : tie.Need-returns-3
 returns-3 c =
     let tests = c .before .before .before .before .before in
     let start = tests .before .before .before .before in
-    room-below _ (start .pre .0) _ (start .pre .1) (tests .before .if1 .left) (tests .if2 .left) (rw (last-power _ _ _ (c .before .table .ensures)) at (c .if3 .taken))
+    room-below _ (start .pre .0) _ (tests .before .if1 .left) (tests .if2 .left) (rw (last-power _ _ _ (c .before .table .ensures)) at (c .if3 .taken))
 
 mul-power-fits : tie.Need-mul-power-fits
 mul-power-fits c = omega (arith, fits (c .before .before .before .before .before .before .before .before .before))
@@ -92,14 +92,14 @@ returns-4 : tie.Need-returns-4
 returns-4 c =
     let tests = c .before .before .before .before .before .before .before in
     let start = tests .before .before .before .before in
-    room-fits _ (start .pre .0) _ (start .pre .1) (tests .before .if1 .left) (tests .if2 .left) (c .before .power-fits .ensures) (c .if4 .taken)
+    room-fits _ (start .pre .0) _ (tests .before .if1 .left) (tests .if2 .left) (c .before .power-fits .ensures) (c .if4 .taken)
 
 returns-5 : tie.Need-returns-5
 returns-5 c =
     let limit = c .before .before in
     let tests = limit .before .before .before .before .before in
     let start = tests .before .before .before .before in
-    room-none _ (start .pre .0) _ (start .pre .1) (tests .before .if1 .left) (tests .if2 .left) (c .before .power-fits .ensures) (c .if4 .left)
+    room-none _ (start .pre .0) _ (tests .before .if1 .left) (tests .if2 .left) (c .before .power-fits .ensures) (c .if4 .left)
     (rw (last-power _ _ _ (limit .before .table .ensures)) at (limit .if3 .left))
 
 pub room-refused-spec : {M : Type 1} → statement M

@@ -15,13 +15,13 @@ sound-at-requires c κs = search needs
 
 returns-2 : tie.Need-returns-2
 returns-2 c = (
-  sym (refused-unsound _ _ (c .before .before .before .before .shared-slice-known .given 6 .fits) (c .before .before .before .if1 .left) (sym (c .before .sound-at .ensures .0) ∙ not-true _ (c .if2 .taken))),
+  sym (refused-unsound _ _ (c .before .before .before .if1 .left) (sym (c .before .sound-at .ensures .0) ∙ not-true _ (c .if2 .taken))),
   λ zero. absurd (omega (arith, zero)),
 )
 
 returns-3 : tie.Need-returns-3
 returns-3 c = (
-  sym (refused-passing _ _ (c .before .before .before .before .shared-slice-known .given 6 .fits) (sym (c .before .sound-at .ensures .0) ∙ not-false _ (c .if2 .left))),
+  sym (refused-passing _ _ (sym (c .before .sound-at .ensures .0) ∙ not-false _ (c .if2 .left))),
   λ _. c .before .sound-at .ensures .1 (not-false _ (c .if2 .left)),
 )
 

@@ -1,12 +1,21 @@
--- `terminal::serve_all` is safe and ends. The measure is the number of pieces left. Assumes nothing.
+-- `terminal::serve_all` meets its contract: the pieces so far, with any that follow, have led from the words at first. The
+-- measure is the number of pieces left. Assumes nothing.
 use mathlib.Core.Path.{_≡_}
-use lib.ListN.{length}
+use mathlib.Core.List.{List, [], _∷_}
+use Prim.Native.Nat.{ℕ}
+use native.Mathlib.Omega.{arith}
+use lib.ListN.{length, take}
 use borrow.Author.Needs.{needs}
+use borrow.Author.Tests.{not-false}
+use Rattle.interpreter.specs.Session.{Went, none, onward, Led}
 use Rattle.terminal.proofs.serve_all.Statement.{statement}
 use Rattle.terminal.proofs.serve_all.Tie as tie
 
 abbrev Inv-loop : tie.InvT-loop
-Inv-loop line₀ words₀ out₀ buffer₀ held₀ pieces₀ line words out buffer held pieces = (length words ≡ length words₀) × (65536 ≡ length buffer)
+Inv-loop line₀ words₀ out₀ buffer₀ held₀ pieces₀ line words out buffer held pieces =
+    (length words ≡ length words₀)
+    × (65536 ≡ length buffer)
+    × ((ps : List (List ℕ)) (a b : List ℕ) → Went (take held line) words ps a b → Led [] words₀ a b)
 
 abbrev μ-loop : tie.MeasureT-loop
 μ-loop line₀ words₀ out₀ buffer₀ held₀ pieces₀ line words out buffer held pieces = pieces
@@ -15,7 +24,7 @@ large-buffer-requires : tie.Need-large-buffer-requires Inv-loop μ-loop
 large-buffer-requires c κs = search needs
 
 loop-holds : tie.Need-loop-holds Inv-loop μ-loop
-loop-holds c = search needs
+loop-holds c = (search needs, search needs, λ ps a b x. record { pieces = ps; went = x })
 
 slice-aggregate-read-piece : tie.Need-slice-aggregate-read-piece Inv-loop μ-loop
 slice-aggregate-read-piece c = search needs
@@ -27,7 +36,7 @@ same-length : tie.Need-same-length Inv-loop μ-loop
 same-length c = search needs
 
 returns : tie.Need-returns Inv-loop μ-loop
-returns c = search needs
+returns c e = c .before .before .before .before .before .loop .inv .2 [] _ _ none
 
 array-share-prefix-buffer : tie.Need-array-share-prefix-buffer Inv-loop μ-loop
 array-share-prefix-buffer c = search needs
@@ -42,7 +51,7 @@ same-length-2 : tie.Need-same-length-2 Inv-loop μ-loop
 same-length-2 c = search needs
 
 returns-2 : tie.Need-returns-2 Inv-loop μ-loop
-returns-2 c = search needs
+returns-2 c e = absurd (let z : _≡_ {A = ℕ} 0 1 = cc in omega arith)
 
 sub-pieces : tie.Need-sub-pieces Inv-loop μ-loop
 sub-pieces c = search needs
@@ -51,13 +60,19 @@ loop-less : tie.Need-loop-less Inv-loop μ-loop
 loop-less c = search needs
 
 loop-again : tie.Need-loop-again Inv-loop μ-loop
-loop-again c = search needs
+loop-again c =
+    let call = c .before .before .before .before in
+    let turn = call .before .before .before .before .before .before .before .before .before .before in (
+      search needs,
+      search needs,
+      λ ps a b x. turn .loop .inv .2 (_ ∷ ps) a b (onward (call .serve .ensures (not-false _ (c .if2 .left))) x),
+    )
 
 same-length-3 : tie.Need-same-length-3 Inv-loop μ-loop
 same-length-3 c = search needs
 
 returns-3 : tie.Need-returns-3 Inv-loop μ-loop
-returns-3 c = search needs
+returns-3 c e = c .before .loop .inv .2 [] _ _ none
 
 pub serve-all-spec : {M : Type 1} → statement M
 serve-all-spec =

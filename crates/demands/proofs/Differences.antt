@@ -1,0 +1,176 @@
+-- Moved and marked are differences of words: how many tags have another label word, how many kind words became marked
+-- ones. Assumes nothing.
+use mathlib.Core.Path.{_≡_, refl, ap, sym, _∙_}
+use mathlib.Core.Bool.{Bool, true, false, _&&_, _||_, not, cond}
+use mathlib.Core.List.{List, [], _∷_}
+use Prim.Native.Nat.{ℕ, zero, suc, _+_, _≤_, _<_}
+use native.Mathlib.Nat.{zero-add}
+use native.Mathlib.Omega.{arith}
+use lib.Dec.{leb, eqb}
+use lib.ListN.{length, getD, length-append, List·getD-append}
+use Rattle.store_types.specs.declared.InsertReply.the-variants.{Inserted}
+use Rattle.store_types.specs.declared.MarkReply.the-variants.{Marked}
+use Rattle.lists.proofs.Tests.{by-test}
+use Rattle.store_types.specs.Layout.{label-at}
+use Rattle.lists.specs.Lists.{numbers}
+use Rattle.lists.proofs.Numbers.{length-numbers}
+use Rattle.tree.specs.Row.{member}
+use Rattle.tree.specs.Book.{Book, tags, label-of, moved-among, moved}
+use Rattle.tree_laws.proofs.Rows.{member-numbers}
+use Rattle.calls.specs.Kind.{kind-word}
+use Rattle.calls.specs.Store.{Store, Fact, no-fact, fact, count, row, width, label}
+use Rattle.calls.specs.Nesting.{new-facts}
+use Rattle.calls.specs.Insert.{insert-kinds, position, up-at, book-after, insert-store, insert-moved, insert-refusal}
+use Rattle.calls.specs.Mark.{within, mark-facts, mark-store, new-marks, mark-count, section-refusal}
+use Rattle.calls.specs.Words.{words-of, Says}
+use Rattle.calls.specs.Replies.{said, refusal-over, written, insert-outcome, insert-refused, insert-reply, insert-words, mark-outcome, mark-reply, mark-words}
+use Rattle.calls.specs.Calls.{insert, mark, refusal, changed}
+use Rattle.calls_laws.proofs.Reader.{kind-back}
+use Rattle.calls_laws.proofs.Sections.{distinct-row, row-below}
+use Rattle.calls_laws.proofs.Inserts.{row-degrees}
+use Rattle.calls_laws.proofs.Marks.{length-marked, alike-marked, mark-of}
+use Rattle.calls_laws.proofs.Steps.{changed-sound}
+use Rattle.calls_laws.proofs.WordSteps.{refusal-passed, header-said, says-in-front}
+use Rattle.walk_model.proofs.Passes.{total}
+use Rattle.walk_model.proofs.Counts.{total-same}
+use Rattle.demands.specs.Words.{is-marked, count-below, labels-changed, became-marked}
+use Rattle.demands.specs.Promise.{Moved-right, Marked-right}
+use Rattle.demands.proofs.Said.{sound-said, tag-said}
+
+-- COUNTING. The last number of a row of numbers
+total-last : (g : ℕ → ℕ) (x n : ℕ) → total g (numbers x (suc n)) ≡ g (x + n) + total g (numbers x n)
+unfolding numbers
+total-last g x zero = let same : x + 0 ≡ x = omega arith in rw same
+total-last g x (suc n) =
+    let same : x + suc n ≡ suc x + n = omega arith in
+    rw same (omega (arith, total-last g (suc x) n))
+
+-- numbers of tags added up from 0 on are a count
+pub count-total : (g : ℕ → ℕ) (p : ℕ → Bool) (n : ℕ) → ((x : ℕ) → x < n → g x ≡ cond (p x) 1 0) → total g (numbers 0 n) ≡ count-below n p
+unfolding count-below numbers
+count-total g p zero each = refl
+count-total g p (suc n) each =
+    total-last g 0 n ∙ rw (zero-add, each n (omega arith), count-total g p n (λ x l. each x (omega arith)))
+
+-- MOVED
+other : Bool → ℕ
+other e = cond e 0 1
+
+other-not : (e : Bool) → other e ≡ cond (not e) 1 0
+unfolding other
+other-not true = refl
+other-not false = refl
+
+moved-total : (w : ℕ → ℕ) (k m : Book) (xs : List ℕ) → length (moved-among w xs k m) ≡ total (λ x. other (eqb (label-of w k x) (label-of w m x))) xs
+unfolding moved-among other
+moved-total w k m [] = refl
+moved-total w k m (x ∷ xs) =
+    by-test (eqb (label-of w k x) (label-of w m x)) (λ e. rw e (omega (arith, moved-total w k m xs))) (λ e. rw e (omega (arith, moved-total w k m xs)))
+
+-- a reply that says so is that of an accepted insertion
+inserted-said : (k x m h x′ m′ h′ : ℕ) → insert-outcome k x m h ≡ Inserted (record { 0 = x′ }) m′ h′ → (k ≡ 0) × (m ≡ m′)
+unfolding insert-outcome
+inserted-said zero x m h x′ m′ h′ e = (refl, cc)
+inserted-said (suc k) x m h x′ m′ h′ e = let z : _≡_ {A = ℕ} 0 1 = cc in absurd (omega arith)
+
+module _ (c y : ℕ) (ws : List ℕ) (z : insert-refused c y ws ≡ 0) where
+  abbrev st : Store
+  st = said ws
+
+  abbrev su : Store
+  su = insert-store (insert-kinds c) y st
+
+  says : Says ws st
+  unfolding insert-refused
+  says = refusal-passed ws (insert-refusal (length ws) c y) z .0
+
+  says-after : Says (insert-words c y ws) su
+  unfolding insert-words written refusal changed Says insert-refused
+  says-after =
+      let fine = refusal-passed ws (insert-refusal (length ws) c y) z .1 in
+      rw z (says-in-front ws su (changed-sound (length ws) (insert c y) st (says .0) fine))
+
+  still : (x : ℕ) → x < count st → x < count su
+  unfolding insert-store
+  still x l = omega (arith, length-append (st .facts) (new-facts (up-at y st) [] (count st) (insert-kinds c)))
+
+  -- s and r stay, so the widths do
+  label-after : (x : ℕ) → label su x ≡ label-of (width st) (book-after (insert-kinds c) y st) x
+  unfolding insert-store book-after
+  label-after x = let d = row-degrees (length (insert-kinds c)) (position y st) (count st) (st .book) in rw (d .0, d .1)
+
+  moved-words : insert-moved (insert-kinds c) y st ≡ labels-changed ws (insert-words c y ws)
+  unfolding insert-moved moved labels-changed label-at
+  moved-words =
+      let after = book-after (insert-kinds c) y st in
+      let g : ℕ → ℕ = λ x. other (eqb (label-of (width st) (st .book) x) (label-of (width st) after x)) in
+      let own = sound-said ws st says in
+      moved-total (width st) (st .book) after (row st)
+      ∙ (total-same g (row st) (numbers 0 (count st)) (distinct-row own)
+      (λ v m. member-numbers v 0 (count st) (omega arith) (omega (arith, row-below own v m))) (omega (arith, length-numbers 0 (count st), own .as-many))
+      ∙ rw (header-said ws st says .issued)
+      (count-total g _ (count st)
+      (λ x l. rw (tag-said ws st says x l .label-word, tag-said (insert-words c y ws) su says-after x (still x l) .label-word, label-after x)
+      (other-not (eqb (label-of (width st) (st .book) x) (label-of (width st) after x))))))
+
+pub moved-right : Moved-right
+unfolding Moved-right insert-reply
+moved-right c y x m h ws e =
+    let (z, same) = inserted-said (insert-refused c y ws) _ _ _ x m h e in sym same ∙ moved-words c y ws z
+
+-- MARKED
+marked-said : (k n n′ : ℕ) → mark-outcome k n ≡ Marked n′ → (k ≡ 0) × (n ≡ n′)
+unfolding mark-outcome
+marked-said zero n n′ e = (refl, cc)
+marked-said (suc k) n n′ e = let z : _≡_ {A = ℕ} 0 1 = cc in absurd (omega arith)
+
+new-total : (st : Store) (x d : ℕ) (ts : List Fact) (g : ℕ → ℕ) →
+    ((i : ℕ) → i < length ts → g (d + i) ≡ cond (not (getD ts i no-fact .marked) && within st x (d + i)) 1 0) → new-marks st x d ts ≡ total g (numbers d (length ts))
+unfolding new-marks numbers
+new-total st x d [] g each = refl
+new-total st x d (t ∷ ts) g each =
+    let first : d + 0 ≡ d = omega arith in
+    let own : g d ≡ cond (not (t .marked) && within st x d) 1 0 = rw first at (each 0 (omega arith)) in
+    rw (own, new-total st x (suc d) ts g (λ i l. let same : suc d + i ≡ d + suc i = omega arith in rw same (each (suc i) (omega arith))))
+
+became : (a b : Bool) → (not a && (a || b)) ≡ (not a && b)
+became true b = refl
+became false b = refl
+
+module _ (x : ℕ) (ws : List ℕ) (z : refusal-over ws (section-refusal x) ≡ 0) where
+  abbrev before : Store
+  before = said ws
+
+  abbrev after : Store
+  after = mark-store x before
+
+  said-before : Says ws before
+  said-before = refusal-passed ws (section-refusal x) z .0
+
+  said-after : Says (mark-words x ws) after
+  unfolding mark-words written refusal changed Says
+  said-after =
+      let fine = refusal-passed ws (section-refusal x) z .1 in
+      rw z (says-in-front ws after (changed-sound (length ws) (mark x) before (said-before .0) fine))
+
+  marked-tag : (i : ℕ) → i < count before → (is-marked ws i ≡ fact before i .marked) × (is-marked (mark-words x ws) i ≡ (fact before i .marked || within before x i))
+  unfolding is-marked mark-store
+  marked-tag i l =
+      let many : i < count after = omega (arith, length-marked before x 0 (before .facts)) in (
+        rw (tag-said ws before said-before i l .kind-is) (kind-back (fact before i .kind) (fact before i .marked) .1),
+        rw (tag-said (mark-words x ws) after said-after i many .kind-is)
+            (kind-back (fact after i .kind) (fact after i .marked) .1 ∙ rw zero-add at (mark-of before x 0 (before .facts) i l)),
+      )
+
+  marked-words : mark-count x before ≡ became-marked ws (mark-words x ws)
+  unfolding mark-count became-marked
+  marked-words =
+      let p : ℕ → Bool = λ i. not (is-marked ws i) && is-marked (mark-words x ws) i in
+      let g : ℕ → ℕ = λ i. cond (p i) 1 0 in
+      new-total before x 0 (before .facts) g
+      (λ i l. rw (zero-add, marked-tag i l .0, marked-tag i l .1, became (fact before i .marked) (within before x i)))
+      ∙ rw (header-said ws before said-before .issued) (count-total g p (count before) (λ i l. refl))
+
+pub marked-right : Marked-right
+unfolding Marked-right mark-reply
+marked-right x n ws e = let (z, same) = marked-said (refusal-over ws (section-refusal x)) _ n e in sym same ∙ marked-words x ws z

@@ -1,0 +1,162 @@
+-- Demand 1 over any words: what each of the six calls leaves. Assumes nothing.
+use mathlib.Core.Path.{_≡_, refl, ap, sym, _∙_}
+use mathlib.Core.Bool.{Bool, true, false, _||_, not, cond, true≢false}
+use mathlib.Core.List.{List}
+use Prim.Native.Nat.{ℕ, zero, suc, _≤_}
+use native.Mathlib.Omega.{arith}
+use borrow.Author.Tests.{ltb-false}
+use lib.Dec.{ltb, leb, eqb, eqb·suc-zero}
+use lib.ListN.{length, drop, length-map}
+use lib.Seq.{take-append-seam, drop-append-seam}
+use Rattle.store_types.specs.Limits.{no-tag}
+use Rattle.store_types.specs.declared.ListReply.{ListReply}
+use Rattle.lists.proofs.Tests.{by-test, or-left-false, or-right-false}
+use Rattle.calls.specs.Kind.{is-begin}
+use Rattle.calls.specs.Store.{Store, fact, count, label}
+use Rattle.calls.specs.Sound.{sound}
+use Rattle.calls.specs.Load.{load-refusal, load-store}
+use Rattle.calls.specs.Insert.{insert-kinds, insert-refusal, insert-store}
+use Rattle.calls.specs.Mark.{section-refusal, mark-store}
+use Rattle.calls.specs.Listing.{listed-tags, listed-labels, list-refusal}
+use Rattle.calls.specs.Words.{words-of, Says, in-front}
+use Rattle.calls.specs.Replies.{said, refusal-over, written, load-reply, load-words, insert-refused, insert-reply, insert-words, mark-reply, mark-words, list-outcome, list-refused, list-reply, list-tags, list-labels}
+use Rattle.calls.specs.Calls.{Call, load, insert, mark, refusal, changed, Event, loads, inserts, marks, holds, asks, lists, Happens, load-accepted, insert-accepted, mark-accepted}
+use Rattle.calls.specs.Promise.{Load-sound}
+use Rattle.calls_laws.proofs.Tests.{passes}
+use Rattle.calls_laws.proofs.Steps.{load-sound, changed-sound}
+use Rattle.calls_laws.proofs.WordSteps.{words-fit, refusal-passed, length-in-front}
+use Rattle.calls_laws.proofs.RunsKeep.{load-fits, changed-fits, load-told, insert-told, mark-told}
+use Rattle.demands.specs.Words.{Fronted}
+use Rattle.demands.specs.Promise.{listed, accepted, changes, Lists-stay, Lists-hold, Call-right, Every-call}
+
+-- A RESULT IN FRONT, where it fits
+fronted : (new old : List ℕ) → length new ≤ length old → Fronted new old (in-front new old)
+unfolding in-front
+fronted new old l =
+    record {
+      as-many = length-in-front new old l;
+      front = take-append-seam new (drop (length new) old);
+      past = drop-append-seam new (drop (length new) old);
+    }
+
+-- what is written by a call with refusal k that `yes` tells of
+module _ (k : ℕ) (yes : Bool) (told : yes ≡ eqb k 0) (new old : List ℕ) where
+  written-stays : yes ≡ false → written k new old ≡ old
+  unfolding written
+  written-stays e = go k (sym told ∙ e)
+    where
+      go : (j : ℕ) → eqb j 0 ≡ false → written j new old ≡ old
+      go zero f = absurd (true≢false f)
+      go (suc j) f = refl
+
+  zero-told : yes ≡ true → k ≡ 0
+  zero-told e = go k (sym told ∙ e)
+    where
+      go : (j : ℕ) → eqb j 0 ≡ true → j ≡ 0
+      go zero f = refl
+      go (suc j) f = absurd (true≢false (sym f ∙ eqb·suc-zero j))
+
+  written-fronted : (k ≡ 0 → length new ≤ length old) → yes ≡ true → Fronted new old (written k new old)
+  unfolding written
+  written-fronted fits e = let z = zero-told e in rw z (fronted new old (fits z))
+
+-- THE CALLS THAT CHANGE
+load-right : (s r b : ℕ) (cs ws : List ℕ) → load-refusal (length ws) s r cs ≡ 0 → (sound (load-store s r b cs) ≡ true) × (length (words-of (load-store s r b cs)) ≤ length ws)
+unfolding Load-sound
+load-right s r b cs ws z = let good = load-sound (length ws) s r b cs z in (good, load-fits (length ws) s r b cs z good)
+
+-- insert and mark: on the store that the words say
+change-right : (c : Call) (ws : List ℕ) → refusal-over ws (refusal (length ws) c) ≡ 0 →
+    (sound (changed c (said ws)) ≡ true) × (length (words-of (changed c (said ws))) ≤ length ws)
+unfolding Says
+change-right c ws z =
+    let (says, fine) = refusal-passed ws (refusal (length ws) c) z in
+    let good = changed-sound (length ws) c (said ws) (says .0) fine in
+    (good, changed-fits (length ws) c (said ws) (says .0) (words-fit ws (said ws) says) fine good)
+
+-- LIST
+list-told : (k n : ℕ) → listed (list-outcome k n) ≡ eqb k 0
+unfolding listed list-outcome
+list-told zero n = refl
+list-told (suc k) n = sym (eqb·suc-zero k)
+
+-- an accepted list fits both lent lists
+list-fits : (t l x : ℕ) (st : Store) → list-refusal t l x st ≡ 0 → (length (listed-tags x st) ≤ t) × (length (listed-tags x st) ≤ l)
+unfolding list-refusal
+list-fits t l x st z = by-test (eqb x no-tag) (λ e. lengths (rw e at z)) (λ e. lengths (inner (rw e at z)))
+  where
+    n : ℕ
+    n = length (listed-tags x st)
+
+    short : ℕ
+    short = cond (ltb t n || ltb l n) 11 0
+
+    refused : ℕ
+    refused = cond (leb (count st) x) 8 (cond (fact st x .marked) 9 (cond (not (is-begin (fact st x .kind))) 10 short))
+
+    inner : refused ≡ 0 → short ≡ 0
+    inner e =
+        let a = passes (leb (count st) x) 7 _ e in
+        let b = passes (fact st x .marked) 8 _ (a .1) in
+        passes (not (is-begin (fact st x .kind))) 9 _ (b .1) .1
+
+    lengths : short ≡ 0 → (n ≤ t) × (n ≤ l)
+    lengths e =
+        let f = passes (ltb t n || ltb l n) 10 0 e .0 in
+        (ltb-false t n (or-left-false (ltb t n) (ltb l n) f), ltb-false l n (or-right-false (ltb t n) (ltb l n) f))
+
+-- EVERY CALL
+pub every-call : Every-call
+unfolding Every-call Happens accepted changes Lists-stay Lists-hold load-reply load-words insert-reply insert-words insert-refused mark-reply mark-words list-reply list-tags list-labels list-refused listed-labels refusal changed
+every-call (loads s r b cs q) ws vs (reply, new) =
+    let k = load-refusal (length ws) s r cs in
+    let told = ap load-accepted reply ∙ load-told k _ _ in
+    let st = load-store s r b cs in
+    record {
+      refused = λ e. (new ∙ written-stays k (load-accepted q) told (words-of st) ws e, tt);
+      changed = λ e _. let z = zero-told k (load-accepted q) told (words-of st) ws e in
+          (st, load-right s r b cs ws z .0, rw new (written-fronted k (load-accepted q) told (words-of st) ws (λ z. load-right s r b cs ws z .1) e));
+      reads = λ e. absurd (true≢false e);
+      writes-lists = λ _. tt;
+    }
+every-call (inserts c y q) ws vs (reply, new) =
+    let k = refusal-over ws (insert-refusal (length ws) c y) in
+    let told = ap insert-accepted reply ∙ insert-told k _ _ _ in
+    let st = insert-store (insert-kinds c) y (said ws) in
+    record {
+      refused = λ e. (new ∙ written-stays k (insert-accepted q) told (words-of st) ws e, tt);
+      changed = λ e _. let z = zero-told k (insert-accepted q) told (words-of st) ws e in
+          (st, change-right (insert c y) ws z .0, rw new (written-fronted k (insert-accepted q) told (words-of st) ws (λ z. change-right (insert c y) ws z .1) e));
+      reads = λ e. absurd (true≢false e);
+      writes-lists = λ _. tt;
+    }
+every-call (marks x q) ws vs (reply, new) =
+    let k = refusal-over ws (section-refusal x) in
+    let told = ap mark-accepted reply ∙ mark-told k _ in
+    let st = mark-store x (said ws) in
+    record {
+      refused = λ e. (new ∙ written-stays k (mark-accepted q) told (words-of st) ws e, tt);
+      changed = λ e _. let z = zero-told k (mark-accepted q) told (words-of st) ws e in
+          (st, change-right (mark x) ws z .0, rw new (written-fronted k (mark-accepted q) told (words-of st) ws (λ z. change-right (mark x) ws z .1) e));
+      reads = λ e. absurd (true≢false e);
+      writes-lists = λ _. tt;
+    }
+every-call (holds x q) ws vs (reply, same) =
+    record { refused = λ _. (same, tt); changed = λ _ e. absurd (true≢false (sym e)); reads = λ _. same; writes-lists = λ _. tt }
+every-call (asks p d q) ws vs (reply, same) =
+    record { refused = λ _. (same, tt); changed = λ _ e. absurd (true≢false (sym e)); reads = λ _. same; writes-lists = λ _. tt }
+every-call (lists x ts ls us ms q) ws vs (reply, tags, labels, same) =
+    let k = refusal-over ws (list-refusal (length ts) (length ls) x) in
+    let told = ap listed reply ∙ list-told k _ in
+    let new = listed-tags x (said ws) in
+    let fits : k ≡ 0 → (length new ≤ length ts) × (length new ≤ length ls) =
+    λ z. list-fits (length ts) (length ls) x (said ws) (refusal-passed ws (list-refusal (length ts) (length ls) x) z .1) in
+    record {
+      refused = λ e. (same, (tags ∙ written-stays k (listed q) told new ts e, labels ∙ written-stays k (listed q) told (listed-labels x (said ws)) ls e));
+      changed = λ _ e. absurd (true≢false (sym e));
+      reads = λ _. same;
+      writes-lists = λ e. (
+        rw tags (written-fronted k (listed q) told new ts (λ z. fits z .0) e),
+        rw labels (written-fronted k (listed q) told (listed-labels x (said ws)) ls (λ z. omega (arith, fits z .1, length-map new (label (said ws)))) e),
+      );
+    }

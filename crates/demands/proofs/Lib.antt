@@ -1,0 +1,13 @@
+pub mod Said
+pub mod EveryCall
+pub mod Differences
+pub mod Runs
+pub mod Places
+pub mod Asked
+pub mod Listed
+pub mod Quotients
+pub mod Ancestors
+pub mod Digits
+pub mod Stacks
+pub mod SoundWords
+pub mod Specimens

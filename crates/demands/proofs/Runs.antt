@@ -1,0 +1,85 @@
+-- Demand 3 along next: the words after every run have the reference list's row along next and prior, and N in word 4; and
+-- every list of calls is a run. Assumes nothing.
+use mathlib.Core.Path.{_≡_, refl, ap, sym, _∙_}
+use mathlib.Core.Bool.{cond}
+use mathlib.Core.List.{List, [], _∷_, map}
+use Prim.Native.Nat.{ℕ, _+_}
+use native.Mathlib.Omega.{arith}
+use lib.ListN.{length}
+use Rattle.lists.proofs.Tests.{by-test}
+use Rattle.lists.specs.Lists.{numbers}
+use Rattle.lists.proofs.Numbers.{length-numbers}
+use Rattle.tree.specs.Row.{insert-at}
+use Rattle.tree_laws.proofs.Rows.{length-insert}
+use Rattle.calls.specs.Insert.{insert-kinds}
+use Rattle.calls.specs.Load.{load-store}
+use Rattle.calls.specs.Replies.{load-reply, load-words, insert-reply, insert-words, mark-reply, mark-words, hold-reply, question-reply, list-reply, list-tags, list-labels}
+use Rattle.calls.specs.Calls.{Call, load, insert, mark, after, calls-of, Event, loads, inserts, marks, holds, asks, lists, Happens, Run, Told, told}
+use Rattle.calls.specs.Reference.{Reference, total, reference-load, reference-position, reference-insert, reference-call, reference-told, reference-after}
+use Rattle.calls.specs.Promise.{Runs-keep}
+use Rattle.calls_laws.proofs.RunsKeep.{runs-keep}
+use Rattle.demands.specs.Promise.{Row-kept, Runs-along, Request, request, Runs-exist}
+use Rattle.demands.specs.Promise as ask
+use Rattle.demands.proofs.Said.{book-row}
+
+-- N IS THE LIST'S LENGTH, after every call
+total-call : (c : Call) (a : Reference) → total a ≡ length (a .row) → total (reference-call c a) ≡ length (reference-call c a .row)
+unfolding reference-call reference-load reference-insert
+total-call (load s r b cs) a e = omega (arith, length-numbers 0 (length cs))
+total-call (insert c y) a e =
+    let n = length (a .row) in
+    let k = length (insert-kinds c) in
+    omega (arith, length-insert (reference-position y (a .row)) (numbers n k) (a .row), length-numbers n k)
+total-call (mark x) a e = e
+
+total-after : (ts : List Told) (a : Reference) → total a ≡ length (a .row) → total (reference-after ts a) ≡ length (reference-after ts a .row)
+unfolding reference-after reference-told
+total-after [] a e = e
+total-after (t ∷ ts) a e =
+    total-after ts (reference-told t a) (by-test (t .accepted) (λ q. rw q (total-call (t .call) a e)) (λ q. rw q e))
+
+pub runs-along : Runs-along
+unfolding Runs-along Runs-keep reference-load
+runs-along s r b n h ks old ws end es first run =
+    let whole = runs-keep s r b n h ks old ws end es first run in
+    let st = after (length old) (calls-of es) (load-store s r b ks) in
+    record {
+      along = rw (← whole .kept .tags) (book-row end st (whole .words .says));
+      issued =
+          total-after (told es) (reference-load s r (length ks)) (omega (arith, length-numbers 0 (length ks)))
+          ∙ sym (whole .words .tags);
+    }
+
+-- EVERY LIST OF CALLS is a run: each call's event, and the words after it
+event : List ℕ → Request → Event
+event ws (ask.load s r b cs) = loads s r b cs (load-reply s r b cs ws)
+event ws (ask.insert c y) = inserts c y (insert-reply c y ws)
+event ws (ask.mark x) = marks x (mark-reply x ws)
+event ws (ask.hold x) = holds x (hold-reply x ws)
+event ws (ask.ask p d) = asks p d (question-reply p d ws)
+event ws (ask.list x ts ls) = lists x ts ls (list-tags x ws ts ls) (list-labels x ws ts ls) (list-reply x ws ts ls)
+
+then : List ℕ → Request → List ℕ
+then ws (ask.load s r b cs) = load-words s r b cs ws
+then ws (ask.insert c y) = insert-words c y ws
+then ws (ask.mark x) = mark-words x ws
+then ws (ask.hold x) = ws
+then ws (ask.ask p d) = ws
+then ws (ask.list x ts ls) = ws
+
+happens : (ws : List ℕ) (q : Request) → Happens (event ws q) ws (then ws q) × (request (event ws q) ≡ q)
+unfolding Happens request event then
+happens ws (ask.load s r b cs) = ((refl, refl), refl)
+happens ws (ask.insert c y) = ((refl, refl), refl)
+happens ws (ask.mark x) = ((refl, refl), refl)
+happens ws (ask.hold x) = ((refl, refl), refl)
+happens ws (ask.ask p d) = ((refl, refl), refl)
+happens ws (ask.list x ts ls) = ((refl, refl, refl, refl), refl)
+
+pub runs-exist : Runs-exist
+unfolding Runs-exist Run
+runs-exist ws [] = ([], ws, refl, refl)
+runs-exist ws (q ∷ qs) =
+    let here = happens ws q in
+    let rest = runs-exist (then ws q) qs in
+    (event ws q ∷ rest .0, rest .1, rw (here .1, rest .2), (then ws q, here .0, rest .3))
