@@ -1,30 +1,31 @@
 -- The pass (walk_model's Walk): one turn of its loop from what the calls answer, what a turn keeps, and its end. Assumes nothing.
 use mathlib.Core.Path.{_≡_, refl, sym, _∙_}
-use mathlib.Core.Bool.{Bool, true, false, _&&_, not, cond, false≢true, and-false, and-eq-true-iff}
-use mathlib.Core.Logic.{by-cases}
+use mathlib.Core.Bool.{Bool, true, false, _&&_, _||_, not, cond, false≢true, and-false, and-eq-true-iff}
+use mathlib.Core.Logic.{⊎-elim, by-cases}
 use mathlib.Core.List.{List}
-use Prim.Native.Nat.{ℕ, zero, suc, _+_, _-_, _%_, _≤_, _<_}
+use Prim.Native.Nat.{ℕ, zero, suc, _+_, _*_, _-_, _%_, _≤_, _<_}
 use native.Mathlib.Nat.{sub-zero}
 use native.Mathlib.Numerals.{add-one}
 use native.Mathlib.Decide.{ℕ-discrete}
 use native.Mathlib.Omega.{arith}
-use borrow.Author.Tests.{eq-eqb, ne-eqb, lt-ltb, le-ltb, ltb-true, not-true, not-false}
-use lib.Dec.{leb, eqb}
-use lib.ListN.{getD, replicate}
-use Rattle.store_types.specs.Limits.{no-tag}
+use borrow.Author.Tests.{eq-eqb, ne-eqb, lt-ltb, le-ltb, lt-leb, ltb-true, eqb-true, not-true, not-false}
+use lib.Dec.{ltb, leb, eqb}
+use lib.ListN.{length, getD, replicate}
+use Rattle.store_types.specs.Limits.{no-tag, label-limit}
 use Rattle.store_types.specs.Layout.{at-first, at-stamp, at-up, at-kind, word-at, field, label-at}
+use Rattle.words.specs.Offsets.{offset-of}
+use Rattle.words.proofs.Offsets.{offset-beyond}
 use Rattle.walk_model.specs.Levels.{Levels, closes, all-close}
 use Rattle.walk_model.specs.Walk.{State, end-fits, kind-fits, open-after, placed, tag-passes, passed, ends-well, walk}
-use Rattle.walk_model.specs.Watch.{place-sizes, close-sizes, walk-sizes}
-use Rattle.walk_tags.specs.Needs.{Open-reads, Reads, fits-at, marks-at}
-use Rattle.walk_tags.proofs.TagLaws.{fits-small}
-use Rattle.walk_levels.specs.Needs.{entry-limit, tables-of, levels-of, place-from, close-from}
-use Rattle.walk.specs.Needs.{Pass-fits, Behind, ends-from, shape-with, state-with, start-with}
+use Rattle.walk_model.specs.Watch.{place-sizes, settle-sizes, close-sizes, walk-sizes}
+use Rattle.walk_tags.specs.Needs.{Open, none, begin, Tag-reads, fits-at, marks-at}
+use Rattle.walk_tags.proofs.TagLaws.{kind-fitting, begin-of, open-cases}
+use Rattle.walk_tags.proofs.TestLaws.{fits-small, inner-up}
+use Rattle.walk_levels.specs.Needs.{widths-in, lows-in, highs-in, numbers-in, tables-of, levels-of, settle-from, place-from, close-from, expected-label}
+use Rattle.walk_levels.proofs.LevelLaws.{place-waited, place-settled}
+use Rattle.walk_levels.proofs.SizeLaws.{place-sizes-waited, place-sizes-settled}
+use Rattle.walk.specs.Needs.{Pass-fits, Standing, Behind, ends-from, label-passes, shape-with, shape-in, next-label, state-with, start-with}
 use Rattle.walk.specs.declared.State as code
-
--- WHAT THE CALLS ASK
-pub open-reads : {ws w l h ns : List ℕ} {n u o : ℕ} → Pass-fits ws n u w l h ns → ((o ≡ no-tag → ⊥) → o < n) → Open-reads ws n o
-open-reads a q = record { records = a .records; open-below = q }
 
 -- BEHIND THE LAST TAG
 module _ (ws : List ℕ) (n u : ℕ) (l h f : List ℕ) (x o m : ℕ) {t : Bool} where
@@ -50,117 +51,166 @@ unfolding all-close closes tables-of levels-of
 close-same w l h e f zero j i = refl
 close-same w l h e f (suc k) j i = rw (close-same w l h e f k (suc j) i)
 
-module _ (ws w l h e f : List ℕ) (n u : ℕ) (v : code.State) where
-  ends-same : ends-from ws n u l h f (v .tag .0) (v .parent .0) (v .marks) ≡ ends-well ws (shape-with w l h u n) (state-with v e f)
+module _ (ws t e f : List ℕ) (n u : ℕ) (v : code.State) where
+  ends-same : ends-from ws n u (lows-in t) (highs-in t) f (v .tag .0) (v .parent .0) (v .marks) ≡ ends-well ws (shape-in t u n) (state-with ws v e f)
   unfolding ends-from ends-well shape-with state-with close-from
-  ends-same = rw (close-same w l h e f u 1 n)
+  ends-same = rw (close-same (widths-in t) (lows-in t) (highs-in t) e f u 1 n)
 
--- ONE TAG, at its place
-module _ (ws w l h : List ℕ) (n u : ℕ) (v : code.State) (e f : List ℕ) where
-  abbrev pub tag-at : Bool
-  tag-at = tag-passes ws (shape-with w l h u n) (v .place) (state-with v e f)
+-- ONE TAG'S LABEL, at its place
+module _ (ws t : List ℕ) (n u : ℕ) (v : code.State) (e f : List ℕ) where
+  abbrev pub label-here : Bool
+  label-here = label-passes ws (shape-in t u n) (v .place) (state-with ws v e f)
 
   abbrev pub levels-at : Levels
-  levels-at = placed ws (shape-with w l h u n) (v .place) (state-with v e f) .levels
+  levels-at = placed ws (shape-in t u n) (v .place) (state-with ws v e f) .levels
 
-  pub tag-beyond : n ≤ v .tag .0 → false ≡ tag-at
-  unfolding tag-passes shape-with state-with
-  tag-beyond r = rw (le-ltb (v .tag .0) n r)
+  abbrev pub sizes-here : (sizes : List ℕ) → List ℕ
+  sizes-here sz = place-sizes (widths-in t) (numbers-in t) u (next-label ws (v .prior .0)) (label-at ws (v .tag .0)) (v .place) (levels-of e f) sz
 
-  module _ {lab : ℕ} (label : lab ≡ label-at ws (v .tag .0)) where
-    pub placed-by : (e′ f′ : List ℕ) → levels-of e′ f′ ≡ place-from w l h u (v .expect) lab (v .place) e f .levels → levels-of e′ f′ ≡ levels-at
-    unfolding placed place-from shape-with state-with
-    placed-by e′ f′ c = rw (levels-at, ← label) c
+  pub label-beyond : n ≤ v .tag .0 → false ≡ label-here
+  unfolding label-passes shape-with state-with
+  label-beyond r = rw (le-ltb (v .tag .0) n r)
 
-    module _ {t : Bool} (place : t ≡ place-from w l h u (v .expect) lab (v .place) e f .ok) where
-      pub tag-misplaced : not t ≡ true → false ≡ tag-at
-      unfolding tag-passes placed place-from shape-with state-with
-      tag-misplaced r = simp (← label, sym place ∙ not-true _ r, and-false)
+  placed-by : {o : Bool} {z : Levels} → v .tag .0 < n →
+      (o ≡ place-from t u (next-label ws (v .prior .0)) (label-at ws (v .tag .0)) (v .place) e f .ok) × (z ≡ place-from t u (next-label ws (v .prior .0)) (label-at ws (v .tag .0)) (v .place) e f .levels) →
+      (o ≡ label-here) × (z ≡ levels-at)
+  unfolding label-passes placed place-from shape-with state-with
+  placed-by below c = (rw (lt-ltb (v .tag .0) n below) (c .0), c .1)
 
-      pub tag-decides : {s : Bool} → v .tag .0 < n → not t ≡ false → s ≡ fits-at ws n (v .parent .0) (v .tag .0) (v .prior .0) → s ≡ tag-at
-      unfolding tag-passes placed place-from shape-with state-with fits-at
-      tag-decides below r fits = rw (lt-ltb (v .tag .0) n below, ← label, sym place ∙ not-false _ r) fits
+  module _ (stands : Standing ws n e v) {lab : ℕ} (label : lab ≡ label-at ws (v .tag .0)) (small : lab < label-limit) (below : v .tag .0 < n) where
+    small-label : label-at ws (v .tag .0) < label-limit
+    small-label = omega (arith, label, small)
 
-pub sizes-by : (ws : List ℕ) (x : ℕ) {lab : ℕ} → lab ≡ label-at ws x → (w ns : List ℕ) (u q i : ℕ) (e f sz : List ℕ) {sz′ : List ℕ} →
-    sz′ ≡ place-sizes w ns u q lab i (levels-of e f) sz → sz′ ≡ place-sizes w ns u q (label-at ws x) i (levels-of e f) sz
-sizes-by ws x label w ns u q i e f sz c = rw (← label) c
+    -- the label that is waited for
+    pub label-waited : (sz : List ℕ) → lab ≡ v .expect → ((true ≡ label-here) × (levels-of e f ≡ levels-at)) × (sz ≡ sizes-here sz)
+    label-waited sz p =
+        let q : label-at ws (v .tag .0) ≡ v .expect = sym label ∙ p in
+        (placed-by below (place-waited t u _ _ (v .place) e f (stands .waits) small-label q), place-sizes-waited _ _ u _ _ (v .place) e f sz (stands .waits) small-label q)
+
+    -- another
+    module _ (other : lab ≡ v .expect → ⊥) where
+      not-waited : label-at ws (v .tag .0) ≡ v .expect → ⊥
+      not-waited q = other (label ∙ q)
+
+      pub label-settled : {o : Bool} {z : Levels} → o ≡ settle-from t u lab (v .place) e f .ok → z ≡ settle-from t u lab (v .place) e f .levels → (o ≡ label-here) × (z ≡ levels-at)
+      label-settled a b = placed-by below (place-settled t u _ _ (v .place) e f (stands .waits) small-label (rw (← label) a, rw (← label) b) not-waited)
+
+      pub sizes-settled : (sz : List ℕ) {sz′ : List ℕ} → sz′ ≡ settle-sizes (widths-in t) (numbers-in t) u 1 lab (v .place) (levels-of e f) sz → sz′ ≡ sizes-here sz
+      sizes-settled sz a = place-sizes-settled _ _ u _ _ (v .place) e f sz (stands .waits) small-label (rw (← label) a) not-waited
+
+  -- THE WHOLE TAG
+  abbrev pub tag-at : Bool
+  tag-at = tag-passes ws (shape-in t u n) (v .place) (state-with ws v e f)
+
+  pub tag-joined : {a b : Bool} → a ≡ label-here → b ≡ fits-at ws n (v .parent .0) (v .tag .0) (v .prior .0) → (a && b) ≡ tag-at
+  unfolding tag-passes label-passes fits-at shape-with state-with
+  tag-joined p q = rw (p, q)
+
+  pub label-below : {a : Bool} → a ≡ label-here → not a ≡ false → v .tag .0 < n
+  unfolding label-passes shape-with state-with
+  label-below p q = let all = simp and-eq-true-iff at (sym p ∙ not-false _ q) in ltb-true (v .tag .0) n (all .0)
 
 -- behind it
-module _ (ws w l h : List ℕ) (n u : ℕ) (v q : code.State) (e f e′ f′ : List ℕ) where
-  passed-by : levels-of e′ f′ ≡ levels-at ws w l h n u v e f → Behind ws (getD w 0 0) v q → state-with q e′ f′ ≡ passed ws (shape-with w l h u n) (v .place) (state-with v e f)
+module _ (ws t : List ℕ) (n u : ℕ) (v q : code.State) (e f e′ f′ : List ℕ) (fits : Pass-fits ws n u t) (below : v .tag .0 < n) where
+  next-behind : next-label ws (v .tag .0) ≡ label-at ws (v .tag .0) + 1
+  unfolding next-label
+  next-behind = rw (ne-eqb (v .tag .0) no-tag (λ z. omega (arith, fits .records .few)))
+
+  passed-by : levels-of e′ f′ ≡ levels-at ws t n u v e f → {end : ℕ} → Behind ws end v q → state-with ws q e′ f′ ≡ passed ws (shape-in t u n) (v .place) (state-with ws v e f)
   unfolding passed state-with shape-with tables-of marks-at
-  passed-by c b = rw (b .tag, b .prior, b .parent, b .marks, b .expect, c)
+  passed-by c b = rw (b .tag, b .prior, b .parent, b .marks, next-behind, fits .unit, c)
 
 -- THE WALK FROM A TAG ON: what is left comes to the whole
-module _ (ws w l h : List ℕ) (n u : ℕ) where
+module _ (ws t : List ℕ) (n u : ℕ) where
   abbrev pub walk-at : code.State → (ends firsts : List ℕ) → Bool
-  walk-at v e f = walk ws (shape-with w l h u n) (n - v .place) (v .place) (state-with v e f)
+  walk-at v e f = walk ws (shape-in t u n) (n - v .place) (v .place) (state-with ws v e f)
 
   abbrev pub walk-whole : Bool
-  walk-whole = walk ws (shape-with w l h u n) n 0 (start-with ws w)
+  walk-whole = walk ws (shape-in t u n) n 0 (start-with ws (widths-in t))
 
   -- and so do the sizes of the watched nodes
-  abbrev pub sizes-at-tag : (numbers : List ℕ) → code.State → (ends firsts sizes : List ℕ) → List ℕ
-  sizes-at-tag ns v e f sz = walk-sizes ws (shape-with w l h u n) ns (n - v .place) (v .place) (state-with v e f) sz
+  abbrev pub sizes-at-tag : code.State → (ends firsts sizes : List ℕ) → List ℕ
+  sizes-at-tag v e f sz = walk-sizes ws (shape-in t u n) (numbers-in t) (n - v .place) (v .place) (state-with ws v e f) sz
 
-  abbrev pub sizes-whole : (numbers sizes : List ℕ) → List ℕ
-  sizes-whole ns sz = walk-sizes ws (shape-with w l h u n) ns n 0 (start-with ws w) sz
+  abbrev pub sizes-whole : (sizes : List ℕ) → List ℕ
+  sizes-whole sz = walk-sizes ws (shape-in t u n) (numbers-in t) n 0 (start-with ws (widths-in t)) sz
 
-  abbrev first-state : code.State
-  first-state =
-      record { place = 0; tag = record { 0 = word-at ws at-first }; prior = record { 0 = no-tag }; parent = record { 0 = no-tag }; marks = 0; expect = 0 }
+  abbrev first-state : (at : ℕ) → code.State
+  first-state p =
+      record { place = 0; tag = record { 0 = word-at ws at-first }; at = record { 0 = p }; prior = record { 0 = no-tag }; parent = record { 0 = no-tag }; marks = 0; expect = 0 }
 
-  pub walk-start : walk-at first-state w (replicate 24 0) ≡ walk-whole
-  unfolding state-with start-with
-  walk-start = rw (sub-zero n)
+  pub walk-start : (p : ℕ) {w : List ℕ} → w ≡ widths-in t → walk-at (first-state p) w (replicate 24 0) ≡ walk-whole
+  unfolding state-with start-with next-label
+  walk-start p e = rw (sub-zero n, e)
+
+  pub sizes-start : (p : ℕ) {w : List ℕ} → w ≡ widths-in t → (sz : List ℕ) → sizes-at-tag (first-state p) w (replicate 24 0) sz ≡ sizes-whole sz
+  unfolding state-with start-with next-label
+  sizes-start p e sz = rw (sub-zero n, e)
+
+  pub standing-start : {p : ℕ} {w : List ℕ} → Pass-fits ws n u t → w ≡ widths-in t → p ≡ offset-of (word-at ws at-first) → Standing ws n w (first-state p)
+  unfolding next-label expected-label
+  standing-start fits e q =
+      record { there = q; waits = rw (e, lt-ltb 0 (getD (widths-in t) 1 0) (fits .wide)); around = none; marks-few = omega arith }
+
+  -- a first tag whose record would begin behind the words
+  pub walk-outside : {p : ℕ} → Pass-fits ws n u t → p ≡ offset-of (word-at ws at-first) → 0 < n → length ws ≤ p → false ≡ walk-whole
+  unfolding walk tag-passes start-with shape-with
+  walk-outside fits q some far =
+      let z : n ≡ suc (n - 1) = omega arith in
+      let beyond : n ≤ word-at ws at-first = offset-beyond (fits .records) q far in
+      rw (z, ← z, le-ltb (word-at ws at-first) n beyond)
 
   module _ (v : code.State) (e f : List ℕ) (inv : walk-at v e f ≡ walk-whole) where
-    pub walk-end : {t : Bool} → n ≤ v .place → t ≡ ends-from ws n u l h f (v .tag .0) (v .parent .0) (v .marks) → t ≡ walk-whole
+    pub walk-end : {a : Bool} → n ≤ v .place → a ≡ ends-from ws n u (lows-in t) (highs-in t) f (v .tag .0) (v .parent .0) (v .marks) → a ≡ walk-whole
     unfolding walk
-    walk-end r s = let z : n - v .place ≡ 0 = omega arith in s ∙ ends-same ws w l h e f n u v ∙ (rw z at inv)
+    walk-end r s = let z : n - v .place ≡ 0 = omega arith in s ∙ ends-same ws t e f n u v ∙ (rw z at inv)
 
-    module _ {t : Bool} (more : v .place < n) (one : t ≡ tag-at ws w l h n u v e f) where
-      walk-turn : (t && walk ws (shape-with w l h u n) (n - (v .place + 1)) (v .place + 1) (passed ws (shape-with w l h u n) (v .place) (state-with v e f))) ≡ walk-whole
+    module _ {a : Bool} (more : v .place < n) (one : a ≡ label-here ws t n u v e f) where
+      walk-turn : {b : Bool} → b ≡ fits-at ws n (v .parent .0) (v .tag .0) (v .prior .0) →
+          ((a && b) && walk ws (shape-in t u n) (n - (v .place + 1)) (v .place + 1) (passed ws (shape-in t u n) (v .place) (state-with ws v e f))) ≡ walk-whole
       unfolding walk
-      walk-turn = let z : n - v .place ≡ suc (n - (v .place + 1)) = omega arith in rw (z, ← add-one (v .place), ← one) at inv
+      walk-turn two =
+          let z : n - v .place ≡ suc (n - (v .place + 1)) = omega arith in
+          rw (tag-joined ws t n u v e f one two) (rw (z, ← add-one (v .place)) at inv)
 
-      pub walk-refused : not t ≡ true → false ≡ walk-whole
-      walk-refused r = rw (not-true t r) at walk-turn
+      pub walk-misplaced : not a ≡ true → false ≡ walk-whole
+      walk-misplaced r = rw (not-true a r) at (walk-turn refl)
 
-      pub walk-more : (q : code.State) (e′ f′ : List ℕ) → not t ≡ false → levels-of e′ f′ ≡ levels-at ws w l h n u v e f → Behind ws (getD w 0 0) v q → walk-at q e′ f′ ≡ walk-whole
-      walk-more q e′ f′ r c b = rw (passed-by ws w l h n u v q e f e′ f′ c b, b .place) (rw (not-false t r) at walk-turn)
+      module _ {b : Bool} (r : not a ≡ false) (two : b ≡ fits-at ws n (v .parent .0) (v .tag .0) (v .prior .0)) where
+        pub walk-refused : not b ≡ true → false ≡ walk-whole
+        walk-refused s = rw (not-false a r, not-true b s) at (walk-turn two)
+
+        pub walk-more : (q : code.State) (e′ f′ : List ℕ) {end : ℕ} → Pass-fits ws n u t → not b ≡ false → levels-of e′ f′ ≡ levels-at ws t n u v e f → Behind ws end v q → walk-at q e′ f′ ≡ walk-whole
+        walk-more q e′ f′ fits s c d =
+            rw (passed-by ws t n u v q e f e′ f′ fits (label-below ws t n u v e f one r) c d, d .place)
+            (rw (not-false a r, not-false b s) at (walk-turn two))
 
   -- THE SIZES
-  turn-by : (ns sz : List ℕ) (k : ℕ) (v : code.State) (e f : List ℕ) →
-      walk-sizes ws (shape-with w l h u n) ns (suc k) (v .place) (state-with v e f) sz
-      ≡ walk-sizes ws (shape-with w l h u n) ns k (suc (v .place)) (passed ws (shape-with w l h u n) (v .place) (state-with v e f)) (place-sizes w ns u (v .expect) (label-at ws (v .tag .0)) (v .place) (levels-of e f) sz)
+  turn-by : (sz : List ℕ) (k : ℕ) (v : code.State) (e f : List ℕ) →
+      walk-sizes ws (shape-in t u n) (numbers-in t) (suc k) (v .place) (state-with ws v e f) sz
+      ≡ walk-sizes ws (shape-in t u n) (numbers-in t) k (suc (v .place)) (passed ws (shape-in t u n) (v .place) (state-with ws v e f)) (sizes-here ws t n u v e f sz)
   unfolding walk-sizes shape-with tables-of state-with
-  turn-by ns sz k v e f = refl
+  turn-by sz k v e f = refl
 
-  module _ (ns sz : List ℕ) where
-    pub sizes-start : sizes-at-tag ns first-state w (replicate 24 0) sz ≡ sizes-whole ns sz
-    unfolding state-with start-with
-    sizes-start = rw (sub-zero n)
+  module _ (sz : List ℕ) (v : code.State) (e f : List ℕ) {whole : List ℕ} (inv : sizes-at-tag v e f sz ≡ whole) where
+    pub sizes-end : {sz′ : List ℕ} → n ≤ v .place → sz′ ≡ close-sizes (widths-in t) (numbers-in t) u 1 n (levels-of e f) sz → sz′ ≡ whole
+    unfolding walk-sizes shape-with tables-of state-with
+    sizes-end r s = let z : n - v .place ≡ 0 = omega arith in s ∙ (rw z at inv)
 
-    module _ (v : code.State) (e f : List ℕ) {whole : List ℕ} (inv : sizes-at-tag ns v e f sz ≡ whole) where
-      pub sizes-end : {sz′ : List ℕ} → n ≤ v .place → sz′ ≡ close-sizes w ns u 1 n (levels-of e f) sz → sz′ ≡ whole
-      unfolding walk-sizes shape-with tables-of state-with
-      sizes-end r s = let z : n - v .place ≡ 0 = omega arith in s ∙ (rw z at inv)
-
-      pub sizes-more : (q : code.State) (e′ f′ : List ℕ) {sz′ : List ℕ} → v .place < n → levels-of e′ f′ ≡ levels-at ws w l h n u v e f → Behind ws (getD w 0 0) v q →
-          sz′ ≡ place-sizes w ns u (v .expect) (label-at ws (v .tag .0)) (v .place) (levels-of e f) sz → sizes-at-tag ns q e′ f′ sz′ ≡ whole
-      sizes-more q e′ f′ more c b s =
-          let z : n - v .place ≡ suc (n - (v .place + 1)) = omega arith in
-          rw (passed-by ws w l h n u v q e f e′ f′ c b, s, b .place) (rw (z, turn-by, ← add-one (v .place)) at inv)
+    pub sizes-more : (q : code.State) (e′ f′ : List ℕ) {sz′ : List ℕ} {end : ℕ} → Pass-fits ws n u t → v .tag .0 < n → v .place < n → levels-of e′ f′ ≡ levels-at ws t n u v e f → Behind ws end v q →
+        sz′ ≡ sizes-here ws t n u v e f sz → sizes-at-tag q e′ f′ sz′ ≡ whole
+    sizes-more q e′ f′ fits below more c d s =
+        let z : n - v .place ≡ suc (n - (v .place + 1)) = omega arith in
+        rw (passed-by ws t n u v q e f e′ f′ fits below c d, s, d .place) (rw (z, turn-by, ← add-one (v .place)) at inv)
 
 -- WHAT A TURN KEEPS
 at-most-one : (t : Bool) → cond t 1 0 ≤ 1
 at-most-one true = omega arith
 at-most-one false = omega arith
 
-pub marks-kept : (ws : List ℕ) (width : ℕ) {v q : code.State} → Behind ws width v q → v .marks ≤ v .place → q .marks ≤ q .place
+marks-kept : (ws : List ℕ) {end : ℕ} {v q : code.State} → Behind ws end v q → v .marks ≤ v .place → q .marks ≤ q .place
 unfolding marks-at
-marks-kept ws width {v} b p = rw (b .marks, b .place) (omega (arith, at-most-one (leb 16 (field ws (v .tag .0) at-kind))))
+marks-kept ws {v = v} b p = rw (b .marks, b .place) (omega (arith, at-most-one (leb 16 (field ws (v .tag .0) at-kind))))
 
 last-test : (a b c : Bool) → cond a false (cond b c false) ≡ true → c ≡ true
 last-test true b c e = absurd (false≢true e)
@@ -168,35 +218,49 @@ last-test false true c e = e
 last-test false false c e = absurd (false≢true e)
 
 module _ (ws : List ℕ) (n o x : ℕ) where
-  -- the up of an end that fits is no tag or a tag
-  end-kept : (c : ℕ) → end-fits ws n o x c ≡ true → (field ws x at-up ≡ no-tag → ⊥) → field ws x at-up < n
+  -- an end that fits has an open begin, and its up
+  end-up : (c : ℕ) → end-fits ws n o x c ≡ true → (o ≡ no-tag → ⊥) × (field ws x at-up ≡ field ws o at-up)
   unfolding end-fits
-  end-kept c e p =
-      let tag = simp and-eq-true-iff at e in ltb-true (field ws x at-up) n (rw (ne-eqb (field ws x at-up) no-tag p) at (tag .1 .1))
+  end-up c e =
+      let all = simp and-eq-true-iff at e in
+      ((λ z. false≢true (rw (eq-eqb o no-tag z) at (all .0 .0))), eqb-true (field ws x at-up) (field ws o at-up) (all .1 .0 .0))
 
-  -- and so is what is open behind any tag that fits
-  open-fits : (c : ℕ) → x < n → ((o ≡ no-tag → ⊥) → o < n) → kind-fits ws n o x c ≡ true → (open-after ws o x c ≡ no-tag → ⊥) → open-after ws o x c < n
+  -- the begins that are open behind any tag that fits
+  open-kept : x < n → Open ws n o → kind-fits ws n o x (field ws x at-kind) ≡ true → Open ws n (open-after ws o x (field ws x at-kind))
   unfolding kind-fits open-after
-  open-fits c p q e =
-      by-cases (ℕ-discrete (c % 16) 3) (λ text. rw (eq-eqb (c % 16) 3 text) q)
-      (λ no-text. by-cases (ℕ-discrete (c % 16) 1) (λ begin. rw (ne-eqb (c % 16) 3 no-text, eq-eqb (c % 16) 1 begin) (λ _. p))
+  open-kept below around e =
+      let c = field ws x at-kind in
+      let kind = kind-fitting ws n o x c e in
+      by-cases (ℕ-discrete (c % 16) 3) (λ text. rw (eq-eqb (c % 16) 3 text) around)
+      (λ no-text. by-cases (ℕ-discrete (c % 16) 1)
+      (λ one. rw (ne-eqb (c % 16) 3 no-text, eq-eqb (c % 16) 1 one)
+      (begin below (begin-of c kind one) (rw (inner-up ws n o x c e (λ z. omega arith)) around)))
       (λ no-begin. rw (ne-eqb (c % 16) 3 no-text, ne-eqb (c % 16) 1 no-begin)
-      (end-kept c (last-test (leb 32 c) (eqb (c % 16) 2) (end-fits ws n o x c) (rw (ne-eqb (c % 16) 3 no-text, ne-eqb (c % 16) 1 no-begin) at e)))))
+      (let up = end-up c (last-test (leb 32 c) (eqb (c % 16) 2) (end-fits ws n o x c) (rw (ne-eqb (c % 16) 3 no-text, ne-eqb (c % 16) 1 no-begin) at e)) in
+      rw (up .1) (⊎-elim (λ z. absurd (up .0 z)) (λ p. p .2) (open-cases around)))))
 
--- what a tag that passes says of its number and its kind
-module _ (ws w l h : List ℕ) (n u : ℕ) (v : code.State) (e f : List ℕ) {t : Bool} (one : t ≡ tag-at ws w l h n u v e f) (passes : not t ≡ false) where
-  tag-tests : (v .tag .0 < n) × (kind-fits ws n (v .parent .0) (v .tag .0) (field ws (v .tag .0) at-kind) ≡ true)
-  unfolding tag-passes shape-with state-with
-  tag-tests =
-      let all = simp and-eq-true-iff at (sym one ∙ not-false _ passes) in (ltb-true (v .tag .0) n (all .0 .0), all .1 .1)
+-- what a tag that passes says
+module _ (ws t : List ℕ) (n u : ℕ) (v : code.State) (e : List ℕ) (fits : Pass-fits ws n u t) (stands : Standing ws n e v) (below : v .tag .0 < n) where
+  pub tag-reads : Tag-reads ws n (v .tag .0) (v .at .0) (v .parent .0)
+  tag-reads = record { records = fits .records; below = below; there = stands .there; around = stands .around }
 
-  -- so the state behind it can be made
-  pub passed-fits : {ns : List ℕ} → Pass-fits ws n u w l h ns → ((v .parent .0 ≡ no-tag → ⊥) → v .parent .0 < n) → v .marks ≤ v .place → v .place < n →
-      (Reads ws n (v .tag .0) (v .parent .0) × (kind-fits ws n (v .parent .0) (v .tag .0) (field ws (v .tag .0) at-kind) ≡ true))
-      × ((field ws (v .tag .0) at-kind < 32) × (v .place < 4000000000) × (v .marks < 4000000000) × (getD w 0 0 ≤ entry-limit))
-  passed-fits a o few more =
-      let kind = tag-tests .1 in
-      ((record { around = open-reads a o; below = tag-tests .0 }, kind), (fits-small _ _ _ _ _ kind, omega (arith, a .records .few), omega (arith, a .records .few), a .levels .widths 0))
+  module _ {b : Bool} (two : b ≡ fits-at ws n (v .parent .0) (v .tag .0) (v .prior .0)) (passes : not b ≡ false) where
+    fits-here : kind-fits ws n (v .parent .0) (v .tag .0) (field ws (v .tag .0) at-kind) ≡ true
+    unfolding fits-at
+    fits-here = let all = simp and-eq-true-iff at (sym two ∙ not-false _ passes) in all .1
 
-  pub open-kept : (width : ℕ) {q : code.State} → Behind ws width v q → ((v .parent .0 ≡ no-tag → ⊥) → v .parent .0 < n) → (q .parent .0 ≡ no-tag → ⊥) → q .parent .0 < n
-  open-kept width b o = rw (b .parent) (open-fits ws n (v .parent .0) (v .tag .0) (field ws (v .tag .0) at-kind) (tag-tests .0) o (tag-tests .1))
+    -- so the state behind it can be made
+    pub passed-fits : v .place < n →
+        (Tag-reads ws n (v .tag .0) (v .at .0) (v .parent .0) × (kind-fits ws n (v .parent .0) (v .tag .0) (field ws (v .tag .0) at-kind) ≡ true))
+        × ((field ws (v .tag .0) at-kind < 32) × (v .place < 4000000000) × (v .marks < 4000000000))
+    passed-fits more =
+        ((tag-reads, fits-here), (fits-small _ _ _ _ _ fits-here, omega (arith, fits .records .few), omega (arith, fits .records .few, stands .marks-few)))
+
+    -- and it stands as this one did
+    pub standing-kept : (q : code.State) (e′ : List ℕ) → Behind ws (getD e′ 1 0) v q → Standing ws n e′ q
+    standing-kept q e′ b = record {
+      there = b .there;
+      waits = b .expect ∙ rw (b .prior, next-behind ws t n u v q e e e e fits below);
+      around = rw (b .parent) (open-kept ws n (v .parent .0) (v .tag .0) below (stands .around) fits-here);
+      marks-few = marks-kept ws b (stands .marks-few);
+    }

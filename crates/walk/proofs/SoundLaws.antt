@@ -5,7 +5,7 @@ use mathlib.Core.Bool.{Bool, true, false, _&&_, not, and-assoc, and-false, and-e
 use mathlib.Core.Logic.{by-cases}
 use mathlib.Core.List.{List}
 use Prim.Native.Nat.{ℕ, pred, _+_, _*_, _-_, _^_, _≤_, _<_}
-use native.Mathlib.Nat.{one-le-pow, one-mul, mul-le-mul, mul-le-mul-right, pow-le-pow-left, pow-le-pow-right}
+use native.Mathlib.Nat.{pow-zero, one-le-pow, one-mul, mul-le-mul, mul-le-mul-right, pow-le-pow-left, pow-le-pow-right}
 use native.Mathlib.Numerals.{sub-one}
 use native.Mathlib.Decide.{decLe}
 use native.Mathlib.Omega.{arith}
@@ -17,9 +17,9 @@ use Rattle.tree.specs.Book.{base, power-width}
 use Rattle.calls.specs.Sound.{degrees-fit}
 use Rattle.walk_model.specs.Walk.{table, shape-of, start, walk, header-passes, words-pass}
 use Rattle.walk_model.specs.Watch.{ancestor-numbers, watched-label, watched-numbers, walk-sizes, sizes-at}
-use Rattle.walk_levels.specs.Needs.{entry-limit, Table-fits, Ancestors-fit, tables-of, levels-of}
+use Rattle.walk_levels.specs.Needs.{entry-limit, Table-fits, Ancestors-fit, Packed, widths-in, numbers-in, tables-of, levels-of}
 use Rattle.walk_header.specs.Needs.{Root-fits, power-fits, frame-passes, root-passes}
-use Rattle.walk.specs.Needs.{Pass-fits, shape-with, start-with}
+use Rattle.walk.specs.Needs.{Pass-fits, shape-with, shape-in, start-with}
 use Rattle.walk_levels.proofs.TableLaws.{table-at, table-bound}
 use Rattle.walk_header.proofs.HeaderLaws.{degrees-product}
 use Rattle.walk_levels.proofs.AncestorNumbers.{numbers-fit}
@@ -104,17 +104,22 @@ module _ (ws lo : List ℕ) (a : Frame ws) (of-lo : lo ≡ table 1 (r-of ws) (h-
   pub root-fits : Root-fits (h-of ws) lo
   root-fits = record { low = a .low; high = omega (arith, high ws a); lows = entries-fit (lows-fit ws a) of-lo }
 
-  pub pass-fits : {w hi ns : List ℕ} {l : ℕ} → w ≡ table 1 (s-of ws * r-of ws - 1) (h-of ws) → hi ≡ table (s-of ws) (r-of ws) (h-of ws) → ns ≡ ancestor-numbers w (h-of ws - 1) l 0 (replicate 24 0) → l < word-limit → Pass-fits ws (n-of ws) (h-of ws - 1) w lo hi ns
-  pass-fits {w} of-w of-hi of-ns fits =
+  pub pass-fits : {w hi ns t : List ℕ} {l : ℕ} → Packed t w lo hi ns → w ≡ table 1 (s-of ws * r-of ws - 1) (h-of ws) → hi ≡ table (s-of ws) (r-of ws) (h-of ws) → ns ≡ ancestor-numbers w (h-of ws - 1) l 0 (replicate 24 0) → l < word-limit → Pass-fits ws (n-of ws) (h-of ws - 1) t
+  pass-fits {w} p of-w of-hi of-ns fits =
+      let b = s-of ws * r-of ws - 1 in
       record {
         records = a .records;
-        numbers = numbers-fit w (h-of ws - 1) of-ns fits;
-        levels = record {
-          height = omega (arith, high ws a);
-          widths = entries-fit (widths-fit ws a) of-w;
-          lows = entries-fit (lows-fit ws a) of-lo;
-          highs = entries-fit (highs-fit ws a) of-hi;
-        };
+        tables-fit = (
+          record {
+            height = omega (arith, high ws a);
+            widths = λ k. rw (p .widths) (entries-fit (widths-fit ws a) of-w k);
+            lows = λ k. rw (p .lows) (entries-fit (lows-fit ws a) of-lo k);
+            highs = λ k. rw (p .highs) (entries-fit (highs-fit ws a) of-hi k);
+          },
+          λ k. rw (p .numbers) (numbers-fit w (h-of ws - 1) of-ns fits k),
+        );
+        unit = rw (p .widths, of-w, table-at 1 b (h-of ws) 0 (omega arith), one-mul) (pow-zero b);
+        wide = rw (p .widths, of-w, table-at 1 b (h-of ws) 1 (omega (arith, a .low)), one-mul) (one-le-pow 1 b (omega (arith, f-range ws a)));
       }
 
 -- THE PARTS DECIDE
@@ -138,13 +143,17 @@ module _ (ws : List ℕ) where
       unfolding words-pass
       root-refuses e p = simp (header-split, ← of-lo, ← of-hi, sym e ∙ not-true t p, and-false)
 
-      pub pass-decides : {w : List ℕ} {q r : Bool} → w ≡ table 1 (s-of ws * r-of ws - 1) (h-of ws) → q ≡ frame-passes ws → not q ≡ false → r ≡ root-passes (n-of ws) (h-of ws) lo hi → not r ≡ false → t ≡ walk ws (shape-with w lo hi (h-of ws - 1) (n-of ws)) (n-of ws) 0 (start-with ws w) → t ≡ words-pass ws
+      pub pass-decides : {w ns tables : List ℕ} {q r : Bool} → Packed tables w lo hi ns → w ≡ table 1 (s-of ws * r-of ws - 1) (h-of ws) → q ≡ frame-passes ws → not q ≡ false → r ≡ root-passes (n-of ws) (h-of ws) lo hi → not r ≡ false →
+          t ≡ walk ws (shape-in tables (h-of ws - 1) (n-of ws)) (n-of ws) 0 (start-with ws (widths-in tables)) → t ≡ words-pass ws
       unfolding words-pass shape-of start shape-with start-with tables-of levels-of
-      pass-decides of-w a b c d e = rw (header-split, sym a ∙ not-false _ b, ← of-lo, ← of-hi, ← of-w, sym c ∙ not-false _ d, ← sub-one (h-of ws)) e
+      pass-decides p of-w a b c d e =
+          rw (header-split, sym a ∙ not-false _ b, ← of-lo, ← of-hi, ← of-w, sym c ∙ not-false _ d, ← sub-one (h-of ws))
+          (rw (p .widths, p .lows, p .highs) at e)
 
 -- THE SIZES where they pass: l is the label at the place, and ns are the numbers of its ancestors
 module _ (ws lo hi w : List ℕ) (of-lo : lo ≡ table 1 (r-of ws) (h-of ws)) (of-hi : hi ≡ table (s-of ws) (r-of ws) (h-of ws)) (of-w : w ≡ table 1 (s-of ws * r-of ws - 1) (h-of ws)) where
-  pub sizes-taken : (y l : ℕ) (ns sz : List ℕ) {sz′ : List ℕ} → l ≡ watched-label ws y → ns ≡ ancestor-numbers w (h-of ws - 1) l 0 (replicate 24 0) →
-      sz′ ≡ walk-sizes ws (shape-with w lo hi (h-of ws - 1) (n-of ws)) ns (n-of ws) 0 (start-with ws w) sz → sz′ ≡ sizes-at ws y sz
+  pub sizes-taken : (y l : ℕ) (ns sz : List ℕ) {tables sz′ : List ℕ} → Packed tables w lo hi ns → l ≡ watched-label ws y → ns ≡ ancestor-numbers w (h-of ws - 1) l 0 (replicate 24 0) →
+      sz′ ≡ walk-sizes ws (shape-in tables (h-of ws - 1) (n-of ws)) (numbers-in tables) (n-of ws) 0 (start-with ws (widths-in tables)) sz → sz′ ≡ sizes-at ws y sz
   unfolding sizes-at watched-numbers shape-of start shape-with start-with tables-of levels-of
-  sizes-taken y l ns sz label numbers e = rw (← label, ← of-lo, ← of-hi, ← of-w, ← sub-one (h-of ws), ← numbers) e
+  sizes-taken y l ns sz p label numbers e =
+      rw (← label, ← of-lo, ← of-hi, ← of-w, ← sub-one (h-of ws), ← numbers) (rw (p .widths, p .lows, p .highs, p .numbers) at e)

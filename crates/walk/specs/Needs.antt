@@ -1,51 +1,79 @@
 -- What the pass asks, and the parts of the walk that each function decides.
 -- Assumes nothing: these are definitions.
 use mathlib.Core.Path.{_≡_}
-use mathlib.Core.Bool.{Bool, _&&_}
+use mathlib.Core.Bool.{Bool, _&&_, cond}
 use mathlib.Core.List.{List}
-use Prim.Native.Nat.{ℕ, _+_, _*_, _≤_}
-use lib.Dec.{leb, eqb}
-use lib.ListN.{length, replicate}
+use Prim.Native.Nat.{ℕ, _+_, _≤_}
+use lib.Dec.{ltb, leb, eqb}
+use lib.ListN.{length, getD, replicate}
 use Rattle.store_types.specs.Limits.{no-tag, most-tags}
 use Rattle.store_types.specs.Layout.{at-first, at-stamp, header-words, at-next, at-kind, word-at, field, label-at, Records}
-use Rattle.walk_model.specs.Walk.{Shape, State, open-after}
-use Rattle.walk_tags.specs.Needs.{marks-at}
-use Rattle.walk_levels.specs.Needs.{tables-of, levels-of, Levels-fit, Numbers-fit, close-from}
+use Rattle.words.specs.Offsets.{offset-of}
+use Rattle.walk_model.specs.Walk.{Shape, State, open-after, placed}
+use Rattle.walk_tags.specs.Needs.{Open, marks-at}
+use Rattle.walk_levels.specs.Needs.{Tables-fit, widths-in, lows-in, highs-in, tables-of, levels-of, close-from, expected-label}
 use Rattle.walk.specs.declared.State as code
 
-pub record Pass-fits (ws : List ℕ) (n under : ℕ) (w l h ns : List ℕ) : Type 0 where
+-- labels of two leaves of one node are 1 apart, and a node of height 1 has room for one
+pub record Pass-fits (ws : List ℕ) (n under : ℕ) (tables : List ℕ) : Type 0 where
   pub records : Records ws n
-  pub levels : Levels-fit under w l h
-  pub numbers : Numbers-fit ns
+  pub tables-fit : Tables-fit under tables
+  pub unit : getD (widths-in tables) 0 0 ≡ 1
+  pub wide : 1 ≤ getD (widths-in tables) 1 0
 
 unfoldable pub shape-with : (widths lows highs : List ℕ) → (under n : ℕ) → Shape
 shape-with w l h u n = record { tables = tables-of w l h; under = u; n = n }
 
--- where the code stands, with the levels that it keeps beside it
-unfoldable pub state-with : code.State → (ends firsts : List ℕ) → State
-state-with v e f =
-    record { tag = v .tag .0; prior = v .prior .0; open-begin = v .parent .0; marks = v .marks; expect = v .expect; levels = levels-of e f }
+abbrev pub shape-in : (tables : List ℕ) → (under n : ℕ) → Shape
+shape-in t u n = shape-with (widths-in t) (lows-in t) (highs-in t) u n
 
--- and where it stands behind that tag
-pub record Behind (ws : List ℕ) (width : ℕ) (v q : code.State) : Type 0 where
+-- the label that comes next behind a tag, or at the front
+unfoldable pub next-label : List ℕ → (prior : ℕ) → ℕ
+next-label ws p = cond (eqb p no-tag) 0 (label-at ws p + 1)
+
+-- where the code stands, with the levels that it keeps beside it
+unfoldable pub state-with : List ℕ → code.State → (ends firsts : List ℕ) → State
+state-with ws v e f =
+    record {
+      tag = v .tag .0;
+      prior = v .prior .0;
+      open-begin = v .parent .0;
+      marks = v .marks;
+      expect = next-label ws (v .prior .0);
+      levels = levels-of e f;
+    }
+
+-- what it carries is right: where the tag's record stands, the label that is waited for, the begins that are open
+pub record Standing (ws : List ℕ) (n : ℕ) (ends : List ℕ) (v : code.State) : Type 0 where
+  pub there : v .at .0 ≡ offset-of (v .tag .0)
+  pub waits : v .expect ≡ expected-label (next-label ws (v .prior .0)) (getD ends 1 0)
+  pub around : Open ws n (v .parent .0)
+  pub marks-few : v .marks ≤ v .place
+
+-- a tag's number and label
+unfoldable pub label-passes : List ℕ → Shape → (i : ℕ) → State → Bool
+label-passes ws k i v = ltb (v .tag) (k .n) && placed ws k i v .ok
+
+-- and where it stands behind that tag: end is where the open node of height 1 ends
+pub record Behind (ws : List ℕ) (end : ℕ) (v q : code.State) : Type 0 where
   pub place : q .place ≡ v .place + 1
   pub tag : q .tag .0 ≡ field ws (v .tag .0) at-next
+  pub there : q .at .0 ≡ offset-of (q .tag .0)
   pub prior : q .prior .0 ≡ v .tag .0
   pub parent : q .parent .0 ≡ open-after ws (v .parent .0) (v .tag .0) (field ws (v .tag .0) at-kind)
   pub marks : q .marks ≡ marks-at ws (v .tag .0) (v .marks)
-  pub expect : q .expect ≡ label-at ws (v .tag .0) + width
+  pub expect : q .expect ≡ expected-label (label-at ws (v .tag .0) + 1) end
 
 unfoldable pub start-with : (words widths : List ℕ) → State
 start-with ws w =
     record { tag = word-at ws at-first; prior = no-tag; open-begin = no-tag; marks = 0; expect = 0; levels = levels-of w (replicate 24 0) }
 
 -- behind the last tag
-pub record Ends-fit (ws : List ℕ) (n under marks : ℕ) (w l h ns : List ℕ) : Type 0 where
+pub record Ends-fit (ws : List ℕ) (n under marks : ℕ) (tables : List ℕ) : Type 0 where
   pub long : header-words ≤ length ws
   pub few : n ≤ most-tags
   pub marks-few : marks ≤ most-tags
-  pub levels : Levels-fit under w l h
-  pub numbers : Numbers-fit ns
+  pub tables-fit : Tables-fit under tables
 
 unfoldable pub ends-from : (words : List ℕ) → (n under : ℕ) → (lows highs firsts : List ℕ) → (tag open-begin marks : ℕ) → Bool
 ends-from ws n u l h f x o m =

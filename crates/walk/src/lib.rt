@@ -1,100 +1,95 @@
 // The soundness walk (document 01, "Sound means"): the header, then one pass along next with no scratch memory.
 ghost use mathlib.Core.Path.{_≡_};
 ghost use mathlib.Core.Bool.{true};
-ghost use Prim.Native.Nat.{_<_, _≤_};
+ghost use Prim.Native.Nat.{_<_};
 ghost use Rattle.store_types.specs.Layout.{at-kind, field, label-at};
-ghost use Rattle.walk_model.specs.Walk.{kind-fits, placed, tag-passes, walk, words-pass};
+ghost use Rattle.walk_model.specs.Walk.{kind-fits, placed, walk, words-pass};
 ghost use Rattle.walk_model.specs.Watch.{place-sizes, close-sizes, walk-sizes, sizes-at};
-ghost use Rattle.walk_tags.specs.Needs.{Reads, Open-reads};
-ghost use Rattle.walk_levels.specs.Needs.{entry-limit, levels-of};
-ghost use Rattle.walk.specs.Needs.{Pass-fits, Ends-fit, Behind, ends-from, shape-with, state-with, start-with};
+ghost use Rattle.walk_tags.specs.Needs.{Tag-reads};
+ghost use Rattle.walk_levels.specs.Needs.{widths-in, lows-in, highs-in, numbers-in, levels-of};
+ghost use Rattle.walk.specs.Needs.{Pass-fits, Standing, Ends-fit, Behind, ends-from, label-passes, shape-in, next-label, state-with, start-with};
 use store_types::TagId;
+use words::Offset;
 
-// Where the pass stands: its place, which is the tags so far, marked ones too; the next tag, the one before it, the
-// innermost open begin, the marked tags so far, and the label of the next child.
+// How many tags the book has, and the height of the root's children.
+struct Extent {
+    n: u32,
+    under: usize,
+}
+
+// Where the pass stands: its place, which is the tags so far, marked ones too; the next tag and where its record stands, the
+// tag before it, the innermost open begin, the marked tags so far, and the label that the next child is to have.
 struct State {
     place: u32,
     tag: TagId,
+    at: Offset,
     prior: TagId,
     parent: TagId,
     marks: u32,
     expect: u64,
 }
 
-// One tag at its place: its number, its label, its prior and its kind.
-fn tag_passes(
+// One tag's number and its label: of the next child of the open node of height 1, or of the first leaf of new nodes.
+fn label_fits(
     words: &[u32],
-    n: u32,
-    under: usize,
+    size: Extent,
     v: State,
-    widths: &[u64; 24],
-    lows: &[u64; 24],
-    highs: &[u64; 24],
-    numbers: &[u64; 24],
+    tables: &[u64; 96],
     ends: &mut [u64; 24],
     firsts: &mut [u32; 24],
     sizes: &mut [u32; 24],
 ) -> bool
-    requires { ⌜ Pass-fits (now words) n under (now widths) (now lows) (now highs) (now numbers) × Open-reads (now words) n (v .parent .0) ⌝ }
-    ensures ok { λ t. ⌜ t ≡ tag-passes (now (words .entry)) (shape-with (now (widths .entry)) (now (lows .entry)) (now (highs .entry)) under n) (v .place) (state-with v (now (ends .entry)) (now (firsts .entry))) ⌝ }
-    ensures left { λ t. ⌜ (t ≡ true → levels-of (now (ends .exit)) (now (firsts .exit)) ≡ placed (now (words .entry)) (shape-with (now (widths .entry)) (now (lows .entry)) (now (highs .entry)) under n) (v .place) (state-with v (now (ends .entry)) (now (firsts .entry))) .levels) ⌝ }
-    ensures sizes { λ t. ⌜ (t ≡ true → now (sizes .exit) ≡ place-sizes (now (widths .entry)) (now (numbers .entry)) under (v .expect) (label-at (now (words .entry)) (v .tag .0)) (v .place) (levels-of (now (ends .entry)) (now (firsts .entry))) (now (sizes .entry))) ⌝ }
+    requires { ⌜ Pass-fits (now words) (size .n) (size .under) (now tables) × Standing (now words) (size .n) (now ends) v ⌝ }
+    ensures ok { λ t. ⌜ t ≡ label-passes (now (words .entry)) (shape-in (now (tables .entry)) (size .under) (size .n)) (v .place) (state-with (now (words .entry)) v (now (ends .entry)) (now (firsts .entry))) ⌝ }
+    ensures left { λ t. ⌜ (t ≡ true → levels-of (now (ends .exit)) (now (firsts .exit)) ≡ placed (now (words .entry)) (shape-in (now (tables .entry)) (size .under) (size .n)) (v .place) (state-with (now (words .entry)) v (now (ends .entry)) (now (firsts .entry))) .levels) ⌝ }
+    ensures sizes { λ t. ⌜ (t ≡ true → now (sizes .exit) ≡ place-sizes (widths-in (now (tables .entry))) (numbers-in (now (tables .entry))) (size .under) (next-label (now (words .entry)) (v .prior .0)) (label-at (now (words .entry)) (v .tag .0)) (v .place) (levels-of (now (ends .entry)) (now (firsts .entry))) (now (sizes .entry))) ⌝ }
 {
-    if n <= v.tag.0 {
+    if size.n <= v.tag.0 {
         return false;
     }
-    if !walk_levels::place_label(
-        words::label_of(words, v.tag),
-        v.expect,
-        v.place,
-        under,
-        widths,
-        lows,
-        highs,
-        numbers,
-        ends,
-        firsts,
-        sizes,
-    ) {
-        return false;
+    let label = words::label_there(words, v.at);
+    if label.0 as u64 == v.expect {
+        return true;
     }
-    walk_tags::tag_fits(words, n, v.tag, v.prior, v.parent)
+    walk_levels::settle(label, v.place, size.under, tables, ends, firsts, sizes)
 }
 
-// Behind a tag that passes.
-fn passed(words: &[u32], n: u32, width: u64, v: State) -> State
-    requires tag { ⌜ Reads (now words) n (v .tag .0) (v .parent .0) × (kind-fits (now words) n (v .parent .0) (v .tag .0) (field (now words) (v .tag .0) at-kind) ≡ true) ⌝ }
-    requires counts { ⌜ (field (now words) (v .tag .0) at-kind < 32) × (v .place < 4000000000) × (v .marks < 4000000000) × (width ≤ entry-limit) ⌝ }
-    ensures { λ q. ⌜ Behind (now (words .entry)) width v q ⌝ }
+// Behind a tag that passes: end is where the open node of height 1 ends.
+fn passed(words: &[u32], n: u32, end: u64, v: State) -> State
+    requires tag { ⌜ Tag-reads (now words) n (v .tag .0) (v .at .0) (v .parent .0) × (kind-fits (now words) n (v .parent .0) (v .tag .0) (field (now words) (v .tag .0) at-kind) ≡ true) ⌝ }
+    requires counts { ⌜ (field (now words) (v .tag .0) at-kind < 32) × (v .place < 4000000000) × (v .marks < 4000000000) ⌝ }
+    ensures { λ q. ⌜ Behind (now (words .entry)) end v q ⌝ }
 {
     let x = v.tag;
+    let at = v.at;
+    let next = TagId(words::get_at(words, at, words::AT_NEXT));
+    let parent = walk_tags::open_after(words, n, x, at, v.parent);
+    let marks = walk_tags::count_mark(words, x, at, v.marks);
+    let label = words::label_there(words, at);
     State {
         place: v.place + 1,
-        tag: words::next_of(words, x),
+        tag: next,
+        at: Offset::of(next),
         prior: x,
-        parent: walk_tags::open_after(words, n, x, v.parent),
-        marks: walk_tags::count_mark(words, n, x, v.marks),
-        expect: words::label_of(words, x).0 as u64 + width,
+        parent,
+        marks,
+        expect: walk_levels::expected(label, end),
     }
 }
 
 // Behind the last tag: none follows, none is open, every open node is within its limits, and the stamp is.
 fn ends_well(
     words: &[u32],
-    n: u32,
-    under: usize,
+    size: Extent,
     v: State,
-    widths: &[u64; 24],
-    lows: &[u64; 24],
-    highs: &[u64; 24],
-    numbers: &[u64; 24],
+    tables: &[u64; 96],
     ends: &[u64; 24],
     firsts: &[u32; 24],
     sizes: &mut [u32; 24],
 ) -> bool
-    requires { ⌜ Ends-fit (now words) n under (v .marks) (now widths) (now lows) (now highs) (now numbers) ⌝ }
-    ensures ok { λ t. ⌜ t ≡ ends-from (now (words .entry)) n under (now (lows .entry)) (now (highs .entry)) (now (firsts .entry)) (v .tag .0) (v .parent .0) (v .marks) ⌝ }
-    ensures sizes { λ t. ⌜ (t ≡ true → now (sizes .exit) ≡ close-sizes (now (widths .entry)) (now (numbers .entry)) under 1 n (levels-of (now (ends .entry)) (now (firsts .entry))) (now (sizes .entry))) ⌝ }
+    requires { ⌜ Ends-fit (now words) (size .n) (size .under) (v .marks) (now tables) ⌝ }
+    ensures ok { λ t. ⌜ t ≡ ends-from (now (words .entry)) (size .n) (size .under) (lows-in (now (tables .entry))) (highs-in (now (tables .entry))) (now (firsts .entry)) (v .tag .0) (v .parent .0) (v .marks) ⌝ }
+    ensures sizes { λ t. ⌜ (t ≡ true → now (sizes .exit) ≡ close-sizes (widths-in (now (tables .entry))) (numbers-in (now (tables .entry))) (size .under) 1 (size .n) (levels-of (now (ends .entry)) (now (firsts .entry))) (now (sizes .entry))) ⌝ }
 {
     if !v.tag.is_none() {
         return false;
@@ -102,68 +97,52 @@ fn ends_well(
     if !v.parent.is_none() {
         return false;
     }
-    if !walk_levels::all_close(n, under, widths, lows, highs, numbers, ends, firsts, sizes) {
+    if !walk_levels::all_close(size.n, size.under, tables, ends, firsts, sizes) {
         return false;
     }
-    words[7] <= n + v.marks
+    words[words::AT_STAMP] <= size.n + v.marks
 }
 
-// The pass: one tag after the other along next.
+// The pass: one tag after the other along next. The first test says nothing that the loop does not; but where its record
+// stands is then known before the loop, and the compiler carries it.
 fn pass(
     words: &[u32],
-    n: u32,
-    under: usize,
+    size: Extent,
     widths: [u64; 24],
-    lows: [u64; 24],
-    highs: [u64; 24],
-    numbers: [u64; 24],
+    tables: &[u64; 96],
     sizes: &mut [u32; 24],
 ) -> bool
-    requires { ⌜ Pass-fits (now words) n under widths lows highs numbers ⌝ }
-    ensures ok { λ t. ⌜ t ≡ walk (now (words .entry)) (shape-with widths lows highs under n) n 0 (start-with (now (words .entry)) widths) ⌝ }
-    ensures sizes { λ t. ⌜ (t ≡ true → now (sizes .exit) ≡ walk-sizes (now (words .entry)) (shape-with widths lows highs under n) numbers n 0 (start-with (now (words .entry)) widths) (now (sizes .entry))) ⌝ }
+    requires { ⌜ Pass-fits (now words) (size .n) (size .under) (now tables) × (widths ≡ widths-in (now tables)) ⌝ }
+    ensures ok { λ t. ⌜ t ≡ walk (now (words .entry)) (shape-in (now (tables .entry)) (size .under) (size .n)) (size .n) 0 (start-with (now (words .entry)) (widths-in (now (tables .entry)))) ⌝ }
+    ensures sizes { λ t. ⌜ (t ≡ true → now (sizes .exit) ≡ walk-sizes (now (words .entry)) (shape-in (now (tables .entry)) (size .under) (size .n)) (numbers-in (now (tables .entry))) (size .n) 0 (start-with (now (words .entry)) (widths-in (now (tables .entry)))) (now (sizes .entry))) ⌝ }
 {
+    let first = TagId(words[words::AT_FIRST]);
+    let at = Offset::of(first);
+    if 0 < size.n && words.len() <= at.0 {
+        return false;
+    }
+    let pairs = walk_tags::pairs();
     let mut ends = widths;
     let mut firsts = [0u32; 24];
     let mut v = State {
         place: 0,
-        tag: TagId(words[5]),
+        tag: first,
+        at,
         prior: TagId::NONE,
         parent: TagId::NONE,
         marks: 0,
         expect: 0,
     };
-    while v.place < n {
-        if !tag_passes(
-            words,
-            n,
-            under,
-            v,
-            &widths,
-            &lows,
-            &highs,
-            &numbers,
-            &mut ends,
-            &mut firsts,
-            sizes,
-        ) {
+    while v.place < size.n {
+        if !label_fits(words, size, v, tables, &mut ends, &mut firsts, sizes) {
             return false;
         }
-        v = passed(words, n, widths[0], v);
+        if !walk_tags::tag_fits(&pairs, words, size.n, v.tag, v.at, v.prior, v.parent) {
+            return false;
+        }
+        v = passed(words, size.n, ends[1], v);
     }
-    ends_well(
-        words,
-        n,
-        under,
-        v,
-        &widths,
-        &lows,
-        &highs,
-        &numbers,
-        &ends,
-        &firsts,
-        sizes,
-    )
+    ends_well(words, size, v, tables, &ends, &firsts, sizes)
 }
 
 // Whether words say a store: refusal 2 where they do not. Where they do, `sizes` has then the number of leaves of each
@@ -187,5 +166,7 @@ pub fn sound_at(words: &[u32], place: TagId, sizes: &mut [u32; 24]) -> bool
     }
     let label = walk_levels::ancestors::watched_label(words, place);
     let numbers = walk_levels::ancestors::numbers(label, h - 1, &widths);
-    pass(words, n, h - 1, widths, lows, highs, numbers, sizes)
+    let tables = walk_levels::tables(widths, lows, highs, numbers);
+    let size = Extent { n, under: h - 1 };
+    pass(words, size, widths, &tables, sizes)
 }

@@ -2,19 +2,25 @@
 -- Assumes nothing.
 use mathlib.Core.Path.{_≡_, ap, sym, _∙_}
 use mathlib.Core.Bool.{Bool, true, false, _&&_, not, and-false, and-eq-true-iff}
+use mathlib.Core.Logic.{by-cases}
 use mathlib.Core.List.{List}
 use Prim.Native.Nat.{ℕ, suc, _+_, _-_, _≤_, _<_}
 use native.Mathlib.Numerals.{add-one}
+use native.Mathlib.Decide.{ℕ-discrete, decLe}
 use native.Mathlib.Omega.{arith}
 use borrow.Author.Tests.{lt-ltb, le-ltb, le-leb, lt-leb, leb-true, eq-eqb, ne-eqb, not-true, not-false}
 use lib.Dec.{eqb, ltb, leb}
 use lib.ListN.{getD, set}
 use Rattle.walk_model.specs.Levels.{Levels, Settled, closes, settle, place-label, all-close}
-use Rattle.walk_levels.specs.Needs.{Levels-fit, tables-of, levels-of, closes-from, settle-from, place-from, close-from}
+use Rattle.store_types.specs.Limits.{label-limit}
+use Rattle.walk_levels.specs.Needs.{Levels-fit, Tables-fit, widths-in, lows-in, highs-in, tables-of, levels-of, closes-from, settle-from, place-from, close-from, expected-label}
 
 -- what is asked of the tables at a height that is no higher
-pub levels-below : {u : ℕ} {w l hi : List ℕ} (h : ℕ) → h ≤ u → Levels-fit u w l hi → Levels-fit h l l hi
-levels-below h p a = record { height = omega arith; widths = a .lows; lows = a .lows; highs = a .highs }
+pub levels-below : {u : ℕ} {w l hi : List ℕ} (h : ℕ) → h ≤ u → Levels-fit u w l hi → Levels-fit h w l hi
+levels-below h p a = record { height = omega arith; widths = a .widths; lows = a .lows; highs = a .highs }
+
+pub tables-below : {u : ℕ} (t : List ℕ) (h : ℕ) → h ≤ u → Tables-fit u t → Tables-fit h t
+tables-below t h p a = (levels-below h p (a .0), a .1)
 
 -- A NODE'S LIMITS
 module _ (lo hi : List ℕ) (h f i : ℕ) where
@@ -66,10 +72,6 @@ module _ (w lo hi : List ℕ) (under l i : ℕ) where
   abbrev pub settle-at : (h : ℕ) → (exact : Bool) → (ends firsts : List ℕ) → Settled
   settle-at h x e f = settle (tables-of w lo hi) (under + 1 - h) h x l i (levels-of e f)
 
-  pub settle-start : (e f : List ℕ) → settle-at 1 false e f ≡ settle-from w lo hi under l i e f
-  unfolding settle-from
-  settle-start e f = let q : under + 1 - 1 ≡ under = omega arith in rw q
-
   module _ (h : ℕ) (x : Bool) (e f : List ℕ) {whole : Settled} (inv : settle-at h x e f ≡ whole) where
     pub settle-stays : h ≤ under → l < getD e h 0 → (x ≡ whole .ok) × (levels-of e f ≡ whole .levels)
     unfolding settle levels-of
@@ -93,17 +95,41 @@ module _ (w lo hi : List ℕ) (under l i : ℕ) where
     pub settle-end-not : under < h → x ≡ false → (x ≡ whole .ok) × (levels-of e f ≡ whole .levels)
     settle-end-not p t = settle-end p x (rw t)
 
--- THE NEXT CHILD, or nodes that close
-module _ (w lo hi : List ℕ) (u q l i : ℕ) (e f : List ℕ) where
-  pub place-next : l ≡ q → ltb l (getD e 1 0) ≡ true → (true ≡ place-from w lo hi u q l i e f .ok) × (levels-of e f ≡ place-from w lo hi u q l i e f .levels)
+pub settle-start : (t : List ℕ) (under l i : ℕ) (e f : List ℕ) → settle-at (widths-in t) (lows-in t) (highs-in t) under l i 1 false e f ≡ settle-from t under l i e f
+unfolding settle-from
+settle-start t under l i e f = let q : under + 1 - 1 ≡ under = omega arith in rw q
+
+-- THE NEXT CHILD, or nodes that close: q is the label that is waited for, where x would come next
+module _ (t : List ℕ) (u x l i : ℕ) (e f : List ℕ) where
+  place-next : l ≡ x → ltb l (getD e 1 0) ≡ true → (true ≡ place-from t u x l i e f .ok) × (levels-of e f ≡ place-from t u x l i e f .levels)
   unfolding place-from place-label levels-of
-  place-next p t = settled (rw (eq-eqb l q p, t))
+  place-next p r = settled (rw (eq-eqb l x p, r))
 
-  module _ {o : Bool} {v : Levels} (closing : (o ≡ settle-from w lo hi u l i e f .ok) × (v ≡ settle-from w lo hi u l i e f .levels)) where
-    pub place-other : (l ≡ q → ⊥) → (o ≡ place-from w lo hi u q l i e f .ok) × (v ≡ place-from w lo hi u q l i e f .levels)
-    unfolding place-from settle-from place-label
-    place-other p = rw (ne-eqb l q p) closing
-
-    pub place-behind : ltb l (getD e 1 0) ≡ false → (o ≡ place-from w lo hi u q l i e f .ok) × (v ≡ place-from w lo hi u q l i e f .levels)
+  module _ {o : Bool} {v : Levels} (closing : (o ≡ settle-from t u l i e f .ok) × (v ≡ settle-from t u l i e f .levels)) where
+    place-closing : (eqb l x && ltb l (getD e 1 0)) ≡ false → (o ≡ place-from t u x l i e f .ok) × (v ≡ place-from t u x l i e f .levels)
     unfolding place-from settle-from place-label levels-of
-    place-behind t = rw (t, and-false (eqb l q)) closing
+    place-closing p = rw p closing
+
+-- a label is the one that is waited for exactly where it comes next and the node does not end before it
+module _ {q : ℕ} (x end l : ℕ) (waits : q ≡ expected-label x end) (small : l < label-limit) where
+  pub waited-both : l ≡ q → (l ≡ x) × (ltb l end ≡ true)
+  unfolding expected-label
+  waited-both p =
+      by-cases (decLe end x)
+      (λ r. absurd (omega (arith, rw (le-ltb x end r) at waits)))
+      (λ r. let s : l ≡ x = p ∙ (rw (lt-ltb x end (omega arith)) at waits) in (s, lt-ltb l end (omega arith)))
+
+  pub waited-not : (l ≡ q → ⊥) → (eqb l x && ltb l end) ≡ false
+  unfolding expected-label
+  waited-not p =
+      by-cases (decLe end x)
+      (λ r. by-cases (ℕ-discrete l x) (λ s. rw (le-ltb l end (omega arith), and-false (eqb l x))) (λ s. rw (ne-eqb l x s)))
+      (λ r. rw (ne-eqb l x (λ s. p (s ∙ sym (rw (lt-ltb x end (omega arith)) at waits)))))
+
+module _ (t : List ℕ) (u x l i : ℕ) (e f : List ℕ) {q : ℕ} (waits : q ≡ expected-label x (getD e 1 0)) (small : l < label-limit) where
+  pub place-waited : l ≡ q → (true ≡ place-from t u x l i e f .ok) × (levels-of e f ≡ place-from t u x l i e f .levels)
+  place-waited p = let both = waited-both x (getD e 1 0) l waits small p in place-next t u x l i e f (both .0) (both .1)
+
+  pub place-settled : {o : Bool} {v : Levels} → (o ≡ settle-from t u l i e f .ok) × (v ≡ settle-from t u l i e f .levels) → (l ≡ q → ⊥) →
+      (o ≡ place-from t u x l i e f .ok) × (v ≡ place-from t u x l i e f .levels)
+  place-settled closing p = place-closing t u x l i e f closing (waited-not x (getD e 1 0) l waits small p)

@@ -1,4 +1,5 @@
 pub mod TableLaws
+pub mod PartLaws
 pub mod LevelLaws
 pub mod SizeLaws
 pub mod AncestorNumbers

@@ -1,17 +1,18 @@
 -- The sizes that a pass takes on its way (walk_model's Watch): what each way through the loops that close nodes says of them.
 -- Assumes nothing.
 use mathlib.Core.Path.{_≡_, refl}
-use mathlib.Core.Bool.{Bool, true, false, cond, false≢true, and-false}
+use mathlib.Core.Bool.{Bool, true, false, cond, false≢true}
 use mathlib.Core.List.{List}
 use Prim.Native.Nat.{ℕ, suc, _+_, _-_, _≤_, _<_}
 use native.Mathlib.Numerals.{add-one}
 use native.Mathlib.Omega.{arith}
-use borrow.Author.Tests.{lt-ltb, le-ltb, eq-eqb, ne-eqb}
+use borrow.Author.Tests.{lt-ltb, le-ltb, eq-eqb}
 use lib.Dec.{eqb, ltb}
 use lib.ListN.{getD, set}
 use Rattle.walk_model.specs.Watch.{taken, settle-sizes, place-sizes, close-sizes}
-use Rattle.walk_levels.specs.Needs.{levels-of}
-use Rattle.walk_levels.proofs.LevelLaws.{left-more}
+use Rattle.store_types.specs.Limits.{label-limit}
+use Rattle.walk_levels.specs.Needs.{levels-of, expected-label}
+use Rattle.walk_levels.proofs.LevelLaws.{left-more, waited-both, waited-not}
 
 -- of what does not pass nothing is said
 pub never : {A : Type 0} → false ≡ true → A
@@ -45,20 +46,15 @@ module _ (w ns : List ℕ) (under l i : ℕ) where
     unfolding settle-sizes
     sizes-end p = let q : under + 1 - h ≡ 0 = omega arith in rw q at inv
 
--- and beside place-label
-module _ (w ns : List ℕ) (u q l i : ℕ) (e f sz : List ℕ) where
-  pub place-sizes-next : l ≡ q → ltb l (getD e 1 0) ≡ true → sz ≡ place-sizes w ns u q l i (levels-of e f) sz
+-- and beside place-label: q is the label that is waited for, where x would come next
+module _ (w ns : List ℕ) (u x l i : ℕ) (e f sz : List ℕ) {q : ℕ} (waits : q ≡ expected-label x (getD e 1 0)) (small : l < label-limit) where
+  pub place-sizes-waited : l ≡ q → sz ≡ place-sizes w ns u x l i (levels-of e f) sz
   unfolding place-sizes levels-of
-  place-sizes-next p t = rw (eq-eqb l q p, t)
+  place-sizes-waited p = let both = waited-both x (getD e 1 0) l waits small p in rw (eq-eqb l x (both .0), both .1)
 
-  module _ {v : List ℕ} (closing : v ≡ settle-sizes w ns u 1 l i (levels-of e f) sz) where
-    pub place-sizes-other : (l ≡ q → ⊥) → v ≡ place-sizes w ns u q l i (levels-of e f) sz
-    unfolding place-sizes
-    place-sizes-other p = rw (ne-eqb l q p) closing
-
-    pub place-sizes-behind : ltb l (getD e 1 0) ≡ false → v ≡ place-sizes w ns u q l i (levels-of e f) sz
-    unfolding place-sizes levels-of
-    place-sizes-behind t = rw (t, and-false (eqb l q)) closing
+  pub place-sizes-settled : {v : List ℕ} → v ≡ settle-sizes w ns u 1 l i (levels-of e f) sz → (l ≡ q → ⊥) → v ≡ place-sizes w ns u x l i (levels-of e f) sz
+  unfolding place-sizes levels-of
+  place-sizes-settled closing p = rw (waited-not x (getD e 1 0) l waits small p) closing
 
 -- SIZES AT THE END
 module _ (w ns : List ℕ) (under i : ℕ) (e f : List ℕ) where

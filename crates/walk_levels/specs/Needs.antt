@@ -1,9 +1,12 @@
 -- What the tests of labels ask of their callers, and the parts of the walk that each decides.
 -- Assumes nothing: these are definitions.
-use mathlib.Core.Bool.{Bool, false}
+use mathlib.Core.Path.{_≡_}
+use mathlib.Core.Bool.{Bool, false, cond}
 use mathlib.Core.List.{List}
-use Prim.Native.Nat.{ℕ, _*_, _^_, _≤_}
-use lib.ListN.{getD}
+use Prim.Native.Nat.{ℕ, _*_, _^_, _≤_, _<_}
+use lib.Dec.{ltb}
+use lib.ListN.{getD, take, drop}
+use Rattle.store_types.specs.Limits.{label-limit}
 use Rattle.walk_model.specs.Levels.{Tables, Levels, Settled, entry, closes, settle, place-label, all-close}
 
 -- TABLES: no entry passes 2^40, so that a sum or a double of entries fits 64 bits
@@ -14,6 +17,33 @@ pub record Table-fits (v b top : ℕ) : Type 0 where
   pub height : top ≤ 23
   pub grows : 1 ≤ b
   pub last : v * b ^ top ≤ entry-limit
+
+-- FOUR TABLES by height in one array: widths, least leaves, limits, and the numbers of the watched nodes
+unfoldable pub part : (k : ℕ) → List ℕ → List ℕ
+part k t = take 24 (drop (24 * k) t)
+
+abbrev pub widths-in : List ℕ → List ℕ
+widths-in t = part 0 t
+
+abbrev pub lows-in : List ℕ → List ℕ
+lows-in t = part 1 t
+
+abbrev pub highs-in : List ℕ → List ℕ
+highs-in t = part 2 t
+
+abbrev pub numbers-in : List ℕ → List ℕ
+numbers-in t = part 3 t
+
+-- u is t with one part replaced
+pub record With-part (t : List ℕ) (k : ℕ) (from u : List ℕ) : Type 0 where
+  pub new : part k u ≡ from
+  pub kept : (j : ℕ) → j < 4 → (j ≡ k → ⊥) → part j u ≡ part j t
+
+pub record Packed (t w l h ns : List ℕ) : Type 0 where
+  pub widths : widths-in t ≡ w
+  pub lows : lows-in t ≡ l
+  pub highs : highs-in t ≡ h
+  pub numbers : numbers-in t ≡ ns
 
 unfoldable pub tables-of : (widths lows highs : List ℕ) → Tables
 tables-of w l h = record { widths = w; lows = l; highs = h }
@@ -31,6 +61,9 @@ pub record Levels-fit (under : ℕ) (w l h : List ℕ) : Type 0 where
 abbrev pub Numbers-fit : List ℕ → Type 0
 Numbers-fit ns = (k : ℕ) → getD ns k 0 ≤ entry-limit
 
+abbrev pub Tables-fit : (under : ℕ) → List ℕ → Type 0
+Tables-fit u t = Levels-fit u (widths-in t) (lows-in t) (highs-in t) × Numbers-fit (numbers-in t)
+
 -- the ancestors below the root: each has a width
 pub record Ancestors-fit (under : ℕ) (w : List ℕ) : Type 0 where
   pub height : under ≤ 22
@@ -41,11 +74,15 @@ unfoldable pub closes-from : (lows highs : List ℕ) → (h first place : ℕ) �
 closes-from l u h f i = closes (tables-of l l u) h f i
 
 -- one label at a place, closing nodes from height 1 on
-unfoldable pub settle-from : (widths lows highs : List ℕ) → (under label place : ℕ) → (ends firsts : List ℕ) → Settled
-settle-from w l h u x i e f = settle (tables-of w l h) u 1 false x i (levels-of e f)
+unfoldable pub settle-from : (tables : List ℕ) → (under label place : ℕ) → (ends firsts : List ℕ) → Settled
+settle-from t u x i e f = settle (tables-of (widths-in t) (lows-in t) (highs-in t)) u 1 false x i (levels-of e f)
 
-unfoldable pub place-from : (widths lows highs : List ℕ) → (under expect label place : ℕ) → (ends firsts : List ℕ) → Settled
-place-from w l h u q x i e f = place-label (tables-of w l h) u q x i (levels-of e f)
+unfoldable pub place-from : (tables : List ℕ) → (under expect label place : ℕ) → (ends firsts : List ℕ) → Settled
+place-from t u q x i e f = place-label (tables-of (widths-in t) (lows-in t) (highs-in t)) u q x i (levels-of e f)
+
+-- the label that is waited for where e comes next: none where the open node of height 1 ends before it
+unfoldable pub expected-label : (e end : ℕ) → ℕ
+expected-label e end = cond (ltb e end) e label-limit
 
 -- neither the widths nor the ends matter where all open nodes close
 unfoldable pub close-from : (lows highs : List ℕ) → (under place : ℕ) → (firsts : List ℕ) → Bool

@@ -3,11 +3,12 @@ pub mod ancestors;
 
 ghost use mathlib.Core.Path.{_≡_};
 ghost use mathlib.Core.Bool.{true, cond};
-ghost use Prim.Native.Nat.{_-_, _≤_};
+ghost use Prim.Native.Nat.{_+_, _-_, _≤_, _<_};
 ghost use lib.Dec.{eqb};
+ghost use lib.ListN.{getD};
 ghost use Rattle.walk_model.specs.Walk.{table as power-table};
-ghost use Rattle.walk_model.specs.Watch.{settle-sizes, place-sizes, close-sizes};
-ghost use Rattle.walk_levels.specs.Needs.{Table-fits, Levels-fit, Numbers-fit, levels-of, closes-from, settle-from, place-from, close-from};
+ghost use Rattle.walk_model.specs.Watch.{settle-sizes, close-sizes};
+ghost use Rattle.walk_levels.specs.Needs.{Table-fits, Levels-fit, Tables-fit, Packed, With-part, part, widths-in, lows-in, highs-in, numbers-in, levels-of, closes-from, settle-from, close-from, expected-label};
 use store_types::Label;
 
 // Powers by height, from v on: entries 0 to top.
@@ -25,14 +26,63 @@ pub fn table(v: u64, b: u64, top: usize) -> [u64; 24]
     t
 }
 
+// Four tables by height in one array: widths, least leaves, limits, and the numbers of the watched nodes.
+const WIDTHS: usize = 0;
+
+const LOWS: usize = 1;
+
+const HIGHS: usize = 2;
+
+const NUMBERS: usize = 3;
+
+// The same four tables with one of them replaced.
+fn with_part(tables: [u64; 96], k: usize, from: [u64; 24]) -> [u64; 96]
+    requires { ⌜ k < 4 ⌝ }
+    ensures { λ t. ⌜ With-part tables k from t ⌝ }
+{
+    let mut t = tables;
+    let mut h: usize = 0;
+    while h < 24 {
+        t[24 * k + h] = from[h];
+        h += 1;
+    }
+    t
+}
+
+pub fn tables(widths: [u64; 24], lows: [u64; 24], highs: [u64; 24], numbers: [u64; 24]) -> [u64; 96]
+    ensures { λ t. ⌜ Packed t widths lows highs numbers ⌝ }
+{
+    let none = [0u64; 96];
+    let one = with_part(none, WIDTHS, widths);
+    let two = with_part(one, LOWS, lows);
+    let three = with_part(two, HIGHS, highs);
+    with_part(three, NUMBERS, numbers)
+}
+
+// The entry of a height in one of the four tables.
+fn entry(tables: &[u64; 96], k: usize, h: usize) -> u64
+    requires { ⌜ (k < 4) × (h < 24) ⌝ }
+    ensures { λ v. ⌜ v ≡ getD (part k (now (tables .entry))) h 0 ⌝ }
+{
+    tables[24 * k + h]
+}
+
+// Where the watched node of a height ends.
+fn watched_end(tables: &[u64; 96], h: usize) -> u64
+    requires { ⌜ (h < 24) × Tables-fit h (now tables) ⌝ }
+    ensures { λ v. ⌜ v ≡ getD (numbers-in (now (tables .entry))) h 0 + getD (widths-in (now (tables .entry))) h 0 ⌝ }
+{
+    entry(tables, NUMBERS, h) + entry(tables, WIDTHS, h)
+}
+
 // Whether a node of height h whose first leaf is at place first is within its limits where the next leaf is at place.
-fn closes(first: u32, place: u32, h: usize, lows: &[u64; 24], highs: &[u64; 24]) -> bool
-    requires { ⌜ Levels-fit h (now lows) (now lows) (now highs) ⌝ }
-    ensures { λ t. ⌜ t ≡ closes-from (now (lows .entry)) (now (highs .entry)) h first place ⌝ }
+fn closes(first: u32, place: u32, h: usize, tables: &[u64; 96]) -> bool
+    requires { ⌜ Levels-fit h (widths-in (now tables)) (lows-in (now tables)) (highs-in (now tables)) ⌝ }
+    ensures { λ t. ⌜ t ≡ closes-from (lows-in (now (tables .entry))) (highs-in (now (tables .entry))) h first place ⌝ }
 {
     let f = first as u64;
     let i = place as u64;
-    f + lows[h] <= i && i < f + highs[h]
+    f + entry(tables, LOWS, h) <= i && i < f + entry(tables, HIGHS, h)
 }
 
 // The size that stands behind a node which closes before place: its own where it ends as the watched one does, so that
@@ -45,22 +95,19 @@ fn watched(end: u64, watch: u64, first: u32, place: u32, size: u32) -> u32
 }
 
 // Closes the open nodes that end at or before a label, and opens new ones; false where one is outside its limits.
-fn settle(
+pub fn settle(
     label: Label,
     place: u32,
     under: usize,
-    widths: &[u64; 24],
-    lows: &[u64; 24],
-    highs: &[u64; 24],
-    numbers: &[u64; 24],
+    tables: &[u64; 96],
     ends: &mut [u64; 24],
     firsts: &mut [u32; 24],
     sizes: &mut [u32; 24],
 ) -> bool
-    requires { ⌜ Levels-fit under (now widths) (now lows) (now highs) × Numbers-fit (now numbers) ⌝ }
-    ensures ok { λ t. ⌜ t ≡ settle-from (now (widths .entry)) (now (lows .entry)) (now (highs .entry)) under (label .0) place (now (ends .entry)) (now (firsts .entry)) .ok ⌝ }
-    ensures left { λ _. ⌜ levels-of (now (ends .exit)) (now (firsts .exit)) ≡ settle-from (now (widths .entry)) (now (lows .entry)) (now (highs .entry)) under (label .0) place (now (ends .entry)) (now (firsts .entry)) .levels ⌝ }
-    ensures sizes { λ t. ⌜ (t ≡ true → now (sizes .exit) ≡ settle-sizes (now (widths .entry)) (now (numbers .entry)) under 1 (label .0) place (levels-of (now (ends .entry)) (now (firsts .entry))) (now (sizes .entry))) ⌝ }
+    requires { ⌜ Tables-fit under (now tables) ⌝ }
+    ensures ok { λ t. ⌜ t ≡ settle-from (now (tables .entry)) under (label .0) place (now (ends .entry)) (now (firsts .entry)) .ok ⌝ }
+    ensures left { λ _. ⌜ levels-of (now (ends .exit)) (now (firsts .exit)) ≡ settle-from (now (tables .entry)) under (label .0) place (now (ends .entry)) (now (firsts .entry)) .levels ⌝ }
+    ensures sizes { λ t. ⌜ (t ≡ true → now (sizes .exit) ≡ settle-sizes (widths-in (now (tables .entry))) (numbers-in (now (tables .entry))) under 1 (label .0) place (levels-of (now (ends .entry)) (now (firsts .entry))) (now (sizes .entry))) ⌝ }
 {
     let l = label.0 as u64;
     let mut exact = false;
@@ -70,78 +117,47 @@ fn settle(
         if l < end {
             return exact;
         }
-        if !closes(firsts[h], place, h, lows, highs) {
+        if !closes(firsts[h], place, h, tables) {
             return false;
         }
-        sizes[h] = watched(end, numbers[h] + widths[h], firsts[h], place, sizes[h]);
+        sizes[h] = watched(end, watched_end(tables, h), firsts[h], place, sizes[h]);
         exact = end == l;
-        ends[h] = l + widths[h];
+        ends[h] = l + entry(tables, WIDTHS, h);
         firsts[h] = place;
         h += 1;
     }
     exact && l < ends[h]
 }
 
-// One label: of the next child of the open node of height 1, or of the first leaf of new nodes.
-pub fn place_label(
-    label: Label,
-    expect: u64,
-    place: u32,
-    under: usize,
-    widths: &[u64; 24],
-    lows: &[u64; 24],
-    highs: &[u64; 24],
-    numbers: &[u64; 24],
-    ends: &mut [u64; 24],
-    firsts: &mut [u32; 24],
-    sizes: &mut [u32; 24],
-) -> bool
-    requires { ⌜ Levels-fit under (now widths) (now lows) (now highs) × Numbers-fit (now numbers) ⌝ }
-    ensures ok { λ t. ⌜ t ≡ place-from (now (widths .entry)) (now (lows .entry)) (now (highs .entry)) under expect (label .0) place (now (ends .entry)) (now (firsts .entry)) .ok ⌝ }
-    ensures left { λ _. ⌜ levels-of (now (ends .exit)) (now (firsts .exit)) ≡ place-from (now (widths .entry)) (now (lows .entry)) (now (highs .entry)) under expect (label .0) place (now (ends .entry)) (now (firsts .entry)) .levels ⌝ }
-    ensures sizes { λ t. ⌜ (t ≡ true → now (sizes .exit) ≡ place-sizes (now (widths .entry)) (now (numbers .entry)) under expect (label .0) place (levels-of (now (ends .entry)) (now (firsts .entry))) (now (sizes .entry))) ⌝ }
-{
-    let l = label.0 as u64;
-    if l == expect && l < ends[1] {
-        return true;
-    }
-    settle(
-        label,
-        place,
-        under,
-        widths,
-        lows,
-        highs,
-        numbers,
-        ends,
-        firsts,
-        sizes,
-    )
-}
-
 // At the end: every open node below the root is within its limits.
 pub fn all_close(
     place: u32,
     under: usize,
-    widths: &[u64; 24],
-    lows: &[u64; 24],
-    highs: &[u64; 24],
-    numbers: &[u64; 24],
+    tables: &[u64; 96],
     ends: &[u64; 24],
     firsts: &[u32; 24],
     sizes: &mut [u32; 24],
 ) -> bool
-    requires { ⌜ Levels-fit under (now widths) (now lows) (now highs) × Numbers-fit (now numbers) ⌝ }
-    ensures ok { λ t. ⌜ t ≡ close-from (now (lows .entry)) (now (highs .entry)) under place (now (firsts .entry)) ⌝ }
-    ensures sizes { λ t. ⌜ (t ≡ true → now (sizes .exit) ≡ close-sizes (now (widths .entry)) (now (numbers .entry)) under 1 place (levels-of (now (ends .entry)) (now (firsts .entry))) (now (sizes .entry))) ⌝ }
+    requires { ⌜ Tables-fit under (now tables) ⌝ }
+    ensures ok { λ t. ⌜ t ≡ close-from (lows-in (now (tables .entry))) (highs-in (now (tables .entry))) under place (now (firsts .entry)) ⌝ }
+    ensures sizes { λ t. ⌜ (t ≡ true → now (sizes .exit) ≡ close-sizes (widths-in (now (tables .entry))) (numbers-in (now (tables .entry))) under 1 place (levels-of (now (ends .entry)) (now (firsts .entry))) (now (sizes .entry))) ⌝ }
 {
     let mut h: usize = 1;
     while h <= under {
-        if !closes(firsts[h], place, h, lows, highs) {
+        if !closes(firsts[h], place, h, tables) {
             return false;
         }
-        sizes[h] = watched(ends[h], numbers[h] + widths[h], firsts[h], place, sizes[h]);
+        sizes[h] = watched(ends[h], watched_end(tables, h), firsts[h], place, sizes[h]);
         h += 1;
     }
     true
+}
+
+// The label to come behind a label, in the open node of height 1: a number that no label is where that node ends before it,
+// so that one test finds the next child.
+pub fn expected(label: Label, end: u64) -> u64
+    ensures { λ e. ⌜ e ≡ expected-label (label .0 + 1) end ⌝ }
+{
+    let next = label.0 as u64 + 1;
+    if next < end { next } else { 4294967296 }
 }

@@ -1,3 +1,3 @@
-pub mod BitLaws
+pub mod PairLaws
 pub mod TagLaws
 pub mod TestLaws

@@ -1,82 +1,117 @@
 -- What each way through the tests of one tag says, from what the tests read. Assumes nothing.
-use mathlib.Core.Path.{_≡_}
-use mathlib.Core.Bool.{Bool, true, false, not, cond}
+use mathlib.Core.Path.{_≡_, sym, _∙_}
+use mathlib.Core.Bool.{Bool, true, false, _&&_, not, cond, and-false}
+use mathlib.Core.Logic.{by-cases}
 use mathlib.Core.List.{List}
-use Prim.Native.Nat.{ℕ, _+_, _*_, _-_, _/_, _%_, _≤_, _<_}
-use borrow.Author.Tests.{eq-eqb, ne-eqb, lt-ltb, le-ltb, le-leb, lt-leb, not-true, not-false}
+use Prim.Native.Nat.{ℕ, _+_, _*_, _/_, _%_, _≤_, _<_}
+use native.Mathlib.Decide.{ℕ-discrete, decLe}
+use native.Mathlib.Omega.{arith}
+use borrow.Author.Tests.{eq-eqb, ne-eqb, le-leb, lt-leb, eqb-true, not-true, not-false}
+use mathlib.Core.Bool.{and-eq-true-iff}
 use lib.Dec.{leb, eqb}
-use Rattle.store_types.specs.Limits.{word-limit}
-use Rattle.store_types.specs.Layout.{at-prior, at-mate, at-up, at-kind, field}
-use Rattle.walk_model.specs.Walk.{kind-fits}
+use lib.ListN.{getD}
+use Rattle.store_types.specs.Limits.{no-tag}
+use Rattle.store_types.specs.Layout.{at-prior, at-mate, at-up, at-kind, tag-words, field, Room}
+use Rattle.words.specs.Offsets.{Record-at}
+use Rattle.words.proofs.Fields.{room}
+use Rattle.walk_model.specs.Walk.{kind-fits, inner-fits, open-after}
 use Rattle.kind_pick.specs.Needs.{Kind-word}
-use Rattle.walk_tags.specs.Needs.{is-kind-word, up-fits, mate-fits, mark-fits, record-fits, fits-at}
-use Rattle.walk_tags.proofs.BitLaws.{mark-bit, tag-bit}
+use Rattle.walk_tags.specs.Needs.{Tag-reads, Beside, pair-table, pair-fits, is-kind-word, bit-of, links-fit, fits-at, marks-at}
+use Rattle.walk_tags.proofs.PairLaws.{pair-right}
+use Rattle.walk_tags.proofs.TagLaws.{kind-given, kind-fitting, kind-large, kind-beside, q-below, tag-right}
 
--- THE KIND WORD
+-- THE RECORD of a tag stands where the walk says
+pub stands-there : {ws : List ℕ} {n x at o : ℕ} → Tag-reads ws n x at o → Record-at ws at
+stands-there {x = x} h = record { tag = x; there = h .there; room = room (h .records) (h .below) }
+
+-- A FIELD, and a tag, that the kind picks: both are there
 module _ (c : ℕ) where
-  pub kind-large : 32 ≤ c → false ≡ is-kind-word c
-  unfolding is-kind-word
-  kind-large p = rw (le-ltb c 32 p)
+  pub open-place-fits : {r : ℕ} → r ≡ cond (eqb (c % 16) 2) at-mate at-up → r < tag-words
+  open-place-fits e =
+      by-cases (ℕ-discrete (c % 16) 2) (λ f. omega (arith, rw (eq-eqb (c % 16) 2 f) at e)) (λ f. omega (arith, rw (ne-eqb (c % 16) 2 f) at e))
 
-  pub kind-high : c < 32 → 1 ≤ c % 16 → leb (c % 16) 3 ≡ is-kind-word c
-  unfolding is-kind-word
-  kind-high p q = rw (lt-ltb c 32 p, le-leb 1 (c % 16) q)
+  pub back-place-fits : {r : ℕ} → r ≡ cond (eqb (c % 16) 1) at-prior at-mate → r < tag-words
+  back-place-fits e =
+      by-cases (ℕ-discrete (c % 16) 1) (λ f. omega (arith, rw (eq-eqb (c % 16) 1 f) at e)) (λ f. omega (arith, rw (ne-eqb (c % 16) 1 f) at e))
 
-  pub kind-low : c < 32 → c % 16 < 1 → leb 1 (c % 16) ≡ is-kind-word c
-  unfolding is-kind-word
-  kind-low p q = rw (lt-ltb c 32 p, lt-leb 1 (c % 16) q)
+  pub partner-fits : {ws : List ℕ} {q x : ℕ} (p : ℕ) → p ≡ cond (eqb (c % 16) 2) q x → Room ws q → Room ws x → Room ws p
+  partner-fits p e l m =
+      by-cases (ℕ-discrete (c % 16) 2) (λ f. rw (rw (eq-eqb (c % 16) 2 f) at e) l) (λ f. rw (rw (ne-eqb (c % 16) 2 f) at e) m)
 
--- THE UP: u is it, v is that of p, a is what u is to be, and m says whether it is
-module _ (ws : List ℕ) (n o x p c : ℕ) {u v a : ℕ} {m : Bool} (e : u ≡ field ws x at-up) (f : v ≡ field ws p at-up) (g : a ≡ cond (eqb (c % 16) 2) v o) (s : m ≡ eqb u a) where
-  pub up-not : m ≡ false → m ≡ up-fits ws n o x p c
-  unfolding up-fits
-  up-not q = rw (← e, ← f, ← g, ← s, q)
+-- THE LINKS: r is the place of the word v that names the open begin, u the up of x, w that of p, and y at place s of p's record
+module _ (ws : List ℕ) (b o x q c : ℕ) {r v : ℕ} (open-place : r ≡ cond (eqb (c % 16) 2) at-mate at-up) (open-word : v ≡ field ws x r) where
+  pub links-open-not : (v ≡ o → ⊥) → false ≡ links-fit ws b o x q c
+  unfolding links-fit
+  links-open-not ne = rw (← open-place, ← open-word, ne-eqb v o ne)
 
-  pub up-tag : m ≡ true → u < word-limit → n < word-limit → leb ((u + 1) % word-limit) n ≡ up-fits ws n o x p c
-  unfolding up-fits
-  up-tag q r t = rw (← e, ← f, ← g, ← s, q) (tag-bit u n r t)
+  module _ {u p w : ℕ} (opens : v ≡ o) (own : u ≡ field ws x at-up) (of-p : p ≡ cond (eqb (c % 16) 2) q x) (outer : w ≡ field ws p at-up) where
+    pub links-up-not : (u ≡ w → ⊥) → false ≡ links-fit ws b o x q c
+    unfolding links-fit
+    links-up-not ne = rw (← open-place, ← open-word, eq-eqb v o opens, ← of-p, ← own, ← outer, ne-eqb u w ne)
 
--- THE MATE: u is it, v is that of p; a and b are what an end's or text's is to be, and any tag's; m says whether it is
-module _ (ws : List ℕ) (o x p c : ℕ) {u v a b l : ℕ} {m : Bool} (e : u ≡ field ws x at-mate) (f : v ≡ field ws p at-mate) (g : a ≡ cond (eqb (c % 16) 2) o x) (h : b ≡ cond (eqb (c % 16) 1) u a) (s : m ≡ eqb u b) (k : l ≡ cond (eqb (c % 16) 2) v x) where
-  pub mate-not : m ≡ false → m ≡ mate-fits ws o x p c
-  unfolding mate-fits
-  mate-not q = rw (← e, ← f, ← g, ← h, ← s, q)
+    pub links-back : {s y z : ℕ} → u ≡ w → s ≡ cond (eqb (c % 16) 1) at-prior at-mate → y ≡ field ws p s → z ≡ cond (eqb (c % 16) 1) b x → eqb y z ≡ links-fit ws b o x q c
+    unfolding links-fit
+    links-back e f g h = rw (← open-place, ← open-word, eq-eqb v o opens, ← of-p, ← own, ← outer, eq-eqb u w e, ← f, ← g, ← h)
 
-  pub mate-back : {t : Bool} → m ≡ true → t ≡ eqb l x → t ≡ mate-fits ws o x p c
-  unfolding mate-fits
-  mate-back q r = rw (← e, ← f, ← g, ← h, ← s, q, ← k, ← r)
-
--- THE MARK: k is the kind word of p
-module _ (c k : ℕ) {v : ℕ} (e : v ≡ cond (eqb (c % 16) 2) k (c - 1)) where
-  pub mark-not : (v ≡ c - 1 → ⊥) → eqb v (c - 1) ≡ mark-fits c k
-  unfolding mark-fits
-  mark-not q = rw (← e, ne-eqb v (c - 1) q)
-
-  pub mark-around : v ≡ c - 1 → Kind-word c → eqb ((1 - c / 16) * (k / 16)) 0 ≡ mark-fits c k
-  unfolding mark-fits
-  mark-around q r = rw (← e, eq-eqb v (c - 1) q) (mark-bit c r k)
-
--- ALL THREE: k is the kind word of p
-module _ (ws : List ℕ) (n o x p c : ℕ) {t : Bool} (e : t ≡ up-fits ws n o x p c) where
-  pub record-up-not : not t ≡ true → false ≡ record-fits ws n o x p c
-  unfolding record-fits
-  record-up-not q = rw (← e, not-true t q)
-
-  module _ {m : Bool} (q : not t ≡ false) (f : m ≡ mate-fits ws o x p c) where
-    pub record-mate-not : m ≡ false → m ≡ record-fits ws n o x p c
-    unfolding record-fits
-    record-mate-not r = rw (← e, not-false t q, ← f, r)
-
-    pub record-mark : {k : ℕ} {u : Bool} → m ≡ true → k ≡ field ws p at-kind → u ≡ mark-fits c k → u ≡ record-fits ws n o x p c
-    unfolding record-fits
-    record-mark r g h = rw (← e, not-false t q, ← f, r, ← g, ← h)
-
--- WITH ITS PRIOR: u is it, and m says whether that is the tag before it
-module _ (ws : List ℕ) (n o x p : ℕ) {u : ℕ} {m : Bool} (e : u ≡ field ws x at-prior) (s : m ≡ eqb u p) where
-  pub tag-not : not m ≡ true → false ≡ fits-at ws n o x p
+-- ONE TAG: p is its prior, m says whether its kind word c may stand beside that of q
+module _ (ws : List ℕ) (n o x at b : ℕ) (reads : Tag-reads ws n x at o) {p : ℕ} (prior : p ≡ field ws x at-prior) where
+  pub tag-not : (p ≡ b → ⊥) → false ≡ fits-at ws n o x b
   unfolding fits-at
-  tag-not q = rw (← e, ← s, not-true m q)
+  tag-not ne = rw (← prior, ne-eqb p b ne)
 
-  pub tag-kind : {k : ℕ} {t : Bool} → not m ≡ false → k ≡ field ws x at-kind → t ≡ kind-fits ws n o x k → t ≡ fits-at ws n o x p
-  unfolding fits-at
-  tag-kind q f r = rw (← e, ← s, not-false m q, ← f, ← r)
+  module _ {c : ℕ} (same : p ≡ b) (word : c ≡ field ws x at-kind) where
+    fits-kind : {t : Bool} → t ≡ kind-fits ws n o x c → t ≡ fits-at ws n o x b
+    unfolding fits-at
+    fits-kind e = rw (← prior, eq-eqb p b same, ← word) e
+
+    pub tag-large : 32 ≤ c → false ≡ fits-at ws n o x b
+    tag-large l = fits-kind (kind-large ws n o x c l)
+
+    module _ {q k : ℕ} {pairs : List ℕ} {m : Bool} (small : c < 32) (of-q : q ≡ cond (lib.Dec.ltb o n) o x) (around : k ≡ field ws q at-kind) (table : pairs ≡ pair-table) (bit : m ≡ bit-of (getD pairs c 0) k) where
+      pair-is : m ≡ pair-fits c (field ws q at-kind)
+      pair-is = bit ∙ rw (table, around) (pair-right c (field ws q at-kind) small (kind-beside ws n o x q c (omega (arith, reads .records .few)) (reads .around) word of-q))
+
+      all-is : (pair-fits c (field ws q at-kind) && links-fit ws b o x q c) ≡ kind-fits ws n o x c
+      all-is = tag-right ws n o x q c (omega (arith, reads .records .few)) (reads .around) word of-q b (sym prior ∙ same)
+
+      pub tag-unfit : not m ≡ true → false ≡ fits-at ws n o x b
+      tag-unfit r = fits-kind (rw (sym pair-is ∙ not-true m r) at all-is)
+
+      pub tag-links : {t : Bool} → not m ≡ false → t ≡ links-fit ws b o x q c → t ≡ fits-at ws n o x b
+      tag-links r e = fits-kind (e ∙ (rw (sym pair-is ∙ not-false m r) at all-is))
+
+      pub tag-kind : not m ≡ false → Kind-word c
+      unfolding pair-fits
+      tag-kind r = let all = simp and-eq-true-iff at (sym pair-is ∙ not-false m r) in kind-given c (all .0)
+
+    pub beside-below : {q : ℕ} → q ≡ cond (lib.Dec.ltb o n) o x → q < n
+    beside-below {q} of-q = q-below ws n o x q c (omega (arith, reads .records .few)) (reads .around) word of-q (reads .below)
+
+-- BEHIND A TAG THAT FITS
+pub mark-counted : (ws : List ℕ) (x m : ℕ) {k : ℕ} → k ≡ field ws x at-kind → field ws x at-kind < 32 → m + k / 16 ≡ marks-at ws x m
+unfolding marks-at
+mark-counted ws x m e p =
+    rw e
+    (by-cases (decLe 16 (field ws x at-kind)) (λ l. rw (le-leb 16 (field ws x at-kind) l) (omega arith))
+    (λ l. rw (lt-leb 16 (field ws x at-kind) (omega arith)) (omega arith)))
+
+module _ (ws : List ℕ) (n o x c : ℕ) (fits : kind-fits ws n o x c ≡ true) where
+  pub fits-small : c < 32
+  fits-small = kind-fitting ws n o x c fits .small
+
+  -- the up of a begin or text
+  pub inner-up : (c % 16 ≡ 2 → ⊥) → field ws x at-up ≡ o
+  unfolding kind-fits inner-fits
+  inner-up ne =
+      by-cases (ℕ-discrete (c % 16) 3)
+      (λ text. let all = simp and-eq-true-iff at (rw (lt-leb 32 c fits-small, eq-eqb (c % 16) 3 text) at fits) in eqb-true (field ws x at-up) o (all .1 .0))
+      (λ no-text. let k = kind-fitting ws n o x c fits in
+      let all = simp and-eq-true-iff at (rw (lt-leb 32 c fits-small, ne-eqb (c % 16) 3 no-text, eq-eqb (c % 16) 1 (omega (arith, k))) at fits) in
+      eqb-true (field ws x at-up) o (all .0))
+
+  pub open-right : {u v : ℕ} → u ≡ field ws x at-up → v ≡ cond (eqb (c % 16) 1) x u → v ≡ open-after ws o x c
+  unfolding open-after
+  open-right up e =
+      by-cases (ℕ-discrete (c % 16) 3)
+      (λ text. rw (eq-eqb (c % 16) 3 text) (rw (ne-eqb (c % 16) 1 (λ f. omega arith), up, inner-up (λ f. omega arith)) at e))
+      (λ no-text. rw (ne-eqb (c % 16) 3 no-text, ← up) e)

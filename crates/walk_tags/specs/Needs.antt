@@ -1,50 +1,67 @@
 -- What the tests of one tag ask of their callers, and the parts of kind-fits (walk_model's Walk) that each decides.
 -- Assumes nothing: these are definitions.
 use mathlib.Core.Path.{_≡_}
-use mathlib.Core.Bool.{Bool, _&&_, _||_, cond}
-use mathlib.Core.List.{List}
-use Prim.Native.Nat.{ℕ, _+_, _*_, _-_, _%_, _≤_, _<_}
+use mathlib.Core.Logic.{_⊎_}
+use mathlib.Core.Bool.{Bool, _&&_, _||_, not, cond}
+use mathlib.Core.List.{List, [], _∷_, _++_}
+use Prim.Native.Nat.{ℕ, _+_, _-_, _/_, _%_, _^_, _<_}
 use lib.Dec.{ltb, leb, eqb}
-use lib.ListN.{length}
+use lib.ListN.{replicate}
 use Rattle.store_types.specs.Limits.{no-tag}
-use Rattle.store_types.specs.Layout.{at-prior, at-mate, at-up, at-kind, field, Records}
+use Rattle.store_types.specs.Layout.{at-prior, at-mate, at-up, at-kind, field, Room, Records}
 use Rattle.walk_model.specs.Walk.{kind-fits}
+use Rattle.words.specs.Offsets.{offset-of}
 
--- the records of n tags are there, x is one of them, and the open begin is one or no tag
-pub record Open-reads (ws : List ℕ) (n o : ℕ) : Type 0 where
+-- THE OPEN BEGINS, from the innermost on: each is a begin among n tags, and its up is the next
+abbrev pub Begin-word : ℕ → Type 0
+Begin-word c = (c ≡ 1) ⊎ (c ≡ 17)
+
+pub data Open (ws : List ℕ) (n : ℕ) : ℕ → Type 0 where
+  none : Open ws n no-tag
+  begin : {o : ℕ} → o < n → Begin-word (field ws o at-kind) → Open ws n (field ws o at-up) → Open ws n o
+
+-- the records of n tags are there, x is one of them, where it stands, and the open begin is one or no tag
+pub record Tag-reads (ws : List ℕ) (n x at o : ℕ) : Type 0 where
   pub records : Records ws n
-  pub open-below : (o ≡ no-tag → ⊥) → o < n
-
-pub record Reads (ws : List ℕ) (n x o : ℕ) : Type 0 where
-  pub around : Open-reads ws n o
   pub below : x < n
+  pub there : at ≡ offset-of x
+  pub around : Open ws n o
 
--- x and the tag beside it are both among them
-pub record Beside (ws : List ℕ) (n x p : ℕ) : Type 0 where
-  pub records : Records ws n
-  pub below : x < n
-  pub beside : p < n
+-- x and the tag beside it are both there
+pub record Beside (ws : List ℕ) (x at q : ℕ) : Type 0 where
+  pub room : Room ws x
+  pub there : at ≡ offset-of x
+  pub beside : Room ws q
 
--- THE KIND WORD of a begin, end or text, with or without the mark
+pub record Mark-reads (ws : List ℕ) (x at marks : ℕ) : Type 0 where
+  pub room : Room ws x
+  pub there : at ≡ offset-of x
+  pub kind : field ws x at-kind < 32
+  pub few : marks < 4000000000
+
+-- THE TABLE OF PAIRS OF KINDS: the kinds beside which a begin, an end, a text may stand; then the same, marked
+unfoldable pub pair-table : List ℕ
+pair-table =
+    0 ∷ 2 ∷ 2 ∷ 10 ∷ replicate 13 0 ++ 131074 ∷ 131072 ∷ 655362 ∷ replicate 12 0
+
+-- and its rule: c is a kind word; an end's is one more than the open begin's, so that both have the mark or none; and a tag
+-- in a marked section is marked. k is the kind word of the open begin, or c itself where none is open
 unfoldable pub is-kind-word : (c : ℕ) → Bool
 is-kind-word c = ltb c 32 && (leb 1 (c % 16) && leb (c % 16) 3)
 
--- ONE TAG x of kind word c, where o is the open begin or no tag, and p is o, or x where that is no tag
-unfoldable pub up-fits : List ℕ → (n o x p c : ℕ) → Bool
-up-fits ws n o x p c =
-    eqb (field ws x at-up) (cond (eqb (c % 16) 2) (field ws p at-up) o) && (eqb (field ws x at-up) no-tag || ltb (field ws x at-up) n)
+unfoldable pub pair-fits : (c k : ℕ) → Bool
+pair-fits c k = is-kind-word c && (eqb (cond (eqb (c % 16) 2) k (c - 1)) (c - 1) && (leb 16 c || ltb k 16))
 
-unfoldable pub mate-fits : List ℕ → (o x p c : ℕ) → Bool
-mate-fits ws o x p c =
-    eqb (field ws x at-mate) (cond (eqb (c % 16) 1) (field ws x at-mate) (cond (eqb (c % 16) 2) o x))
-    && eqb (cond (eqb (c % 16) 2) (field ws p at-mate) x) x
+-- bit k of m
+unfoldable pub bit-of : (m k : ℕ) → Bool
+bit-of m k = not (eqb (m / 2 ^ (k % 32) % 2) 0)
 
--- k is the kind word of p
-unfoldable pub mark-fits : (c k : ℕ) → Bool
-mark-fits c k = eqb (cond (eqb (c % 16) 2) k (c - 1)) (c - 1) && (leb 16 c || ltb k 16)
-
-unfoldable pub record-fits : List ℕ → (n o x p c : ℕ) → Bool
-record-fits ws n o x p c = up-fits ws n o x p c && (mate-fits ws o x p c && mark-fits c (field ws p at-kind))
+-- ONE TAG x of kind word c behind its prior b, where o is the open begin or no tag, and q is o, or x where that is no tag
+unfoldable pub links-fit : List ℕ → (b o x q c : ℕ) → Bool
+links-fit ws b o x q c =
+    let p = cond (eqb (c % 16) 2) q x in
+    eqb (field ws x (cond (eqb (c % 16) 2) at-mate at-up)) o
+    && (eqb (field ws x at-up) (field ws p at-up) && eqb (field ws p (cond (eqb (c % 16) 1) at-prior at-mate)) (cond (eqb (c % 16) 1) b x))
 
 -- with its prior
 unfoldable pub fits-at : List ℕ → (n o x prior : ℕ) → Bool

@@ -2,117 +2,123 @@
 // the next kind, so nothing branches on it: each test is one that every tag of a sound store passes.
 ghost use mathlib.Core.Path.{_≡_};
 ghost use mathlib.Core.Bool.{true, cond};
-ghost use Prim.Native.Nat.{_%_, _<_, _≤_};
-ghost use lib.Dec.{eqb};
-ghost use Rattle.store_types.specs.Limits.{no-tag};
+ghost use Prim.Native.Nat.{_<_};
+ghost use lib.Dec.{ltb};
+ghost use lib.ListN.{getD};
 ghost use Rattle.store_types.specs.Layout.{at-kind, field};
 ghost use Rattle.walk_model.specs.Walk.{kind-fits, open-after as open-behind};
 ghost use Rattle.kind_pick.specs.Needs.{Kind-word};
-ghost use Rattle.walk_tags.specs.Needs.{Reads, Beside, is-kind-word, up-fits, mate-fits, mark-fits, record-fits, fits-at, marks-at};
+ghost use Rattle.walk_tags.specs.Needs.{Tag-reads, Beside, Mark-reads, pair-table, bit-of, links-fit, fits-at, marks-at};
 use store_types::TagId;
+use words::Offset;
 
-fn same(a: TagId, b: TagId) -> bool
-    ensures { λ t. ⌜ t ≡ eqb (a .0) (b .0) ⌝ }
+// Which kinds may stand beside which: bit k of entry c says that a tag of kind word c may stand in, or close, an open begin
+// of kind word k, or, where none is open, beside itself.
+pub fn pairs() -> [u32; 32]
+    ensures { λ t. ⌜ t ≡ pair-table ⌝ }
 {
-    a.0 == b.0
+    let mut t = [0u32; 32];
+    t[1] = 2;
+    t[2] = 2;
+    t[3] = 10;
+    t[17] = 131074;
+    t[18] = 131072;
+    t[19] = 655362;
+    t
+}
+
+fn may_stand(pairs: &[u32; 32], kind: u32, around: u32) -> bool
+    requires { ⌜ kind < 32 ⌝ }
+    ensures { λ t. ⌜ t ≡ bit-of (getD (now (pairs .entry)) kind 0) around ⌝ }
+{
+    (pairs[kind as usize] >> (around % 32)) % 2 != 0
 }
 
 // The tag whose record is looked at beside x: the open begin, or x itself where none is open.
-fn beside(x: TagId, parent: TagId) -> TagId
-    ensures { λ p. ⌜ p .0 ≡ cond (eqb (parent .0) no-tag) (x .0) (parent .0) ⌝ }
+fn beside(n: u32, x: TagId, parent: TagId) -> TagId
+    ensures { λ p. ⌜ p .0 ≡ cond (ltb (parent .0) n) (parent .0) (x .0) ⌝ }
 {
-    let none = (parent.0 as u64 + 1) / 4294967296;
-    TagId(kind_pick::pick(none as u32, x.0, parent.0))
+    if parent.0 < n { parent } else { x }
 }
 
-// Whether a word is the kind of a begin, end or text, with or without the mark.
-fn is_kind(kind: u32) -> bool
-    ensures { λ t. ⌜ t ≡ is-kind-word kind ⌝ }
+// The word of a begin or text that names the open begin is its up, that of an end its mate. The up of a tag and of the tag
+// beside it, for an end the open begin's, are the same; and so are the mate of that one and the tag. A begin has no mate yet:
+// its prior is compared again. Its own up is read first, so that the next open begin does not wait for the other.
+fn links_fit(
+    words: &[u32],
+    x: TagId,
+    at: Offset,
+    prior: TagId,
+    parent: TagId,
+    q: TagId,
+    kind: u32,
+) -> bool
+    requires { ⌜ Beside (now words) (x .0) (at .0) (q .0) × Kind-word kind ⌝ }
+    ensures { λ t. ⌜ t ≡ links-fit (now (words .entry)) (prior .0) (parent .0) (x .0) (q .0) kind ⌝ }
 {
-    if 32 <= kind {
+    let up = words::get_at(words, at, words::AT_UP);
+    let open = words::get(
+        words,
+        x,
+        kind_pick::at_end(kind, words::AT_MATE as u32, words::AT_UP as u32) as usize,
+    );
+    if open != parent.0 {
         return false;
     }
-    let plain = kind % 16;
-    1 <= plain && plain <= 3
-}
-
-// The up of an end is that of the open begin, the up of a begin or text is the open begin; it is no tag or a tag.
-fn up_fits(words: &[u32], n: u32, x: TagId, parent: TagId, p: TagId, kind: u32) -> bool
-    requires { ⌜ Beside (now words) n (x .0) (p .0) × Kind-word kind ⌝ }
-    ensures { λ t. ⌜ t ≡ up-fits (now (words .entry)) n (parent .0) (x .0) (p .0) kind ⌝ }
-{
-    let up = words::up_of(words, x);
+    let p = TagId(kind_pick::at_end(kind, q.0, x.0));
     let outer = words::up_of(words, p);
-    let above = TagId(kind_pick::at_end(kind, outer.0, parent.0));
-    same(up, above) && (up.0 as u64 + 1) % 4294967296 <= n as u64
-}
-
-// The mate of an end is the open begin, whose mate is the end; the mate of a text is the text.
-fn mate_fits(words: &[u32], n: u32, x: TagId, parent: TagId, p: TagId, kind: u32) -> bool
-    requires { ⌜ Beside (now words) n (x .0) (p .0) × Kind-word kind ⌝ }
-    ensures { λ t. ⌜ t ≡ mate-fits (now (words .entry)) (parent .0) (x .0) (p .0) kind ⌝ }
-{
-    let mate = words::mate_of(words, x);
-    let back = words::mate_of(words, p);
-    let first = kind_pick::at_end(kind, parent.0, x.0);
-    let other = TagId(kind_pick::at_begin(kind, mate.0, first));
-    let last = TagId(kind_pick::at_end(kind, back.0, x.0));
-    same(mate, other) && same(last, x)
-}
-
-// The kind word of an end is one more than the open begin's, so that both have the mark or none; and a tag in a marked
-// section is marked. around is the kind word of the tag beside.
-fn mark_fits(kind: u32, around: u32) -> bool
-    requires { ⌜ Kind-word kind ⌝ }
-    ensures { λ t. ⌜ t ≡ mark-fits kind around ⌝ }
-{
-    let begin = kind - 1;
-    kind_pick::at_end(kind, around, begin) == begin && (1 - kind / 16) * (around / 16) == 0
-}
-
-// A tag's record, of kind word kind, and that of the tag p beside it.
-fn record_fits(words: &[u32], n: u32, x: TagId, parent: TagId, p: TagId, kind: u32) -> bool
-    requires { ⌜ Beside (now words) n (x .0) (p .0) × Kind-word kind ⌝ }
-    ensures { λ t. ⌜ t ≡ record-fits (now (words .entry)) n (parent .0) (x .0) (p .0) kind ⌝ }
-{
-    let around = words::kind_of(words, p);
-    if !up_fits(words, n, x, parent, p, kind) {
+    if up != outer.0 {
         return false;
     }
-    mate_fits(words, n, x, parent, p, kind) && mark_fits(kind, around)
+    let back = words::get(
+        words,
+        p,
+        kind_pick::at_begin(kind, words::AT_PRIOR as u32, words::AT_MATE as u32) as usize,
+    );
+    back == kind_pick::at_begin(kind, prior.0, x.0)
 }
 
 // Whether a tag fits behind its prior, where parent is the innermost open begin or no tag.
-pub fn tag_fits(words: &[u32], n: u32, x: TagId, prior: TagId, parent: TagId) -> bool
-    requires { ⌜ Reads (now words) n (x .0) (parent .0) ⌝ }
+pub fn tag_fits(
+    pairs: &[u32; 32],
+    words: &[u32],
+    n: u32,
+    x: TagId,
+    at: Offset,
+    prior: TagId,
+    parent: TagId,
+) -> bool
+    requires { ⌜ Tag-reads (now words) n (x .0) (at .0) (parent .0) × (now pairs ≡ pair-table) ⌝ }
     ensures { λ t. ⌜ t ≡ fits-at (now (words .entry)) n (parent .0) (x .0) (prior .0) ⌝ }
 {
-    let before = words::prior_of(words, x);
-    if !same(before, prior) {
+    if words::get_at(words, at, words::AT_PRIOR) != prior.0 {
         return false;
     }
-    let kind = words::kind_of(words, x);
-    if !is_kind(kind) {
+    let kind = words::get_at(words, at, words::AT_KIND);
+    if 32 <= kind {
         return false;
     }
-    let p = beside(x, parent);
-    record_fits(words, n, x, parent, p, kind)
+    let q = beside(n, x, parent);
+    if !may_stand(pairs, kind, words::kind_of(words, q)) {
+        return false;
+    }
+    links_fit(words, x, at, prior, parent, q, kind)
 }
 
 // The marked tags so far, with a tag that fits.
-pub fn count_mark(words: &[u32], n: u32, x: TagId, marks: u32) -> u32
-    requires { ⌜ Reads (now words) n (x .0) (x .0) × (field (now words) (x .0) at-kind < 32) × (marks < 4000000000) ⌝ }
+pub fn count_mark(words: &[u32], x: TagId, at: Offset, marks: u32) -> u32
+    requires { ⌜ Mark-reads (now words) (x .0) (at .0) marks ⌝ }
     ensures { λ m. ⌜ m ≡ marks-at (now (words .entry)) (x .0) marks ⌝ }
 {
-    marks + words::kind_of(words, x) / 16
+    marks + words::get_at(words, at, words::AT_KIND) / 16
 }
 
 // The innermost open begin behind a tag that fits: the up of a text is the one before it.
-pub fn open_after(words: &[u32], n: u32, x: TagId, parent: TagId) -> TagId
-    requires { ⌜ Reads (now words) n (x .0) (parent .0) × (kind-fits (now words) n (parent .0) (x .0) (field (now words) (x .0) at-kind) ≡ true) ⌝ }
+pub fn open_after(words: &[u32], n: u32, x: TagId, at: Offset, parent: TagId) -> TagId
+    requires { ⌜ Tag-reads (now words) n (x .0) (at .0) (parent .0) × (kind-fits (now words) n (parent .0) (x .0) (field (now words) (x .0) at-kind) ≡ true) ⌝ }
     ensures { λ o. ⌜ o .0 ≡ open-behind (now (words .entry)) (parent .0) (x .0) (field (now (words .entry)) (x .0) at-kind) ⌝ }
 {
-    let kind = words::kind_of(words, x);
-    let up = words::up_of(words, x);
-    TagId(kind_pick::at_begin(kind, x.0, up.0))
+    let kind = words::get_at(words, at, words::AT_KIND);
+    let up = words::get_at(words, at, words::AT_UP);
+    TagId(kind_pick::at_begin(kind, x.0, up))
 }

@@ -2,8 +2,9 @@
 // record is read and written through one pair of field functions and one pair for its label; only a tag number finds a
 // record.
 ghost use mathlib.Core.Path.{_≡_};
-ghost use Prim.Native.Nat.{_<_};
+ghost use Prim.Native.Nat.{ℕ, _<_};
 ghost use Rattle.store_types.specs.Layout.{at-next, at-prior, at-mate, at-up, at-kind, tag-words, field, label-at, with-field, with-label, Room};
+ghost use Rattle.words.specs.Offsets.{offset-of, Record-at};
 use store_types::Label;
 use store_types::TagId;
 
@@ -30,18 +31,18 @@ pub const AT_BOOK: usize = 6;
 pub const AT_STAMP: usize = 7;
 
 // Where the fields of a record stand, behind its label.
-const AT_NEXT: usize = 1;
+pub const AT_NEXT: usize = 1;
 
-const AT_PRIOR: usize = 2;
+pub const AT_PRIOR: usize = 2;
 
-const AT_MATE: usize = 3;
+pub const AT_MATE: usize = 3;
 
-const AT_UP: usize = 4;
+pub const AT_UP: usize = 4;
 
-const AT_KIND: usize = 5;
+pub const AT_KIND: usize = 5;
 
 // Field k of a tag's record.
-fn get(words: &[u32], tag: TagId, k: usize) -> u32
+pub fn get(words: &[u32], tag: TagId, k: usize) -> u32
     requires { ⌜ Room (now words) (tag .0) × (k < tag-words) ⌝ }
     ensures { λ v. ⌜ v ≡ field (now (words .entry)) (tag .0) k ⌝ }
 {
@@ -141,4 +142,40 @@ pub fn set_kind(words: &mut [u32], tag: TagId, v: u32)
     ensures { λ _. ⌜ now (words .exit) ≡ with-field (now (words .entry)) (tag .0) at-kind v ⌝ }
 {
     put(words, tag, AT_KIND, v);
+}
+
+// Where a tag's record stands, as a walk carries it: worked out where the tag's number is read, so that no product stands
+// between one record and the next.
+pub struct Offset(pub usize);
+
+// Words in a step, and steps in a record.
+const STEP: usize = 2;
+
+const RECORD_STEPS: usize = 3;
+
+impl Offset {
+    pub fn of(tag: TagId) -> Offset
+        ensures { λ p. ⌜ p .0 ≡ offset-of (tag .0) ⌝ }
+    {
+        let x = tag.0 as usize;
+        Offset(RECORD_STEPS * x)
+    }
+}
+
+// Field k of the record that stands there, whichever tag's it is.
+pub fn get_at(words: &[u32], at: Offset, k: usize) -> u32
+    requires { ⌜ Record-at (now words) (at .0) × (k < tag-words) ⌝ }
+    ensures { λ v. ⌜ ((x : ℕ) → at .0 ≡ offset-of x → v ≡ field (now (words .entry)) x k) ⌝ }
+{
+    let p = at.0;
+    words[HEADER_WORDS + STEP * p + k]
+}
+
+// And its label.
+pub fn label_there(words: &[u32], at: Offset) -> Label
+    requires { ⌜ Record-at (now words) (at .0) ⌝ }
+    ensures { λ v. ⌜ ((x : ℕ) → at .0 ≡ offset-of x → v .0 ≡ label-at (now (words .entry)) x) ⌝ }
+{
+    let p = at.0;
+    Label(words[HEADER_WORDS + STEP * p])
 }

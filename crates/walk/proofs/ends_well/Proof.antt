@@ -31,10 +31,11 @@ add-result : tie.Need-add-result
 add-result c = search needs
 
 returns-4 : tie.Need-returns-4
-returns-4 c = (
-  ends-stamp _ _ _ _ _ _ _ _ _ (c .before .before .before .before .before .before .before .before .is-none .ensures) (c .before .before .before .before .before .before .before .if1 .left) (c .before .before .before .before .before .before .is-none2 .ensures) (c .before .before .before .before .before .if2 .left) (c .before .before .before .all-close .ensures .0) (c .before .before .if3 .left),
-  λ _. c .before .before .before .all-close .ensures .1 (not-false _ (c .before .before .if3 .left)),
-)
+returns-4 c = let closed = c .before .before .before .before in
+    let after = closed .before .before in (
+      ends-stamp _ _ _ _ _ _ _ _ _ (after .before .before .before .is-none .ensures) (after .before .before .if1 .left) (after .before .is-none2 .ensures) (after .if2 .left) (closed .all-close .ensures .0) (c .before .before .before .if3 .left),
+      λ _. closed .all-close .ensures .1 (not-false _ (c .before .before .before .if3 .left)),
+    )
 
 pub ends-well-spec : {M : Type 1} → statement M
 ends-well-spec =

@@ -1,80 +1,92 @@
 -- `walk::pass` meets its contract. The loop's invariant: what is left of the walk decides as the whole does, and its sizes come
--- to those of the whole; marked tags are at most the tags passed, and the open begin is no tag or a tag. The measure is the
--- tags left. Assumes nothing.
-use mathlib.Core.Path.{_≡_, refl}
-use borrow.Author.Tests.{not-false}
-use Prim.Native.Nat.{_-_, _≤_, _<_}
+-- to those of the whole; and what the state carries is right (Standing). The measure is the tags left. Assumes nothing.
+use mathlib.Core.Path.{_≡_}
+use borrow.Author.Needs.{needs}
+use borrow.Author.Tests.{leb-true, not-false}
+use Prim.Native.Nat.{_-_, _≤_}
 use native.Mathlib.Omega.{arith}
 use Rattle.words.proofs.Fields.{header-long}
-use Rattle.store_types.specs.Limits.{no-tag}
+use Rattle.walk_tags.specs.Needs.{pair-table}
 use Rattle.walk_levels.proofs.SizeLaws.{never}
-use Rattle.walk.proofs.PassLaws.{open-reads, walk-at, walk-whole, sizes-at-tag, sizes-whole, walk-start, walk-refused, walk-more, walk-end, sizes-start, sizes-more, sizes-end, marks-kept, passed-fits, open-kept}
+use Rattle.walk.specs.Needs.{Standing}
+use Rattle.walk.proofs.PassLaws.{walk-at, walk-whole, sizes-at-tag, sizes-whole, walk-start, sizes-start, standing-start, walk-outside, label-below, tag-reads, walk-misplaced, walk-refused, walk-more, walk-end, sizes-more, sizes-end, passed-fits, standing-kept}
 use Rattle.walk.proofs.pass.Statement.{statement}
 use Rattle.walk.proofs.pass.Tie as tie
 
 abbrev Inv-loop : tie.InvT-loop
-Inv-loop words n under sizes₀ widths lows highs numbers ends₀ firsts₀ v₀ sizes ends firsts v =
-    (v .place ≤ n)
-    × (v .marks ≤ v .place)
-    × ((v .parent .0 ≡ no-tag → ⊥) → v .parent .0 < n)
-    × (walk-at words widths lows highs n under v ends firsts ≡ walk-whole words widths lows highs n under)
-    × (sizes-at-tag words widths lows highs n under numbers v ends firsts sizes ≡ sizes-whole words widths lows highs n under numbers sizes₀)
+Inv-loop words size tables sizes₀ pairs ends₀ firsts₀ v₀ sizes ends firsts v =
+    (v .place ≤ size .n)
+    × (pairs ≡ pair-table)
+    × Standing words (size .n) ends v
+    × (walk-at words tables (size .n) (size .under) v ends firsts ≡ walk-whole words tables (size .n) (size .under))
+    × (sizes-at-tag words tables (size .n) (size .under) v ends firsts sizes ≡ sizes-whole words tables (size .n) (size .under) sizes₀)
 
 abbrev μ-loop : tie.MeasureT-loop
-μ-loop words n under sizes₀ widths lows highs numbers ends₀ firsts₀ v₀ sizes ends firsts v =
-    n - v .place
+μ-loop words size tables sizes₀ pairs ends₀ firsts₀ v₀ sizes ends firsts v = size .n - v .place
 
-shared-slice-read-t18 : tie.Need-shared-slice-read-t18 Inv-loop μ-loop
-shared-slice-read-t18 c = omega (arith, header-long)
+shared-slice-read-t13 : tie.Need-shared-slice-read-t13 Inv-loop μ-loop
+shared-slice-read-t13 c = omega (arith, header-long (c .before .before .pre .0 .records))
 
-loop-holds : tie.Need-loop-holds Inv-loop μ-loop
-loop-holds c = (omega arith, omega arith, (λ none. absurd (none refl)), walk-start _ _ _ _ _ _, sizes-start _ _ _ _ _ _ _ _)
-
-tag-passes-requires : tie.Need-tag-passes-requires Inv-loop μ-loop
-tag-passes-requires c κs =
-    (c .before .before .before .before .before .before .before .before .before .before .before .before .pre, open-reads (c .before .before .before .before .before .before .before .before .before .before .before .before .pre) (c .before .before .before .before .before .before .before .before .before .loop .inv .2))
+of-requires : tie.Need-of-requires Inv-loop μ-loop
+of-requires c κs = search needs
 
 returns : tie.Need-returns Inv-loop μ-loop
-returns c =
-    (walk-refused _ _ _ _ _ _ _ _ _ (c .before .before .before .before .before .before .before .before .before .before .before .loop .inv .3) (c .before .before .before .before .before .before .before .before .before .if1 .taken) (c .before .tag-passes .ensures .0) (c .if2 .taken), never)
+returns c = let start = c .before .before .before .before .before .before .before in (walk-outside _ _ _ _ (start .pre .0) (c .before .before .before .before .of .ensures) (c .before .before .if1 .taken) (leb-true _ _ (c .if2 .taken)), never)
+
+pairs-requires : tie.Need-pairs-requires Inv-loop μ-loop
+pairs-requires c κs = search needs
+
+loop-holds : tie.Need-loop-holds Inv-loop μ-loop
+loop-holds c = let start = c .before .before .before .before .before .before in let there = c .before .before .before .of .ensures in (omega arith, c .pairs .ensures, standing-start _ _ _ _ (start .pre .0) (start .pre .1) there, walk-start _ _ _ _ _ (start .pre .1), sizes-start _ _ _ _ _ (start .pre .1) _)
+
+label-fits-requires : tie.Need-label-fits-requires Inv-loop μ-loop
+label-fits-requires c κs = (c .before .before .before .before .before .before .before .before .before .before .before .before .before .pre .0, c .before .before .before .before .before .before .loop .inv .2)
+
+returns-2 : tie.Need-returns-2 Inv-loop μ-loop
+returns-2 c = (walk-misplaced _ _ _ _ _ _ _ (c .before .before .before .before .before .before .before .before .loop .inv .3) (c .before .before .before .before .before .if3 .taken) (c .before .label-fits .ensures .0) (c .if4 .taken), never)
+
+tag-fits-requires : tie.Need-tag-fits-requires Inv-loop μ-loop
+tag-fits-requires c κs = let at = c .before .before .before .before .before .before .before .before .before in
+    (tag-reads _ _ _ _ _ _ (c .before .before .before .before .before .before .before .before .before .before .before .before .before .before .before .before .pre .0) (at .loop .inv .2) (label-below _ _ _ _ _ _ _ (c .before .before .label-fits .ensures .0) (c .before .if4 .left)), at .loop .inv .1)
+
+returns-3 : tie.Need-returns-3 Inv-loop μ-loop
+returns-3 c = (walk-refused _ _ _ _ _ _ _ (c .before .before .before .before .before .before .before .before .before .before .before .loop .inv .3) (c .before .before .before .before .before .before .before .before .if3 .taken) (c .before .before .before .before .label-fits .ensures .0) (c .before .before .before .if4 .left) (c .before .tag-fits .ensures) (c .if5 .taken), never)
 
 array-read-passed : tie.Need-array-read-passed Inv-loop μ-loop
 array-read-passed c = omega arith
 
 passed-requires : tie.Need-passed-requires Inv-loop μ-loop
-passed-requires c κs =
-    passed-fits _ _ _ _ _ _ _ _ _ (c .before .tag-passes .ensures .0) (c .if2 .left) (c .before .before .before .before .before .before .before .before .before .before .before .before .before .before .pre) (c .before .before .before .before .before .before .before .before .before .before .before .loop .inv .2) (c .before .before .before .before .before .before .before .before .before .before .before .loop .inv .1) (c .before .before .before .before .before .before .before .before .before .if1 .taken)
+passed-requires c κs = let at = c .before .before .before .before .before .before .before .before .before .before .before in
+    passed-fits _ _ _ _ _ _ (c .before .before .before .before .before .before .before .before .before .before .before .before .before .before .before .before .before .before .pre .0) (at .loop .inv .2) (label-below _ _ _ _ _ _ _ (c .before .before .before .before .label-fits .ensures .0) (c .before .before .before .if4 .left)) (c .before .tag-fits .ensures) (c .if5 .left) (c .before .before .before .before .before .before .before .before .if3 .taken)
 
 loop-less : tie.Need-loop-less Inv-loop μ-loop
-loop-less c =
-    omega (arith, c .before .before .before .before .before .before .before .before .before .before .if1 .taken, c .passed .ensures .place)
+loop-less c = omega (arith, c .before .before .before .before .before .before .before .before .before .if3 .taken, c .passed .ensures .place)
 
 loop-again : tie.Need-loop-again Inv-loop μ-loop
-loop-again c = (
-  omega (arith, c .before .before .before .before .before .before .before .before .before .before .if1 .taken, c .passed .ensures .place),
-  marks-kept _ _ (c .passed .ensures) (c .before .before .before .before .before .before .before .before .before .before .before .before .loop .inv .1),
-  open-kept _ _ _ _ _ _ _ _ _ (c .before .before .tag-passes .ensures .0) (c .before .if2 .left) _ (c .passed .ensures) (c .before .before .before .before .before .before .before .before .before .before .before .before .loop .inv .2),
-  walk-more _ _ _ _ _ _ _ _ _ (c .before .before .before .before .before .before .before .before .before .before .before .before .loop .inv .3) (c .before .before .before .before .before .before .before .before .before .before .if1 .taken) (c .before .before .tag-passes .ensures .0) _ _ _ (c .before .if2 .left) (c .before .before .tag-passes .ensures .1 .0 (not-false _ (c .before .if2 .left))) (c .passed .ensures),
-  sizes-more _ _ _ _ _ _ _ _ _ _ _ (c .before .before .before .before .before .before .before .before .before .before .before .before .loop .inv .4) _ _ _ (c .before .before .before .before .before .before .before .before .before .before .if1 .taken) (c .before .before .tag-passes .ensures .1 .0 (not-false _ (c .before .if2 .left))) (c .passed .ensures) (c .before .before .tag-passes .ensures .1 .1 (not-false _ (c .before .if2 .left))),
-)
+loop-again c = let at = c .before .before .before .before .before .before .before .before .before .before .before .before in
+    let inv = at .loop .inv in
+    let fits = c .before .before .before .before .before .before .before .before .before .before .before .before .before .before .before .before .before .before .before .pre .0 in
+    let label = c .before .before .before .before .before .label-fits .ensures in
+    let placed = c .before .before .before .before .if4 .left in
+    let below = label-below _ _ _ _ _ _ _ (label .0) placed in
+    let levels = label .1 .0 (not-false _ placed) in
+    let more = c .before .before .before .before .before .before .before .before .before .if3 .taken in
+    let behind = c .passed .ensures in (
+      omega (arith, more, behind .place),
+      inv .1,
+      standing-kept _ _ _ _ _ _ fits (inv .2) below (c .before .before .tag-fits .ensures) (c .before .if5 .left) _ _ behind,
+      walk-more _ _ _ _ _ _ _ (inv .3) more (label .0) placed (c .before .before .tag-fits .ensures) _ _ _ fits (c .before .if5 .left) levels behind,
+      sizes-more _ _ _ _ _ _ _ _ (inv .4) _ _ _ fits below more levels behind (label .1 .1 (not-false _ placed)),
+    )
 
 ends-well-requires : tie.Need-ends-well-requires Inv-loop μ-loop
-ends-well-requires c κs =
-    let loop = c .before .before .before .before .before .before .before .before .before in
-    let fits = loop .before .before .before .pre in
-    record {
-      long = header-long (fits .records);
-      few = fits .records .few;
-      marks-few = omega (arith, fits .records .few, loop .loop .inv);
-      levels = fits .levels;
-      numbers = fits .numbers;
-    }
+ends-well-requires c κs = let fits = c .before .before .before .before .before .before .before .before .before .before .before .before .before .pre .0 in
+    record { long = header-long (fits .records); few = fits .records .few; marks-few = omega (arith, fits .records .few, c .before .before .before .before .before .before .loop .inv .0, c .before .before .before .before .before .before .loop .inv .2 .marks-few); tables-fit = fits .tables-fit }
 
-returns-2 : tie.Need-returns-2 Inv-loop μ-loop
-returns-2 c = (
-  walk-end _ _ _ _ _ _ _ _ _ (c .before .before .before .before .before .before .before .before .before .before .loop .inv .3) (c .before .before .before .before .before .before .before .before .if1 .left) (c .ends-well .ensures .0),
-  λ t. sizes-end _ _ _ _ _ _ _ _ _ _ _ (c .before .before .before .before .before .before .before .before .before .before .loop .inv .4) (c .before .before .before .before .before .before .before .before .if1 .left) (c .ends-well .ensures .1 t),
-)
+returns-4 : tie.Need-returns-4 Inv-loop μ-loop
+returns-4 c = let inv = c .before .before .before .before .before .before .before .loop .inv in
+    let last = c .before .before .before .before .if3 .left in
+    (walk-end _ _ _ _ _ _ _ (inv .3) last (c .ends-well .ensures .0), λ t. sizes-end _ _ _ _ _ _ _ _ (inv .4) last (c .ends-well .ensures .1 t))
 
 pub pass-spec : {M : Type 1} → statement M
 pass-spec =
@@ -82,13 +94,18 @@ pass-spec =
     (tie.spec
     Inv-loop
     μ-loop
-    shared-slice-read-t18
-    loop-holds
-    tag-passes-requires
+    shared-slice-read-t13
+    of-requires
     returns
+    pairs-requires
+    loop-holds
+    label-fits-requires
+    returns-2
+    tag-fits-requires
+    returns-3
     array-read-passed
     passed-requires
     loop-less
     loop-again
     ends-well-requires
-    returns-2)
+    returns-4)

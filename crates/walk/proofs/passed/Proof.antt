@@ -1,42 +1,56 @@
 -- `walk::passed` meets its contract. Assumes nothing.
 use borrow.Author.Needs.{needs}
+use mathlib.Core.Path.{refl}
+use native.Mathlib.Omega.{arith}
 use Rattle.words.proofs.Fields.{room}
+use Rattle.walk_tags.proofs.TestLaws.{stands-there}
 use Rattle.walk.proofs.passed.Statement.{statement}
 use Rattle.walk.proofs.passed.Tie as tie
 
-add-t6 : tie.Need-add-t6
-add-t6 c = search needs
-
-next-of-requires : tie.Need-next-of-requires
-next-of-requires c κs = search (needs, room)
+get-at-requires : tie.Need-get-at-requires
+get-at-requires c κs = (stands-there (c .before .before .before .pre .0 .0), omega arith)
 
 open-after-requires : tie.Need-open-after-requires
 open-after-requires c κs = search needs
 
 count-mark-requires : tie.Need-count-mark-requires
-count-mark-requires c κs = search needs
+count-mark-requires c κs = let pre = c .before .before .before .before .before .pre in
+    record { room = room (pre .0 .0 .records) (pre .0 .0 .below); there = pre .0 .0 .there; kind = pre .1 .0; few = pre .1 .2 }
 
-label-of-requires : tie.Need-label-of-requires
-label-of-requires c κs = search (needs, room)
+label-there-requires : tie.Need-label-there-requires
+label-there-requires c κs = stands-there (c .before .before .before .before .before .before .pre .0 .0)
 
-cast-t11 : tie.Need-cast-t11
-cast-t11 c = search needs
+add-t11 : tie.Need-add-t11
+add-t11 c = search needs
 
-add-t12 : tie.Need-add-t12
-add-t12 c = search needs
+of-requires : tie.Need-of-requires
+of-requires c κs = search needs
+
+expected-requires : tie.Need-expected-requires
+expected-requires c κs = search needs
 
 returns : tie.Need-returns
-returns c = search needs
+returns c = let after = c .before .before .before .before .before in
+    let there = after .before .before .before .before .before .pre .0 .0 .there in
+    record {
+      place = refl;
+      tag = after .before .get-at .ensures _ there;
+      there = c .before .of .ensures;
+      prior = refl;
+      parent = after .open-after .ensures;
+      marks = c .before .before .before .before .count-mark .ensures;
+      expect = rw (c .before .before .before .label-there .ensures _ there) at (c .expected .ensures);
+    }
 
 pub passed-spec : {M : Type 1} → statement M
 passed-spec =
     tie.close
     (tie.spec
-    add-t6
-    next-of-requires
+    get-at-requires
     open-after-requires
     count-mark-requires
-    label-of-requires
-    cast-t11
-    add-t12
+    label-there-requires
+    add-t11
+    of-requires
+    expected-requires
     returns)

@@ -1,5 +1,7 @@
 -- `walk::sound_at` meets its contract. Assumes nothing.
 use borrow.Author.Needs.{needs}
+use borrow.Author.Needs.{needs}
+use mathlib.Core.Path.{sym}
 use native.Mathlib.Omega.{arith}
 use Rattle.walk_levels.proofs.SizeLaws.{never}
 use Rattle.walk.proofs.SoundLaws.{Frame, frame, widths-fit, lows-fit, highs-fit, high, f-range, root-fits, ancestors-fit, pass-fits, frame-refuses, root-refuses, pass-decides, sizes-taken}
@@ -52,37 +54,42 @@ table-requires-3 : tie.Need-table-requires-3
 table-requires-3 c κs = highs-fit _ (framed (c .before .before .before .before .before .before))
 
 root-passes-requires : tie.Need-root-passes-requires
-root-passes-requires c κs =
-    root-fits _ _ (framed (c .before .before .before .before .before .before .before .before .before)) (c .before .before .before .table2 .ensures)
+root-passes-requires c κs = root-fits _ _ (framed (c .before .before .before .before .before .before .before .before .before)) (c .before .before .before .table2 .ensures)
 
 returns-2 : tie.Need-returns-2
-returns-2 c =
-    (root-refuses _ (c .before .before .before .before .before .table2 .ensures) (c .before .before .before .before .table3 .ensures) (c .before .root-passes .ensures) (c .if2 .taken), never)
+returns-2 c = (root-refuses _ (c .before .before .before .before .before .table2 .ensures) (c .before .before .before .before .table3 .ensures) (c .before .root-passes .ensures) (c .if2 .taken), never)
 
 watched-label-requires : tie.Need-watched-label-requires
 watched-label-requires c κs = framed (c .before .before .before .before .before .before .before .before .before .before .before) .records
 
 sub-numbers : tie.Need-sub-numbers
-sub-numbers c =
-    omega (arith, framed (c .before .before .before .before .before .before .before .before .before .before .before .before))
+sub-numbers c = omega (arith, framed (c .before .before .before .before .before .before .before .before .before .before .before .before))
 
 numbers-requires : tie.Need-numbers-requires
-numbers-requires c κs =
-    ancestors-fit _ (framed (c .before .before .before .before .before .before .before .before .before .before .before .before .before)) (c .before .before .before .before .before .before .before .before .table .ensures)
+numbers-requires c κs = let tables = c .before .before .before .before .before .before .before .before in ancestors-fit _ (framed (tables .before .before .before .before .before)) (tables .table .ensures)
 
-sub-pass : tie.Need-sub-pass
-sub-pass c =
-    omega (arith, framed (c .before .before .before .before .before .before .before .before .before .before .before .before .before .before))
+tables-requires : tie.Need-tables-requires
+tables-requires c κs = search needs
+
+sub-t27 : tie.Need-sub-t27
+sub-t27 c = omega (arith, framed (c .before .before .before .before .before .before .before .before .before .before .before .before .before .before .before))
 
 pass-requires : tie.Need-pass-requires
-pass-requires c κs =
-    pass-fits _ _ (framed (c .before .before .before .before .before .before .before .before .before .before .before .before .before .before .before)) (c .before .before .before .before .before .before .before .before .before .table2 .ensures) (c .before .before .before .before .before .before .before .before .before .before .table .ensures) (c .before .before .before .before .before .before .before .before .table3 .ensures) (c .before .numbers .ensures) (omega (arith, c .before .before .before .watched-label .ok))
+pass-requires c κs = let packed = c .before .before .tables .ensures in
+    let numbers = c .before .before .before in
+    let tables = c .before .before .before .before .before .before .before .before .before .before .before .before in
+    (pass-fits _ _ (framed (tables .before .before .before .before .before)) (c .before .before .before .before .before .before .before .before .before .before .before .table2 .ensures) packed (tables .table .ensures) (c .before .before .before .before .before .before .before .before .before .before .table3 .ensures) (numbers .numbers .ensures) (omega (arith, c .before .before .before .before .before .watched-label .ok)), sym (packed .widths))
 
 returns-3 : tie.Need-returns-3
-returns-3 c = (
-  pass-decides _ (c .before .before .before .before .before .before .before .before .before .before .table2 .ensures) (c .before .before .before .before .before .before .before .before .before .table3 .ensures) (c .before .before .before .before .before .before .before .before .before .before .before .table .ensures) (c .before .before .before .before .before .before .before .before .before .before .before .before .before .before .before .before .before .frame-passes .ensures) (c .before .before .before .before .before .before .before .before .before .before .before .before .before .before .before .before .if1 .left) (c .before .before .before .before .before .before .root-passes .ensures) (c .before .before .before .before .before .if2 .left) (c .pass .ensures .0),
-  λ t. sizes-taken _ _ _ _ (c .before .before .before .before .before .before .before .before .before .before .table2 .ensures) (c .before .before .before .before .before .before .before .before .before .table3 .ensures) (c .before .before .before .before .before .before .before .before .before .before .before .table .ensures) _ _ _ _ (c .before .before .before .before .watched-label .ensures) (c .before .before .numbers .ensures) (c .pass .ensures .1 t),
-)
+returns-3 c = let packed = c .before .before .before .tables .ensures in
+    let root = c .before .before .before .before .before .before .before in
+    let tables = c .before .before .before .before .before .before .before .before .before .before .before .before .before in
+    let lows = c .before .before .before .before .before .before .before .before .before .before .before .before .table2 .ensures in
+    let highs = c .before .before .before .before .before .before .before .before .before .before .before .table3 .ensures in
+    let head = tables .before .before .before .before .before in (
+      pass-decides _ lows highs packed (tables .table .ensures) (head .before .frame-passes .ensures) (head .if1 .left) (root .before .root-passes .ensures) (root .if2 .left) (c .pass .ensures .0),
+      λ t. sizes-taken _ _ _ _ lows highs (tables .table .ensures) _ _ _ _ packed (c .before .before .before .before .before .before .watched-label .ensures) (c .before .before .before .before .numbers .ensures) (c .pass .ensures .1 t),
+    )
 
 pub sound-at-spec : {M : Type 1} → statement M
 sound-at-spec =
@@ -107,6 +114,7 @@ sound-at-spec =
     watched-label-requires
     sub-numbers
     numbers-requires
-    sub-pass
+    tables-requires
+    sub-t27
     pass-requires
     returns-3)

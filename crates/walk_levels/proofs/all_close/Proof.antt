@@ -4,22 +4,21 @@ use mathlib.Core.Path.{_≡_}
 use Prim.Native.Nat.{_+_, _-_, _≤_}
 use native.Mathlib.Omega.{arith}
 use Rattle.walk_model.specs.Watch.{close-sizes}
-use Rattle.walk_levels.specs.Needs.{levels-of, close-from}
-use Rattle.walk_levels.proofs.LevelLaws.{levels-below, node-first, close-at, close-start, close-fails, close-more, close-end}
+use Rattle.walk_levels.specs.Needs.{widths-in, lows-in, highs-in, numbers-in, levels-of, close-from}
+use Rattle.walk_levels.proofs.LevelLaws.{levels-below, tables-below, node-first, close-at, close-start, close-fails, close-more, close-end}
 use Rattle.walk_levels.proofs.SizeLaws.{never, close-sizes-at, close-sizes-start, close-sizes-more, close-sizes-end}
 use Rattle.walk_levels.proofs.all_close.Statement.{statement}
 use Rattle.walk_levels.proofs.all_close.Tie as tie
 
 abbrev Inv-loop : tie.InvT-loop
-Inv-loop place under widths lows highs numbers ends firsts sizes₀ h₀ sizes h =
+Inv-loop place under tables ends firsts sizes₀ h₀ sizes h =
     (1 ≤ h)
     × (h ≤ under + 1)
-    × (close-at lows highs under place firsts h ≡ close-from lows highs under place firsts)
-    × (close-sizes-at widths numbers under place ends firsts h sizes ≡ close-sizes widths numbers under 1 place (levels-of ends firsts) sizes₀)
+    × (close-at (lows-in tables) (highs-in tables) under place firsts h ≡ close-from (lows-in tables) (highs-in tables) under place firsts)
+    × (close-sizes-at (widths-in tables) (numbers-in tables) under place ends firsts h sizes ≡ close-sizes (widths-in tables) (numbers-in tables) under 1 place (levels-of ends firsts) sizes₀)
 
 abbrev μ-loop : tie.MeasureT-loop
-μ-loop place under widths lows highs numbers ends firsts sizes₀ h₀ sizes h =
-    under + 1 - h
+μ-loop place under tables ends firsts sizes₀ h₀ sizes h = under + 1 - h
 
 loop-holds : tie.Need-loop-holds Inv-loop μ-loop
 loop-holds c = (omega arith, omega arith, close-start _ _ _ _ _, close-sizes-start _ _ _ _ _ _ _)
@@ -34,14 +33,16 @@ closes-requires : tie.Need-closes-requires Inv-loop μ-loop
 closes-requires c κs = levels-below _ (c .before .loop-test .taken) (c .before .before .before .pre .0)
 
 returns : tie.Need-returns Inv-loop μ-loop
-returns c =
-    (close-fails _ _ _ _ _ _ (c .before .before .before .before .loop .inv .2) (c .before .before .before .loop-test .taken) (c .before .closes .ensures) (c .if1 .taken), never)
+returns c = (close-fails _ _ _ _ _ _ (c .before .before .before .before .loop .inv .2) (c .before .before .before .loop-test .taken) (c .before .closes .ensures) (c .if1 .taken), never)
 
 mul-watched : tie.Need-mul-watched Inv-loop μ-loop
 mul-watched c = omega arith
 
 element-copy-out-watched : tie.Need-element-copy-out-watched Inv-loop μ-loop
 element-copy-out-watched c = omega arith
+
+watched-end-requires : tie.Need-watched-end-requires Inv-loop μ-loop
+watched-end-requires c κs = let start = c .before .before .before .before .before .before in (omega (arith, start .pre .0 .height, c .before .before .before .before .loop-test .taken), tables-below (start .args .tables .now) _ (c .before .before .before .before .loop-test .taken) (start .pre))
 
 mul-watched-2 : tie.Need-mul-watched-2 Inv-loop μ-loop
 mul-watched-2 c = omega arith
@@ -55,25 +56,8 @@ mul-watched-3 c = omega arith
 element-copy-out-watched-3 : tie.Need-element-copy-out-watched-3 Inv-loop μ-loop
 element-copy-out-watched-3 c = omega arith
 
-add-watched : tie.Need-add-watched Inv-loop μ-loop
-add-watched c =
-    omega (arith, c .before .before .before .before .before .before .before .before .pre .0 .widths (c .before .before .before .before .before .before .before .loop .h), c .before .before .before .before .before .before .before .before .pre .1 (c .before .before .before .before .before .before .before .loop .h))
-
-mul-watched-4 : tie.Need-mul-watched-4 Inv-loop μ-loop
-mul-watched-4 c = omega arith
-
-element-copy-out-watched-4 : tie.Need-element-copy-out-watched-4 Inv-loop μ-loop
-element-copy-out-watched-4 c = omega arith
-
-mul-watched-5 : tie.Need-mul-watched-5 Inv-loop μ-loop
-mul-watched-5 c = omega arith
-
-element-copy-out-watched-5 : tie.Need-element-copy-out-watched-5 Inv-loop μ-loop
-element-copy-out-watched-5 c = omega arith
-
 watched-requires : tie.Need-watched-requires Inv-loop μ-loop
-watched-requires c κs =
-    node-first _ _ _ _ _ (c .before .before .before .before .before .before .closes .ensures) (c .before .before .before .before .before .if1 .left)
+watched-requires c κs = node-first _ _ _ _ _ (c .before .before .before .before .before .closes .ensures) (c .before .before .before .before .if1 .left)
 
 mul-sizes : tie.Need-mul-sizes Inv-loop μ-loop
 mul-sizes c = omega arith
@@ -88,16 +72,16 @@ loop-less : tie.Need-loop-less Inv-loop μ-loop
 loop-less c = omega arith
 
 loop-again : tie.Need-loop-again Inv-loop μ-loop
-loop-again c = (
-  omega arith,
-  omega arith,
-  close-more _ _ _ _ _ _ (c .before .before .before .before .before .before .before .before .before .before .loop .inv .2) (c .before .before .before .before .before .before .before .before .before .loop-test .taken) (c .before .before .before .before .before .before .before .closes .ensures) (c .before .before .before .before .before .before .if1 .left),
-  close-sizes-more _ _ _ _ _ _ _ _ (c .before .before .before .before .before .before .before .before .before .before .loop .inv .3) (c .before .before .before .before .before .before .before .before .before .loop-test .taken) (c .watched .ensures),
-)
+loop-again c = let at = c .before .before .before .before .before .before .before .before .before .loop .inv in
+    let test = c .before .before .before .before .before .before .before .before .loop-test .taken in (
+      omega arith,
+      omega arith,
+      close-more _ _ _ _ _ _ (at .2) test (c .before .before .before .before .before .before .closes .ensures) (c .before .before .before .before .before .if1 .left),
+      close-sizes-more _ _ _ _ _ _ _ _ (at .3) test (rw (c .before .before .before .watched-end .ensures) at (c .watched .ensures)),
+    )
 
 returns-2 : tie.Need-returns-2 Inv-loop μ-loop
-returns-2 c =
-    (close-end _ _ _ _ _ _ (c .before .loop .inv .2) (c .loop-test .left), λ _. close-sizes-end _ _ _ _ _ _ _ _ (c .before .loop .inv .3) (c .loop-test .left))
+returns-2 c = (close-end _ _ _ _ _ _ (c .before .loop .inv .2) (c .loop-test .left), λ _. close-sizes-end _ _ _ _ _ _ _ _ (c .before .loop .inv .3) (c .loop-test .left))
 
 pub all-close-spec : {M : Type 1} → statement M
 all-close-spec =
@@ -112,15 +96,11 @@ all-close-spec =
     returns
     mul-watched
     element-copy-out-watched
+    watched-end-requires
     mul-watched-2
     element-copy-out-watched-2
     mul-watched-3
     element-copy-out-watched-3
-    add-watched
-    mul-watched-4
-    element-copy-out-watched-4
-    mul-watched-5
-    element-copy-out-watched-5
     watched-requires
     mul-sizes
     element-write-sizes

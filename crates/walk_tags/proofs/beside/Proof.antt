@@ -1,24 +1,13 @@
 -- `walk_tags::beside` meets its contract. Assumes nothing.
-use borrow.Author.Needs.{needs}
-use native.Mathlib.Omega.{arith}
-use Rattle.walk_tags.proofs.BitLaws.{none-bit}
+use borrow.Author.Tests.{lt-ltb, le-ltb}
 use Rattle.walk_tags.proofs.beside.Statement.{statement}
 use Rattle.walk_tags.proofs.beside.Tie as tie
 
-cast-none : tie.Need-cast-none
-cast-none c = search needs
-
-add-none : tie.Need-add-none
-add-none c = search needs
-
-cast-pick : tie.Need-cast-pick
-cast-pick c = search needs
-
-pick-requires : tie.Need-pick-requires
-pick-requires c κs = search needs
-
 returns : tie.Need-returns
-returns c = rw (← none-bit (c .before .before .args .parent .0) (omega arith)) (c .pick .ensures)
+returns c = rw (lt-ltb _ _ (c .if1 .taken))
+
+returns-2 : tie.Need-returns-2
+returns-2 c = rw (le-ltb _ _ (c .if1 .left))
 
 pub beside-spec : {M : Type 1} → statement M
-beside-spec = tie.close (tie.spec cast-none add-none cast-pick pick-requires returns)
+beside-spec = tie.close (tie.spec returns returns-2)

@@ -1,58 +1,62 @@
 -- `walk_tags::tag_fits` meets its contract. Assumes nothing.
 use borrow.Author.Needs.{needs}
+use native.Mathlib.Omega.{arith}
 use Rattle.words.proofs.Fields.{room}
-use Rattle.walk_tags.proofs.TagLaws.{kind-given, kind-unfit, beside, record-right}
-use Rattle.walk_tags.proofs.TestLaws.{tag-not, tag-kind}
+use Rattle.walk_tags.proofs.TestLaws.{stands-there, beside-below, tag-not, tag-large, tag-unfit, tag-links, tag-kind}
 use Rattle.walk_tags.proofs.tag_fits.Statement.{statement}
 use Rattle.walk_tags.proofs.tag_fits.Tie as tie
 
-prior-of-requires : tie.Need-prior-of-requires
-prior-of-requires c κs = search (needs, room)
-
-same-requires : tie.Need-same-requires
-same-requires c κs = search needs
+get-at-requires : tie.Need-get-at-requires
+get-at-requires c κs = (stands-there (c .before .pre .0), omega arith)
 
 returns : tie.Need-returns
-returns c = tag-not _ _ _ _ _ (c .before .before .prior-of .ensures) (c .before .same .ensures) (c .if1 .taken)
+returns c = tag-not _ _ _ _ _ _ (c .before .before .before .before .pre .0) (c .before .before .get-at .ensures _ (c .before .before .before .before .pre .0 .there)) (c .if1 .taken)
 
-kind-of-requires : tie.Need-kind-of-requires
-kind-of-requires c κs = search (needs, room)
-
-is-kind-requires : tie.Need-is-kind-requires
-is-kind-requires c κs = search needs
+get-at-requires-2 : tie.Need-get-at-requires-2
+get-at-requires-2 c κs = (stands-there (c .before .before .before .before .pre .0), omega arith)
 
 returns-2 : tie.Need-returns-2
-returns-2 c =
-    let kind = c .before .before in
-    let prior = kind .before .before in
-    tag-kind _ _ _ _ _ (prior .before .prior-of .ensures) (prior .same .ensures) (kind .before .if1 .left) (kind .kind-of .ensures) (kind-unfit _ _ _ _ _ (c .before .is-kind .ensures) (c .if2 .taken))
+returns-2 c = let reads = c .before .before .before .before .before .before .pre .0 in
+    tag-large _ _ _ _ _ _ reads (c .before .before .before .before .get-at .ensures _ (reads .there)) (c .before .before .if1 .left) (c .before .get-at2 .ensures _ (reads .there)) (c .if2 .taken)
 
 beside-requires : tie.Need-beside-requires
 beside-requires c κs = search needs
 
-record-fits-requires : tie.Need-record-fits-requires
-record-fits-requires c κs =
-    let kind = c .before .before .before in
-    let given = kind-given _ (c .before .before .is-kind .ensures) (c .before .if2 .left) in
-    (beside _ _ _ _ _ _ (kind .before .before .before .before .before .pre) (kind .kind-of .ensures) (c .beside .ensures) given, given)
+kind-of-requires : tie.Need-kind-of-requires
+kind-of-requires c κs = let reads = c .before .before .before .before .before .before .before .pre .0 in
+    room (reads .records) (beside-below _ _ _ _ _ _ reads (c .before .before .before .before .before .get-at .ensures _ (reads .there)) (c .before .before .before .if1 .left) (c .before .before .get-at2 .ensures _ (reads .there)) (c .beside .ensures))
+
+may-stand-requires : tie.Need-may-stand-requires
+may-stand-requires c κs = search needs
 
 returns-3 : tie.Need-returns-3
-returns-3 c =
-    let test = c .before .before .before in
-    let kind = test .before in
-    let prior = kind .before .before in
-    tag-kind _ _ _ _ _ (prior .before .prior-of .ensures) (prior .same .ensures) (kind .before .if1 .left) (kind .kind-of .ensures) (record-right _ _ _ _ _ _ (prior .before .before .before .pre) (kind .kind-of .ensures) (c .before .beside .ensures) (kind-given _ (test .is-kind .ensures) (c .before .before .if2 .left)) (c .record-fits .ensures))
+returns-3 c = let kind = c .before .before .before .before .before in
+    let from = kind .before .before .before .before .before .pre in
+    tag-unfit _ _ _ _ _ _ (from .0) (kind .before .before .before .get-at .ensures _ (from .0 .there)) (kind .before .if1 .left) (kind .get-at2 .ensures _ (from .0 .there)) (c .before .before .before .before .if2 .left) (c .before .before .before .beside .ensures) (c .before .before .kind-of .ensures) (from .1) (c .before .may-stand .ensures) (c .if3 .taken)
+
+links-fit-requires : tie.Need-links-fit-requires
+links-fit-requires c κs = let kind = c .before .before .before .before .before in
+    let from = kind .before .before .before .before .before .pre in
+    let prior = kind .before .before .before .get-at .ensures _ (from .0 .there) in
+    let below = beside-below _ _ _ _ _ _ (from .0) prior (kind .before .if1 .left) (kind .get-at2 .ensures _ (from .0 .there)) (c .before .before .before .beside .ensures) in
+    (record { room = room (from .0 .records) (from .0 .below); there = from .0 .there; beside = room (from .0 .records) below }, tag-kind _ _ _ _ _ _ (from .0) prior (kind .before .if1 .left) (kind .get-at2 .ensures _ (from .0 .there)) (c .before .before .before .before .if2 .left) (c .before .before .before .beside .ensures) (c .before .before .kind-of .ensures) (from .1) (c .before .may-stand .ensures) (c .if3 .left))
+
+returns-4 : tie.Need-returns-4
+returns-4 c = let kind = c .before .before .before .before .before .before in
+    let from = kind .before .before .before .before .before .pre in
+    tag-links _ _ _ _ _ _ (from .0) (kind .before .before .before .get-at .ensures _ (from .0 .there)) (kind .before .if1 .left) (kind .get-at2 .ensures _ (from .0 .there)) (c .before .before .before .before .before .if2 .left) (c .before .before .before .before .beside .ensures) (c .before .before .before .kind-of .ensures) (from .1) (c .before .before .may-stand .ensures) (c .before .if3 .left) (c .links-fit .ensures)
 
 pub tag-fits-spec : {M : Type 1} → statement M
 tag-fits-spec =
     tie.close
     (tie.spec
-    prior-of-requires
-    same-requires
+    get-at-requires
     returns
-    kind-of-requires
-    is-kind-requires
+    get-at-requires-2
     returns-2
     beside-requires
-    record-fits-requires
-    returns-3)
+    kind-of-requires
+    may-stand-requires
+    returns-3
+    links-fit-requires
+    returns-4)

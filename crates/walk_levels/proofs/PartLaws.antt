@@ -1,0 +1,58 @@
+-- Four tables in one array: an entry of a part, and one part written over. Assumes nothing.
+use mathlib.Core.Path.{_≡_, sym, _∙_}
+use mathlib.Core.Logic.{by-cases}
+use mathlib.Core.List.{List}
+use Prim.Native.Nat.{ℕ, _+_, _*_, _≤_, _<_}
+use native.Mathlib.Nat.{mul-le-mul-left}
+use native.Mathlib.Decide.{ℕ-discrete}
+use native.Mathlib.Omega.{arith}
+use lib.ListN.{length, getD, set, take, drop, length-set, length-drop}
+use lib.Seq.{getD-take, getD-drop, getD-set-same, getD-set-other, ext-getD, length-take-le}
+use Rattle.walk_levels.specs.Needs.{part, With-part, Packed}
+
+pub part-entry : (t : List ℕ) (k h : ℕ) → h < 24 → getD t (24 * k + h) 0 ≡ getD (part k t) h 0
+unfolding part
+part-entry t k h p = sym (getD-take 24 (drop (24 * k) t) h 0 p ∙ getD-drop (24 * k) t h 0)
+
+part-length : (t : List ℕ) (k : ℕ) → length t ≡ 96 → k < 4 → length (part k t) ≡ 24
+unfolding part
+part-length t k e p = length-take-le 24 (drop (24 * k) t) (omega (arith, length-drop (24 * k) t))
+
+-- A LOOP on its way: the entries below h are those of `from`, those of the other parts are as before
+pub record Writing (t : List ℕ) (k : ℕ) (from : List ℕ) (h : ℕ) (u : List ℕ) : Type 0 where
+  pub fits : h ≤ 24
+  pub long : length u ≡ 96
+  pub new : (i : ℕ) → i < h → getD u (24 * k + i) 0 ≡ getD from i 0
+  pub kept : (j i : ℕ) → (j ≡ k → ⊥) → i < 24 → getD u (24 * j + i) 0 ≡ getD t (24 * j + i) 0
+
+module _ (t : List ℕ) (k : ℕ) (from : List ℕ) (few : k < 4) where
+  -- places of two parts, and of two heights, are two
+  apart : (j i h : ℕ) → (j ≡ k → ⊥) → i < 24 → h < 24 → 24 * j + i ≡ 24 * k + h → ⊥
+  apart j i h ne p q e = ne (omega arith)
+
+  pub writing-more : {h : ℕ} {u : List ℕ} → Writing t k from h u → h < 24 → Writing t k from (h + 1) (set u (24 * k + h) (getD from h 0))
+  writing-more {h} {u} w p = record {
+    fits = omega arith;
+    long = length-set u (24 * k + h) (getD from h 0) ∙ w .long;
+    new = λ i q. by-cases (ℕ-discrete i h)
+        (λ e. rw e (getD-set-same u (24 * k + h) (getD from h 0) 0 (omega (arith, w .long))))
+        (λ ne. getD-set-other u (24 * k + h) (24 * k + i) (getD from h 0) 0 (λ e. ne (omega arith)) ∙ w .new i (omega arith));
+    kept = λ j i ne q. getD-set-other u (24 * k + h) (24 * j + i) (getD from h 0) 0 (apart j i h ne q p) ∙ w .kept j i ne q;
+  }
+
+  pub writing-end : {h : ℕ} {u : List ℕ} → length t ≡ 96 → length from ≡ 24 → Writing t k from h u → 24 ≤ h → With-part t k from u
+  writing-end {h} {u} old long w p = record {
+    new = ext-getD 0 (part k u) from (part-length u k (w .long) few ∙ sym long)
+        (λ i q. sym (part-entry u k i (omega (arith, part-length u k (w .long) few))) ∙ w .new i (omega (arith, part-length u k (w .long) few)));
+    kept = λ j q ne. ext-getD 0 (part j u) (part j t) (part-length u j (w .long) q ∙ sym (part-length t j old q))
+        (λ i r. let s : i < 24 = omega (arith, part-length u j (w .long) q) in sym (part-entry u j i s) ∙ w .kept j i ne s ∙ part-entry t j i s);
+  }
+
+-- ALL FOUR
+pub packed : {a b c d w l h ns none : List ℕ} → With-part none 0 w a → With-part a 1 l b → With-part b 2 h c → With-part c 3 ns d → Packed d w l h ns
+packed p q r s = record {
+  widths = s .kept 0 (omega arith) (λ e. omega arith) ∙ r .kept 0 (omega arith) (λ e. omega arith) ∙ q .kept 0 (omega arith) (λ e. omega arith) ∙ p .new;
+  lows = s .kept 1 (omega arith) (λ e. omega arith) ∙ r .kept 1 (omega arith) (λ e. omega arith) ∙ q .new;
+  highs = s .kept 2 (omega arith) (λ e. omega arith) ∙ r .new;
+  numbers = s .new;
+}
