@@ -9,12 +9,13 @@ use lib.ListN.{length, getD, List·getD-eq-default}
 use lib.Seq.{slice, slice-empty, slice-cons, length-slice}
 use Rattle.store_types.specs.Limits.{no-tag, most-tags}
 use Rattle.lists.proofs.Tests.{by-test}
-use Rattle.store_types.specs.Layout.{at-next, at-kind, field}
+use Rattle.store_types.specs.Layout.{at-count, word-at, at-next, at-kind, field}
 use Rattle.tree_laws.proofs.Rows.{place-le, member-of-place, place-getD}
 use Rattle.calls.specs.Store.{Store, fact, row, place-of, next-in}
 use Rattle.calls.specs.Words.{Says}
 use Rattle.calls.specs.Replies.{said}
 use Rattle.calls_laws.proofs.Tests.{Sound}
+use Rattle.calls_laws.proofs.WordSteps.{header-said}
 use Rattle.calls_laws.proofs.Sections.{distinct-row, row-below, is-tag}
 use Rattle.store_refuse.specs.Needs.{Tag-said}
 use Rattle.store_list.specs.Needs.{Stands, Span-said, unmarked, unmarked-between}
@@ -91,19 +92,22 @@ pub one-unmarked : {ws : List ℕ} {x : ℕ} → Tag-said ws x → field ws x at
 unfolding unmarked
 one-unmarked {ws} {x} h m = rw (sym (kind-of-tag h .marks) ∙ lt-leb 16 (field ws x at-kind) m)
 
-pub between-few : (ws : List ℕ) (x y : ℕ) → Says ws (said ws) → length (unmarked-between (said ws) x y) ≤ most-tags
+-- of all that the book has
+pub between-all : (ws : List ℕ) (x y : ℕ) → Says ws (said ws) → length (unmarked-between (said ws) x y) ≤ word-at ws at-count
 unfolding unmarked-between
-between-few ws x y says =
+between-all ws x y says =
     let st = said ws in
-    let h = sound-said ws says in
     omega (
       arith,
       unmarked-fewer st (slice (place-of st x) (place-of st y) (row st)),
       length-slice (place-of st x) (place-of st y) (row st) (place-le y (row st)),
       place-le y (row st),
-      h .as-many,
-      h .few,
+      sound-said ws says .as-many,
+      header-said ws st says .issued,
     )
+
+pub between-few : (ws : List ℕ) (x y : ℕ) → Says ws (said ws) → length (unmarked-between (said ws) x y) ≤ most-tags
+between-few ws x y says = omega (arith, between-all ws x y says, header-said ws (said ws) says .issued, sound-said ws says .few)
 
 pub between-done : (st : Store) (x : ℕ) → unmarked-between st x x ≡ []
 unfolding unmarked-between unmarked

@@ -79,6 +79,7 @@ pub record Writing (ws : List ℕ) (x₀ y x i : ℕ) (ts₀ ls₀ ts ls : List 
   pub span : Span-said ws x y
   pub tags : Left (unmarked-between (said ws) x y) ts i (unmarked-between (said ws) x₀ y) ts₀
   pub labels : Left (map (label (said ws)) (unmarked-between (said ws) x y)) ls i (map (label (said ws)) (unmarked-between (said ws) x₀ y)) ls₀
+  pub counts : Counting ws x₀ y x i
 
 pub writing-start : {ws : List ℕ} {x y : ℕ} (ts ls : List ℕ) → Span-said ws x y → length (unmarked-between (said ws) x y) ≤ length ts →
     length (unmarked-between (said ws) x y) ≤ length ls → Writing ws x y x 0 ts ls ts ls
@@ -87,6 +88,7 @@ writing-start {ws} {x} {y} ts ls h t l =
       span = h;
       tags = left-start (unmarked-between (said ws) x y) ts t;
       labels = left-start (map (label (said ws)) (unmarked-between (said ws) x y)) ls (rw length-map l);
+      counts = counting-start h;
     }
 
 module _ {ws : List ℕ} {x₀ y x i : ℕ} {ts₀ ls₀ ts ls : List ℕ} (h : Writing ws x₀ y x i ts₀ ls₀ ts ls) where
@@ -109,6 +111,7 @@ module _ {ws : List ℕ} {x₀ y x i : ℕ} {ts₀ ls₀ ts ls : List ℕ} (h : 
         span = span-next (h .span) on;
         tags = left-turn us vs (rw (between-next (h .span) on) at (h .tags));
         labels = rw (← length-map us f) (left-turn (map f us) (map f vs) (rw (between-next (h .span) on, map-append f us vs) at (h .labels)));
+        counts = counting-turn (h .counts) on;
       }
 
   pub tags-end : x ≡ y → length (unmarked-between (said ws) x₀ y) ≤ length ts₀ → ts ≡ in-front (unmarked-between (said ws) x₀ y) ts₀

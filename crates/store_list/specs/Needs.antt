@@ -1,9 +1,9 @@
 -- What a listing needs of words, and what it finds there. Assumes nothing: these are definitions.
 use mathlib.Core.Path.{_≡_}
-use mathlib.Core.Bool.{not, cond}
+use mathlib.Core.Bool.{Bool, _||_, not, cond}
 use mathlib.Core.List.{List, [], _∷_}
 use Prim.Native.Nat.{ℕ, _≤_}
-use lib.Dec.{leb, eqb}
+use lib.Dec.{ltb, leb, eqb}
 use lib.ListN.{getD}
 use lib.Seq.{slice}
 use Rattle.store_types.specs.Limits.{no-tag}
@@ -46,3 +46,7 @@ first-inside x st = cond (eqb x no-tag) (getD (row st) 0 no-tag) (next-in (row s
 
 unfoldable pub stop-of : (section : ℕ) → Store → ℕ
 stop-of x st = cond (eqb x no-tag) no-tag (fact st x .mate)
+
+-- one of two lists has less room than so many
+unfoldable pub short : (many tags labels : ℕ) → Bool
+short n t l = ltb t n || ltb l n

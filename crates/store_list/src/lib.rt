@@ -1,5 +1,5 @@
-// List (document 01, "Calls and their replies"): two passes along next and no scratch memory. The first counts, so that a
-// lent list that is too short is refused before a word of it is written.
+// List (document 01, "Calls and their replies"): one pass along next and no scratch memory; where a lent list has less room
+// than the book has tags, another before it, which counts, so that a list that is too short is refused before a word is written.
 ghost use mathlib.Core.Path.{_≡_};
 ghost use mathlib.Core.List.{[], _∷_, map};
 ghost use Prim.Native.Nat.{_+_, _≤_};
@@ -9,7 +9,7 @@ ghost use Rattle.calls.specs.Store.{label};
 ghost use Rattle.calls.specs.Words.{in-front};
 ghost use Rattle.calls.specs.Replies.{refusal-over, said, list-reply, list-tags, list-labels};
 ghost use Rattle.store_refuse.specs.Needs.{Tag-said};
-ghost use Rattle.store_list.specs.Needs.{Span-said, unmarked, unmarked-between, inside-refusal, first-inside, stop-of};
+ghost use Rattle.store_list.specs.Needs.{Span-said, unmarked, unmarked-between, inside-refusal, first-inside, stop-of, short};
 use store_types::ListReply;
 use store_types::TagId;
 
@@ -25,12 +25,24 @@ pub fn list(begin: TagId, words: &[u32], tags: &mut [u32], labels: &mut [u32]) -
     }
     let from = first_inside(begin, words);
     let to = stop_of(begin, words);
-    let count = count_between(from, to, words);
-    if tags.len() < count || labels.len() < count {
+    if too_short(from, to, words, tags.len(), labels.len()) {
         return ListReply::Refused(11);
     }
-    write_between(from, to, words, tags, labels);
+    let count = write_between(from, to, words, tags, labels);
     ListReply::Listed(count as u32)
+}
+
+// Whether one of the two lent lists, of these lengths, has no room for what is to be listed.
+fn too_short(from: TagId, to: TagId, words: &[u32], tags: usize, labels: usize) -> bool
+    requires { ⌜ Span-said (now words) (from .0) (to .0) ⌝ }
+    ensures { λ t. ⌜ t ≡ short (length (unmarked-between (said (now (words .entry))) (from .0) (to .0))) tags labels ⌝ }
+{
+    let n = words[words::AT_COUNT] as usize;
+    if n <= tags && n <= labels {
+        return false;
+    }
+    let count = count_between(from, to, words);
+    tags < count || labels < count
 }
 
 // All refusals but 11; the front is allowed.
@@ -76,7 +88,7 @@ fn stop_of(begin: TagId, words: &[u32]) -> TagId
     words::mate_of(words, begin)
 }
 
-// The first pass.
+// The pass that counts.
 fn count_between(from: TagId, to: TagId, words: &[u32]) -> usize
     requires { ⌜ Span-said (now words) (from .0) (to .0) ⌝ }
     ensures { λ n. ⌜ n ≡ length (unmarked-between (said (now (words .entry))) (from .0) (to .0)) ⌝ }
@@ -101,13 +113,20 @@ fn count_unmarked(tag: TagId, words: &[u32]) -> usize
     1
 }
 
-// The second pass.
-fn write_between(from: TagId, to: TagId, words: &[u32], tags: &mut [u32], labels: &mut [u32])
+// The pass that writes; how many it wrote.
+fn write_between(
+    from: TagId,
+    to: TagId,
+    words: &[u32],
+    tags: &mut [u32],
+    labels: &mut [u32],
+) -> usize
     requires { ⌜ Span-said (now words) (from .0) (to .0) ⌝ }
     requires { ⌜ length (unmarked-between (said (now words)) (from .0) (to .0)) ≤ length (now tags) ⌝ }
     requires { ⌜ length (unmarked-between (said (now words)) (from .0) (to .0)) ≤ length (now labels) ⌝ }
     ensures tags { λ _. ⌜ now (tags .exit) ≡ in-front (unmarked-between (said (now (words .entry))) (from .0) (to .0)) (now (tags .entry)) ⌝ }
     ensures labels { λ _. ⌜ now (labels .exit) ≡ in-front (map (label (said (now (words .entry)))) (unmarked-between (said (now (words .entry))) (from .0) (to .0))) (now (labels .entry)) ⌝ }
+    ensures count { λ n. ⌜ n ≡ length (unmarked-between (said (now (words .entry))) (from .0) (to .0)) ⌝ }
 {
     let mut x = from;
     let mut i: usize = 0;
@@ -115,6 +134,7 @@ fn write_between(from: TagId, to: TagId, words: &[u32], tags: &mut [u32], labels
         i = write_unmarked(x, words, i, tags, labels);
         x = words::next_of(words, x);
     }
+    i
 }
 
 // One tag of it, at place i where it is not marked; where the next one goes.

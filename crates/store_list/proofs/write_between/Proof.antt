@@ -8,7 +8,7 @@ use Rattle.store_list.proofs.write_between.Statement.{statement}
 use Rattle.store_list.proofs.write_between.Tie as tie
 use Rattle.store_refuse.proofs.Laws.{tag-room}
 use Rattle.store_list.proofs.Along.{tag-on}
-use Rattle.store_list.proofs.Passes.{pass-falls, Writing, writing-start, tags-room, labels-room, writing-turn, tags-end, labels-end}
+use Rattle.store_list.proofs.Passes.{pass-falls, Writing, writing-start, tags-room, labels-room, writing-turn, tags-end, labels-end, counting-end}
 
 abbrev Inv-loop : tie.InvT-loop
 Inv-loop to words tags₀ labels₀ x₀ i₀ tags labels x i = Writing words (x₀ .0) (to .0) (x .0) i tags₀ labels₀ tags labels
@@ -46,7 +46,7 @@ returns : tie.Need-returns Inv-loop μ-loop
 returns c =
     let p = c .before .before .before .before .before .before .before .pre in
     let h = c .before .before .before .loop .inv in
-    (tags-end h (c .if1 .left) (p .1 .0), labels-end h (c .if1 .left) (p .1 .1))
+    (tags-end h (c .if1 .left) (p .1 .0), (labels-end h (c .if1 .left) (p .1 .1), counting-end (h .counts) (c .if1 .left)))
 
 pub write-between-spec : {M : Type 1} → statement M
 write-between-spec =
