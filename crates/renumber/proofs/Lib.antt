@@ -2,3 +2,4 @@ pub mod Rows
 pub mod Parts
 pub mod Shifts
 pub mod Splits
+pub mod StraightRows

@@ -4,7 +4,7 @@ use mathlib.Core.List.{List, map}
 use Prim.Native.Nat.{ℕ, _+_, _*_, _^_, _≤_, _<_}
 use lib.ListN.{length}
 use Rattle.store_types.specs.Limits.{most-tags, word-limit}
-use Rattle.store_types.specs.Layout.{Records}
+use Rattle.store_types.specs.Layout.{at-next, field, Records}
 use Rattle.tree.specs.Forest.{labels, leaf-row, spread}
 use Rattle.calls.specs.Words.{follow}
 use Rattle.walk_model.specs.Levels.{entry}
@@ -13,6 +13,11 @@ use Rattle.edit_model.specs.Relabel.{Relabelled, relabel, along, cut}
 -- no number, width or limit in a table passes this, so that sums of a few fit 64 bits
 abbrev pub table-limit : ℕ
 table-limit = 1099511627776
+
+-- n tags in the order of their numbers
+pub record Straight (ws : List ℕ) (n : ℕ) : Type 0 where
+  pub records : Records ws n
+  pub next : (i : ℕ) → i + 1 < n → field ws i at-next ≡ i + 1
 
 -- so many tags along next are tags of n
 pub record Row-there (ws : List ℕ) (n x count : ℕ) : Type 0 where

@@ -10,7 +10,7 @@ use lib.ListN.{length, getD, take, drop, replicate, length-replicate, drop-of-le
 use lib.Seq.{take-all}
 use Rattle.store_types.specs.Limits.{no-tag, word-limit, most-tags, label-limit}
 use Rattle.lists.proofs.Tests.{by-test}
-use Rattle.store_types.specs.Layout.{header-words, words-for}
+use Rattle.store_types.specs.Layout.{at-next, field, header-words, words-for}
 use Rattle.lists.specs.Lists.{numbers}
 use Rattle.lists.proofs.Numbers.{length-numbers, getD-numbers}
 use Rattle.tree.specs.Forest.{labels, spread}
@@ -30,7 +30,8 @@ use Rattle.edit_model.proofs.Image.{image-is}
 use Rattle.edit_model.proofs.Along.{follow-at, along-at}
 use Rattle.edit_model.proofs.Applied.{labels-widths}
 use Rattle.edit_model.proofs.Relabels.{relabel-words, cut-all}
-use Rattle.renumber.specs.Needs.{Row-there, trees-numbered}
+use Rattle.renumber.specs.Needs.{Straight, trees-numbered}
+use Rattle.renumber.proofs.Rows.{along-add}
 use Rattle.store_load.specs.Labels.{labels-written}
 use Rattle.store_load.proofs.Blank.{blank, proper-blank}
 
@@ -57,10 +58,12 @@ module _ (s r h b : ℕ) (cs rest : List ℕ) where
       ∙ take-all n (numbers 0 n) (rw length-numbers (omega arith)))
       (λ e. let none : n ≡ 0 = omega (arith, ltb-false 0 n e) in rw none)
 
-  pub row-there : length cs ≤ most-tags → words-for header-words (length cs) ≤ length words → Row-there words (length cs) 0 (length cs)
-  unfolding words-for
-  row-there few long =
-      record { records = record { few = few; long = long }; most = few; below = λ i l. rw (along-row i l) l }
+  next-row : (i : ℕ) → i + 1 < length cs → field words i at-next ≡ i + 1
+  unfolding along
+  next-row i l = sym (rw (along-row i (omega arith)) at (along-add i 1 words 0)) ∙ along-row (i + 1) l
+
+  pub row-straight : length cs ≤ most-tags → words-for header-words (length cs) ≤ length words → Straight words (length cs)
+  row-straight few long = record { records = record { few = few; long = long }; next = next-row }
 
 -- THE LABELS of a loaded book, of which each is a word
 module _ (s r n : ℕ) (s-least : 2 ≤ s) (r-least : 2 ≤ r) where

@@ -33,7 +33,7 @@ use Rattle.store_load.specs.Labels.{header-new, Labels-fit, labels-writt
 use Rattle.load_refuse.proofs.Height.{leaves-enough}
 use Rattle.load_tags.proofs.Row.{count-new}
 use Rattle.store_load.proofs.Blank.{blank, blank-words}
-use Rattle.store_load.proofs.Loaded.{row-there, loaded-words}
+use Rattle.store_load.proofs.Loaded.{row-straight, loaded-words}
 
 -- THE TESTS BEFORE THE LAST, passed; the last one is then the refusal
 pub record Passed (w s r : ℕ) (cs : List ℕ) : Type 0 where
@@ -138,7 +138,7 @@ module _ (s r b : ℕ) (cs ws : List ℕ) (u : ℕ) (height : u ≡ load-under r
         let rest = drop (words-for header-words n) ws in
         let size : length (image-words v) ≡ words-for header-words n = length-image v ∙ ap (words-for header-words) (count-new cs) in
         rw height (record {
-          row = rw is-blank (row-there s r (suc (load-under r n)) b cs rest (a .few) (omega (arith, length-append (image-words v) rest)));
+          row = rw is-blank (row-straight s r (suc (load-under r n)) b cs rest (a .few) (omega (arith, length-append (image-words v) rest)));
           s-least = a .degrees .s-least;
           s-most = a .degrees .s-most;
           r-least = a .degrees .r-least;

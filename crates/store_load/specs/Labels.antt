@@ -6,7 +6,7 @@ use lib.Dec.{eqb}
 use Rattle.store_types.specs.Limits.{no-tag, label-limit}
 use Rattle.tree.specs.Book.{base, power-width}
 use Rattle.walk_model.specs.Walk.{table}
-use Rattle.renumber.specs.Needs.{Row-there, trees-numbered}
+use Rattle.renumber.specs.Needs.{Straight, trees-numbered}
 
 -- the first of n tags, or no tag
 unfoldable pub first-number : (n : ℕ) → ℕ
@@ -18,7 +18,7 @@ header-new s r h n b = 1 ∷ s ∷ r ∷ h ∷ n ∷ first-number n ∷ b ∷ 0 
 
 -- what the labels of n tags, under a root whose children have height u, are asked of
 pub record Labels-fit (ws : List ℕ) (s r n u : ℕ) : Type 0 where
-  pub row : Row-there ws n 0 n
+  pub row : Straight ws n
   pub s-least : 2 ≤ s
   pub s-most : s ≤ 16
   pub r-least : 2 ≤ r

@@ -7,6 +7,7 @@ ghost use Rattle.store_types.specs.Layout.{header-words};
 ghost use Rattle.calls.specs.Words.{in-front};
 ghost use Rattle.calls.specs.Replies.{load-reply, load-words};
 ghost use Rattle.store_load.specs.Labels.{first-number, header-new, Labels-fit, labels-written};
+use renumber::straight::Run;
 use store_types::LoadReply;
 use store_types::TagId;
 
@@ -35,24 +36,19 @@ fn write_header(words: &mut [u32], s: u32, r: u32, h: u32, n: u32, book: u32)
     words[7] = 0;
 }
 
-// The labels of n tags along next from tag 0 on, where the root's children have height `under`.
+// The labels of n tags, which stand in the order of their numbers, where the root's children have height `under`.
 fn write_labels(words: &mut [u32], s: u32, r: u32, n: u32, under: usize)
     requires { ⌜ Labels-fit (now words) s r n under ⌝ }
     ensures { λ _. ⌜ now (words .exit) ≡ labels-written (now (words .entry)) s r n under ⌝ }
 {
     let widths = walk_levels::table(1, (s as u64) * (r as u64) - 1, under);
     let lows = walk_levels::table(1, r as u64, under);
-    renumber::number(
-        words,
-        n,
-        r as u64,
-        under,
-        0,
-        TagId(0),
-        n as u64,
-        &widths,
-        &lows,
-    );
+    let all = Run {
+        a: 0,
+        x: 0,
+        count: n as u64,
+    };
+    renumber::straight::number_run(words, n, r as u64, under, all, &widths, &lows);
 }
 
 pub fn load(s: u32, r: u32, book: u32, kinds: &[u8], words: &mut [u32]) -> LoadReply

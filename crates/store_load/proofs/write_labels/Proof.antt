@@ -23,16 +23,16 @@ table-requires c κs = widths-small _ _ _ _ _ (c .before .pre)
 table-requires-2 : tie.Need-table-requires-2
 table-requires-2 c κs = lows-small _ _ _ _ _ (c .before .before .pre)
 
-number-requires : tie.Need-number-requires
-number-requires c κs =
+number-run-requires : tie.Need-number-run-requires
+number-run-requires c κs =
     let p = c .before .before .before .before .before .before .pre in
-    (p .row, trees-fit _ _ _ _ _ p _ _ (c .before .before .before .before .table .ensures) (c .before .before .before .table2 .ensures))
+    (p .row, omega arith, trees-fit _ _ _ _ _ p _ _ (c .before .before .before .before .table .ensures) (c .before .before .before .table2 .ensures))
 
 same-length : tie.Need-same-length
 same-length c = search needs
 
 returns : tie.Need-returns
-returns c = c .before .before .number .ensures .words ∙ as-written _ _ _ _ _ _ (c .before .before .before .before .before .before .before .table .ensures)
+returns c = c .before .before .number-run .ensures ∙ as-written _ _ _ _ _ _ (c .before .before .before .before .before .before .before .table .ensures)
 
 pub write-labels-spec : {M : Type 1} → statement M
 write-labels-spec =
@@ -42,6 +42,6 @@ write-labels-spec =
     sub-table
     table-requires
     table-requires-2
-    number-requires
+    number-run-requires
     same-length
     returns)

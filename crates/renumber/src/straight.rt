@@ -1,0 +1,68 @@
+// Trees over tags that stand in the order of their numbers, as load leaves them: the next tag is found with no look at next.
+ghost use mathlib.Core.Path.{_≡_};
+ghost use Prim.Native.Nat.{_+_, _≤_, _<_};
+ghost use Rattle.renumber.specs.Needs.{Straight, Trees-fit, leaves-numbered, trees-numbered, table-limit};
+use store_types::Label;
+use store_types::TagId;
+
+// So many tags from x on, to be numbered from a on.
+pub struct Run {
+    pub a: u64,
+    pub x: u32,
+    pub count: u64,
+}
+
+// Leaves in a row, a width apart.
+fn number_leaves(words: &mut [u32], n: u32, run: Run, width: u64)
+    requires { ⌜ Straight (now words) n × (run .x + run .count ≤ n) × (run .a < 4294967296) × (width ≤ table-limit) ⌝ }
+    ensures { λ _. ⌜ now (words .exit) ≡ leaves-numbered (now (words .entry)) width (run .a) (run .x) (run .count) .words ⌝ }
+{
+    let mut at = run.a;
+    let mut tag = run.x;
+    let mut left = run.count;
+    while 0 < left {
+        words::set_label(words, TagId(tag), Label(at as u32));
+        tag += 1;
+        at = (at + width) % 4294967296;
+        left -= 1;
+    }
+}
+
+// The trees of height j over a run, each numbered from its top, as `number` does along next.
+pub fn number_run(
+    words: &mut [u32],
+    n: u32,
+    r: u64,
+    j: usize,
+    run: Run,
+    widths: &[u64; 24],
+    lows: &[u64; 24],
+)
+    requires { ⌜ Straight (now words) n × (run .x + run .count ≤ n) × Trees-fit r j (run .a) (run .count) (now widths) (now lows) ⌝ }
+    ensures { λ _. ⌜ now (words .exit) ≡ trees-numbered (now (words .entry)) (now (widths .entry)) r j (run .a) (run .x) (run .count) .words ⌝ }
+{
+    if j == 0 {
+        number_leaves(words, n, run, widths[0]);
+        return;
+    }
+    let below = j - 1;
+    let width = widths[j];
+    let each = lows[j];
+    let mut parts = run.count / each;
+    let mut at = run.a;
+    let mut tag = run.x;
+    let mut left = run.count;
+    while 0 < parts {
+        let size = crate::part_size(parts, each, left);
+        let part = Run {
+            a: at,
+            x: tag,
+            count: size,
+        };
+        number_run(words, n, r, below, part, widths, lows);
+        tag += size as u32;
+        at = (at + width) % 4294967296;
+        left -= size;
+        parts -= 1;
+    }
+}
