@@ -84,20 +84,24 @@ pub fn question([book, tag, start, end]: [u32; 4], d: u32, words: &[u32]) -> [u3
     [0, u32::from(start < label && label < end)]
 }
 
-/// The unmarked tags strictly inside a begin, or of the whole book.
-fn inside(begin: u32, words: &[u32]) -> impl Iterator<Item = u32> + '_ {
+/// Calls with each unmarked tag strictly inside a begin, or of the whole book, and its label; how many there are.
+/// The words must say a store.
+fn inside(begin: u32, words: &[u32], mut each: impl FnMut(usize, u32, u32)) -> usize {
+    // SAFETY: along next from a tag of a sound store there are tags of it alone, up to no tag.
+    let field = |x: u32, k: usize| unsafe { *words.get_unchecked(at(x, k)) };
     let (mut x, last) = match begin {
         NO_TAG => (words[FIRST], NO_TAG),
         _ => (words[at(begin, NEXT)], words[at(begin, MATE)]),
     };
-    let all = std::iter::from_fn(move || {
-        let here = x;
-        (here != last).then(|| {
-            x = words[at(here, NEXT)];
-            here
-        })
-    });
-    all.filter(|&x| words[at(x, KIND)] < MARK)
+    let mut count = 0;
+    while x != last {
+        if field(x, KIND) < MARK {
+            each(count, x, field(x, LABEL));
+            count += 1;
+        }
+        x = field(x, NEXT);
+    }
+    count
 }
 
 pub fn list(begin: u32, words: &[u32], tags: &mut [u32], labels: &mut [u32]) -> [u32; 2] {
@@ -110,14 +114,12 @@ pub fn list(begin: u32, words: &[u32], tags: &mut [u32], labels: &mut [u32]) -> 
     }
     // Lists that hold all tags of the book hold any part; shorter ones are counted for before they are written.
     let room = tags.len().min(labels.len());
-    if room < words[COUNT] as usize && room < inside(begin, words).count() {
+    if room < words[COUNT] as usize && room < inside(begin, words, |_, _, _| ()) {
         return refused(11);
     }
-    let mut count = 0;
-    for x in inside(begin, words) {
-        tags[count] = x;
-        labels[count] = words[at(x, LABEL)];
-        count += 1;
-    }
+    let count = inside(begin, words, |i, tag, label| {
+        tags[i] = tag;
+        labels[i] = label;
+    });
     [0, count as u32]
 }

@@ -13,6 +13,24 @@ pub struct Sound {
     pub leaves: [u32; HEIGHTS],
 }
 
+/// Bit k of entry c: a tag of kind word c may stand in, or close, an open begin of kind word k, or beside itself where
+/// none is open. Takes the place of the tests of kind and mark.
+static PAIRS: [u32; 32] = pairs();
+
+const fn pairs() -> [u32; 32] {
+    let mut table = [0; 32];
+    table[1] = 1 << 1;
+    table[2] = 1 << 1;
+    table[3] = 1 << 1 | 1 << 3;
+    table[17] = 1 << 1 | 1 << 17;
+    table[18] = 1 << 17;
+    table[19] = 1 << 1 | 1 << 17 | 1 << 19;
+    table
+}
+
+/// No label: labels are below it.
+const NO_LABEL: u64 = 1 << 32;
+
 /// The open nodes by height.
 struct Levels<'a> {
     shape: &'a Shape,
@@ -21,18 +39,15 @@ struct Levels<'a> {
     /// The number behind the open node, and the place of its first leaf.
     ends: Table,
     firsts: [u32; HEIGHTS],
-    /// The first places of the watched tag's ancestors, once it is met. No two nodes of one height begin at one place,
-    /// so they tell when such an ancestor closes.
-    watched: [u32; HEIGHTS],
+    /// The number behind the watched tag's ancestor.
+    watched: Table,
     leaves: [u32; HEIGHTS],
 }
 
 impl Levels<'_> {
     fn close(&mut self, h: usize, place: u32) -> Option<()> {
         let leaves = place - self.firsts[h];
-        if self.firsts[h] == self.watched[h] {
-            self.leaves[h] = leaves;
-        }
+        self.leaves[h] = if self.ends[h] == self.watched[h] { leaves } else { self.leaves[h] };
         let leaves = u64::from(leaves);
         (self.shape.least[h] <= leaves && leaves < self.shape.limits[h]).then_some(())
     }
@@ -67,46 +82,68 @@ pub fn sound(words: &[u32], watched: u32) -> Option<Sound> {
     Some(Sound { shape, height, n: n as u32, leaves })
 }
 
+/// The numbers behind a label's ancestors.
+fn behind(shape: &Shape, label: u64) -> Table {
+    shape.widths.map(|width| label - label % width + width)
+}
+
 fn pass(words: &[u32], shape: &Shape, height: usize, n: u32, watched: u32) -> Option<[u32; HEIGHTS]> {
-    let (tags, _) = words[HEADER..words_for(n as usize)].as_chunks::<RECORD>();
+    // SAFETY, for every read below: the words hold n records, and the tags read are below n: x is tested first, the tag
+    // beside it is x or a begin that was passed.
+    let field = |x: u32, k: usize| unsafe { *words.get_unchecked(at(x, k)) };
+    let label = if watched < n { u64::from(field(watched, LABEL)) } else { 0 };
     let mut levels = Levels {
         shape,
         under: height - 1,
         ends: shape.widths,
         firsts: [0; HEIGHTS],
-        watched: [NO_TAG; HEIGHTS],
+        watched: behind(shape, label),
         leaves: [0; HEIGHTS],
     };
     let (mut x, mut before, mut parent) = (words[FIRST], NO_TAG, NO_TAG);
-    let (mut expect, mut marks, mut fits) = (0, 0, true);
+    let (mut expect, mut marks) = (0, 0);
     for place in 0..n {
-        let tag = tags.get(x as usize)?;
-        let [label, next, prior, mate, up, kind] = *tag;
-        let label = u64::from(label);
-        if label != expect || levels.ends[1] <= label {
+        if n <= x {
+            return None;
+        }
+        let label = u64::from(field(x, LABEL));
+        // One test: a node's end makes the label that is waited for one that no tag has.
+        if label != expect {
             levels.settle(label, place)?;
         }
-        if x == watched {
-            levels.watched = levels.firsts;
+        // Kinds come in no order that a processor could guess, so nothing branches on them: what differs by kind is
+        // where a word is read. Each test is one that every tag of a sound store passes.
+        let kind = field(x, KIND);
+        if field(x, PRIOR) != before || 32 <= kind {
+            return None;
         }
-        // Kinds come in no order that a processor could guess, so all is tested of every tag and the verdicts joined.
-        // With no open begin the tag is set beside itself: that asks nothing of a begin or text, and no end has
-        // itself for a mate and no tag too.
-        let open = &tags[if parent < n { parent } else { x } as usize];
-        let (is_begin, is_end, is_text) = (kind & 15 == 1, kind & 15 == 2, kind & 15 == 3);
-        let end_fits = (mate == parent) & (open[MATE] == x) & (up == open[UP]) & (kind == open[KIND].wrapping_add(1));
-        let inner_fits = (up == parent) & ((kind & MARK >= open[KIND] & MARK) & (!is_text | (mate == x)));
-        fits &= (prior == before) & (kind < 32) & (is_begin | is_end | is_text);
-        fits &= select_unpredictable(is_end, end_fits, inner_fits);
-        marks += kind >> 4 & 1;
-        parent = select_unpredictable(is_begin, x, select_unpredictable(is_end, up, parent));
-        expect = label + 1;
+        let beside = if parent < n { parent } else { x };
+        if PAIRS[kind as usize] >> (field(beside, KIND) & 31) & 1 == 0 {
+            return None;
+        }
+        let (odd, high) = (kind & 1, kind >> 1 & 1);
+        // A begin's and a text's up, an end's mate.
+        if field(x, MATE + odd as usize) != parent {
+            return None;
+        }
+        let up = field(x, UP);
+        let partner = select_unpredictable(odd == 0, beside, x);
+        if up != field(partner, UP) {
+            return None;
+        }
+        // The mate; a begin has none yet, and its prior is compared again.
+        if field(partner, PRIOR + high as usize) != select_unpredictable(high == 0, before, x) {
+            return None;
+        }
+        marks += kind >> 4;
+        parent = select_unpredictable(high == 0, x, up);
+        expect = if label + 1 < levels.ends[1] { label + 1 } else { NO_LABEL };
         before = x;
-        x = next;
+        x = field(x, NEXT);
     }
     for h in 1..height {
         levels.close(h, n)?;
     }
     levels.leaves[height] = n;
-    (fits && x == NO_TAG && parent == NO_TAG && words[STAMP] <= n + marks).then_some(levels.leaves)
+    (x == NO_TAG && parent == NO_TAG && words[STAMP] <= n + marks).then_some(levels.leaves)
 }
