@@ -1,8 +1,8 @@
 -- Tags in the order of their numbers: the row from one on, and a loop on its way along it. Assumes nothing.
 use mathlib.Core.Path.{_≡_, refl, sym, _∙_}
 use mathlib.Core.List.{List}
-use Prim.Native.Nat.{ℕ, zero, suc, _+_, _-_, _^_, _≤_, _<_}
-use native.Mathlib.Nat.{add-zero, mod-eq-of-lt}
+use Prim.Native.Nat.{ℕ, zero, suc, _+_, _*_, _-_, _/_, _^_, _≤_, _<_}
+use native.Mathlib.Nat.{add-zero, one-mul, suc-mul, mod-lt, mod-eq-of-lt, div-add-mod'}
 use native.Mathlib.Omega.{arith}
 use lib.ListN.{length}
 use Rattle.store_types.specs.Limits.{word-limit}
@@ -10,7 +10,7 @@ use Rattle.store_types.specs.Layout.{with-label}
 use Rattle.words.proofs.Fields.{records-kept, length-with-label}
 use Rattle.walk_model.specs.Levels.{entry}
 use Rattle.edit_model.specs.Relabel.{Relabelled, along, cut}
-use Rattle.renumber.specs.Needs.{Straight, Row-there, Trees-fit, Row-numbered, Part-size, leaves-numbered, trees-numbered}
+use Rattle.renumber.specs.Needs.{Straight, Row-there, Trees-fit, Row-numbered, Part-size, Next-size, leaves-numbered, trees-numbered}
 use Rattle.renumber.proofs.Rows.{Same-next, label-keeps-next, On-way, start, arrived, leaf-on, leaves-end}
 use Rattle.renumber.proofs.Parts.{parts-numbered, Parts-left, parts-end, trees-keep-next, Next-part, next-part, part-on}
 
@@ -85,3 +85,40 @@ part-going {ws = ws} {n = n} {x = x} {left = left} {at = at} w r j e p h {vs} {s
       straight = straight-kept (h .straight) (rw q (trees-keep-next ws w r (j - 1) at x size)) long;
       ends = omega (arith, h .ends, part .fits);
     }
+
+-- HOW MANY PARTS are left, by what is left alone
+pub record Whole-parts (p e left : ℕ) : Type 0 where
+  pub parts : Parts-left p e left
+  pub most : left < suc p * e
+
+pub whole-start : {e count : ℕ} → 1 ≤ e → Parts-left (count / e) e count → Whole-parts (count / e) e count
+whole-start {e} {count} some h =
+    record { parts = h; most = omega (arith, suc-mul (count / e) e, div-add-mod' count e, mod-lt count {m = e} some) }
+
+pub some-part : (p e left : ℕ) → Whole-parts p e left → 1 ≤ left → 1 ≤ p
+some-part zero e left h some = absurd (omega (arith, h .parts .none refl))
+some-part (suc k) e left h some = omega arith
+
+pub part-sized : (p e left size : ℕ) → Whole-parts p e left → 1 ≤ left → Next-size e left size → Part-size p e left size
+part-sized zero e left size h some sized = absurd (omega (arith, some-part 0 e left h some))
+part-sized (suc zero) e left size h some sized =
+    record { last = λ one. sized .last (omega (arith, h .most, suc-mul 1 e, one-mul e)); other = λ more. absurd (more refl) }
+part-sized (suc (suc k)) e left size h some sized =
+    record { last = λ one. absurd (omega arith); other = λ more. sized .other (omega (arith, h .parts .low, suc-mul (suc k) e, suc-mul k e)) }
+
+pub whole-next : (p e left size : ℕ) → Whole-parts p e left → 1 ≤ e → 1 ≤ left → Next-size e left size → Whole-parts (p - 1) e (left - size)
+whole-next zero e left size h least some sized = absurd (omega (arith, some-part 0 e left h some))
+whole-next (suc zero) e left size h least some sized =
+    let part = part-sized 1 e left size h some sized in
+    record { parts = next-part 1 e left size (omega arith) (h .parts) part .after; most = omega (arith, part .last refl, one-mul e) }
+whole-next (suc (suc k)) e left size h least some sized =
+    let part = part-sized (suc (suc k)) e left size h some sized in
+    let less : suc (suc k) - 1 ≡ suc k = omega arith in
+    record {
+      parts = next-part (suc (suc k)) e left size (omega arith) (h .parts) part .after;
+      most = rw less (omega (arith, h .most, suc-mul (suc (suc k)) e, h .parts .low, suc-mul (suc k) e, part .other (λ z. omega arith)));
+    }
+
+pub none-left : (p e left : ℕ) → Whole-parts p e left → 1 ≤ e → left ≡ 0 → p ≡ 0
+none-left zero e left h least none = refl
+none-left (suc k) e left h least none = absurd (omega (arith, h .parts .low, suc-mul k e))

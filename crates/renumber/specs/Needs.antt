@@ -39,6 +39,11 @@ pub record Part-size (parts each left size : ℕ) : Type 0 where
   pub last : parts ≡ 1 → size ≡ left
   pub other : (parts ≡ 1 → ⊥) → size ≡ each
 
+-- the same by what is left alone: two parts have room where twice their tags are left
+pub record Next-size (each left size : ℕ) : Type 0 where
+  pub last : left < 2 * each → size ≡ left
+  pub other : 2 * each ≤ left → size ≡ each
+
 -- labels for so many tags along next from x on, by numbers from a on: of leaves a width apart, and of trees of height j
 unfoldable pub leaves-numbered : (ws : List ℕ) → (width a x count : ℕ) → Relabelled
 leaves-numbered ws v a x count = let xs = follow count ws x in relabel xs (map cut (labels (leaf-row xs) (λ k. v) 0 a)) ws

@@ -1,7 +1,7 @@
 // Trees over tags that stand in the order of their numbers, as load leaves them: the next tag is found with no look at next.
 ghost use mathlib.Core.Path.{_≡_};
 ghost use Prim.Native.Nat.{_+_, _≤_, _<_};
-ghost use Rattle.renumber.specs.Needs.{Straight, Trees-fit, leaves-numbered, trees-numbered, table-limit};
+ghost use Rattle.renumber.specs.Needs.{Straight, Trees-fit, Next-size, leaves-numbered, trees-numbered, table-limit};
 use store_types::Label;
 use store_types::TagId;
 
@@ -28,6 +28,14 @@ fn number_leaves(words: &mut [u32], n: u32, run: Run, width: u64)
     }
 }
 
+// How many tags the next of some parts takes: the last one takes all that remain.
+fn next_part(each: u64, left: u64) -> u64
+    requires { ⌜ each ≤ table-limit ⌝ }
+    ensures { λ n. ⌜ Next-size each left n ⌝ }
+{
+    if left < 2 * each { left } else { each }
+}
+
 // The trees of height j over a run, each numbered from its top, as `number` does along next.
 pub fn number_run(
     words: &mut [u32],
@@ -48,12 +56,11 @@ pub fn number_run(
     let below = j - 1;
     let width = widths[j];
     let each = lows[j];
-    let mut parts = run.count / each;
     let mut at = run.a;
     let mut tag = run.x;
     let mut left = run.count;
-    while 0 < parts {
-        let size = crate::part_size(parts, each, left);
+    while 0 < left {
+        let size = next_part(each, left);
         let part = Run {
             a: at,
             x: tag,
@@ -63,6 +70,5 @@ pub fn number_run(
         tag += size as u32;
         at = (at + width) % 4294967296;
         left -= size;
-        parts -= 1;
     }
 }
