@@ -1,7 +1,7 @@
 //! Insertion of a text or an element.
 
 use super::refused;
-use super::sound::{sound, Sound};
+use super::sound::{Sound, sound};
 use super::spread::Spread;
 use crate::words::*;
 

@@ -1,6 +1,6 @@
 //! The soundness walk: one pass along next.
 
-use super::shape::{Shape, Table, HEIGHTS};
+use super::shape::{HEIGHTS, Shape, Table};
 use crate::words::*;
 use std::hint::select_unpredictable;
 

@@ -1,6 +1,6 @@
 //! Labels of leaves in order, by document 01's load rule.
 
-use super::shape::{Shape, Table, HEIGHTS};
+use super::shape::{HEIGHTS, Shape, Table};
 
 /// The labels of `count` leaves under nodes of a height, numbered from `base` on: at each height j up to it
 /// ⌊count / r^j⌋ nodes, each over r^j leaves, the last over all that remain. s·r^j leaves give s complete trees of
