@@ -36,6 +36,31 @@ fn next_part(each: u64, left: u64) -> u64
     if left < 2 * each { left } else { each }
 }
 
+// The nodes of height 1 over a run: most calls of the recursion would be for their leaves.
+fn number_nodes(words: &mut [u32], n: u32, r: u64, run: Run, widths: &[u64; 24], lows: &[u64; 24])
+    requires { ⌜ Straight (now words) n × (run .x + run .count ≤ n) × Trees-fit r 1 (run .a) (run .count) (now widths) (now lows) ⌝ }
+    ensures { λ _. ⌜ now (words .exit) ≡ trees-numbered (now (words .entry)) (now (widths .entry)) r 1 (run .a) (run .x) (run .count) .words ⌝ }
+{
+    let leaf = widths[0];
+    let width = widths[1];
+    let each = lows[1];
+    let mut at = run.a;
+    let mut tag = run.x;
+    let mut left = run.count;
+    while 0 < left {
+        let size = next_part(each, left);
+        let part = Run {
+            a: at,
+            x: tag,
+            count: size,
+        };
+        number_leaves(words, n, part, leaf);
+        tag += size as u32;
+        at = (at + width) % 4294967296;
+        left -= size;
+    }
+}
+
 // The trees of height j over a run, each numbered from its top, as `number` does along next.
 pub fn number_run(
     words: &mut [u32],
@@ -51,6 +76,10 @@ pub fn number_run(
 {
     if j == 0 {
         number_leaves(words, n, run, widths[0]);
+        return;
+    }
+    if j == 1 {
+        number_nodes(words, n, r, run, widths, lows);
         return;
     }
     let below = j - 1;

@@ -16,6 +16,7 @@ use Rattle.renumber.proofs.straight.number_run.Kinds as number-run-kind
 use Rattle.renumber.proofs.straight.+number_run.Lts-number_run as number-run-lts
 use Rattle.renumber.proofs.straight.next_part.Reads as next-part-reads
 use Rattle.renumber.proofs.straight.number_leaves.Reads as number-leaves-reads
+use Rattle.renumber.proofs.straight.number_nodes.Reads as number-nodes-reads
 use Rattle.renumber.proofs.straight.+number_run.{statement}
 use Rattle.renumber.proofs.straight.+number_run.Tie.{close}
 
@@ -31,7 +32,7 @@ number-run-below t =
     and 3 number-run-kinds.ps (falls 3 number-run-kinds.ps _<_ μ-number-run t) number-run.Pre
 
 abbrev given : ℕ → number-run-lts.Claims
-given t = (number-leaves-reads.Asked, number-leaves-reads.Learnt, next-part-reads.Asked, next-part-reads.Learnt, number-run-below t, number-run.Post)
+given t = (number-leaves-reads.Asked, number-leaves-reads.Learnt, number-nodes-reads.Asked, number-nodes-reads.Learnt, next-part-reads.Asked, next-part-reads.Learnt, number-run-below t, number-run.Post)
 
 abbrev number-run-Inv-loop : number-run-lts.InvT-loop
 number-run-Inv-loop words₀ n r j widths lows below width each at₀ tag₀ left₀ words at tag left =
@@ -57,6 +58,15 @@ number-run-returns t c = let args = c .before .before .before .before .before .b
     let zero = trees-zero (args .words .now) (args .widths .now) (args .r) (args .j) (args .run .a) (args .run .x) (args .run .count) (c .before .before .before .before .before .if1 .taken) in
     c .before .before .number-leaves .ensures ∙ ap (λ (q : Relabelled). q .words) zero
 
+number-run-number-nodes-requires : (t : ℕ) → number-run-lts.Need-number-nodes-requires (given t) (number-run-at t) number-run.Post number-run-Inv-loop number-run-μ-loop
+number-run-number-nodes-requires t c κs = let pre = c .before .before .before .before .pre .1 in (pre .0, pre .1, rw (c .before .if2 .taken) at (pre .2))
+
+number-run-same-length-2 : (t : ℕ) → number-run-lts.Need-same-length-2 (given t) (number-run-at t) number-run.Post number-run-Inv-loop number-run-μ-loop
+number-run-same-length-2 t c = c .before .before .number-nodes .kept .0
+
+number-run-returns-2 : (t : ℕ) → number-run-lts.Need-returns-2 (given t) (number-run-at t) number-run.Post number-run-Inv-loop number-run-μ-loop
+number-run-returns-2 t c = rw (c .before .before .before .before .if2 .taken) (c .before .before .number-nodes .ensures)
+
 number-run-sub-below : (t : ℕ) → number-run-lts.Need-sub-below (given t) (number-run-at t) number-run.Post number-run-Inv-loop number-run-μ-loop
 number-run-sub-below t c = omega arith
 
@@ -73,7 +83,7 @@ number-run-element-copy-out-each : (t : ℕ) → number-run-lts.Need-element-cop
 number-run-element-copy-out-each t c = omega arith
 
 number-run-loop-holds : (t : ℕ) → number-run-lts.Need-loop-holds (given t) (number-run-at t) number-run.Post number-run-Inv-loop number-run-μ-loop
-number-run-loop-holds t c = let start = c .before .before .before .before in
+number-run-loop-holds t c = let start = c .before .before .before .before .before in
     let args = start .args in
     let fit = start .pre .1 .2 in
     let low : 1 ≤ args .j = omega arith in
@@ -85,17 +95,17 @@ number-run-loop-holds t c = let start = c .before .before .before .before in
     )
 
 number-run-next-part-requires : (t : ℕ) → number-run-lts.Need-next-part-requires (given t) (number-run-at t) number-run.Post number-run-Inv-loop number-run-μ-loop
-number-run-next-part-requires t c κs = let start = c .before .before .before .before .before .before in
+number-run-next-part-requires t c κs = let start = c .before .before .before .before .before .before .before in
     let fit = start .pre .1 .2 in
     omega (arith, each-power fit (omega arith), fit .least (omega arith), start .pre .1 .1, start .pre .1 .0 .records .few)
 
 -- in a turn: the height is not 0, and the next part
 low : (t : ℕ) (c : number-run-lts.After-next-part (given t) (number-run-at t) number-run.Post number-run-Inv-loop number-run-μ-loop) →
-    1 ≤ c .before .before .before .before .before .before .before .args .j
+    1 ≤ c .before .before .before .before .before .before .before .before .args .j
 low t c = omega arith
 
 part : (t : ℕ) (c : number-run-lts.After-next-part (given t) (number-run-at t) number-run.Post number-run-Inv-loop number-run-μ-loop) →
-    let args = c .before .before .before .before .before .before .before .args in
+    let args = c .before .before .before .before .before .before .before .before .args in
     let loop = c .before .before .loop in
     Next-part (loop .inv .0) (entry (args .lows .now) (args .j)) (loop .left) (c .next-part .result)
 part t c =
@@ -104,7 +114,7 @@ part t c =
     next-part _ _ _ _ (some-part _ _ _ whole test) (whole .parts) (part-sized _ _ _ _ whole test (c .next-part .ensures))
 
 number-run-number-run-requires : (t : ℕ) → number-run-lts.Need-number-run-requires (given t) (number-run-at t) number-run.Post number-run-Inv-loop number-run-μ-loop
-number-run-number-run-requires t c κs = let start = c .before .before .before .before .before .before .before .before in
+number-run-number-run-requires t c κs = let start = c .before .before .before .before .before .before .before .before .before in
     let inv = c .before .before .before .loop .inv in
     let next = part t (c .before) in
     (omega arith, (inv .1 .straight, omega (arith, inv .1 .ends, next .fits), fit-below (start .pre .1 .2) (low t (c .before)) (c .before .before .before .loop .at) (c .before .next-part .result) (inv .1 .way .number) (next .least)))
@@ -116,20 +126,20 @@ number-run-add-tag : (t : ℕ) → number-run-lts.Need-add-tag (given t) (number
 number-run-add-tag t c = let inv = c .before .before .before .before .before .before .loop .inv in omega (arith, part t (c .before .before .before .before) .fits, inv .1 .ends, inv .1 .straight .records .few)
 
 number-run-add-at : (t : ℕ) → number-run-lts.Need-add-at (given t) (number-run-at t) number-run.Post number-run-Inv-loop number-run-μ-loop
-number-run-add-at t c = let start = c .before .before .before .before .before .before .before .before .before .before .before in omega (arith, c .before .before .before .before .before .before .loop .inv .1 .way .number, start .pre .1 .2 .widths (start .args .j))
+number-run-add-at t c = let start = c .before .before .before .before .before .before .before .before .before .before .before .before in omega (arith, c .before .before .before .before .before .before .loop .inv .1 .way .number, start .pre .1 .2 .widths (start .args .j))
 
 number-run-sub-left : (t : ℕ) → number-run-lts.Need-sub-left (given t) (number-run-at t) number-run.Post number-run-Inv-loop number-run-μ-loop
 number-run-sub-left t c = part t (c .before .before .before .before) .fits
 
 number-run-loop-less : (t : ℕ) → number-run-lts.Need-loop-less (given t) (number-run-at t) number-run.Post number-run-Inv-loop number-run-μ-loop
-number-run-loop-less t c = let start = c .before .before .before .before .before .before .before .before .before .before .before in omega (arith, part t (c .before .before .before .before) .fits, part t (c .before .before .before .before) .least, each-some (start .pre .1 .2) (low t (c .before .before .before .before)))
+number-run-loop-less t c = let start = c .before .before .before .before .before .before .before .before .before .before .before .before in omega (arith, part t (c .before .before .before .before) .fits, part t (c .before .before .before .before) .least, each-some (start .pre .1 .2) (low t (c .before .before .before .before)))
 
 number-run-loop-again : (t : ℕ) → number-run-lts.Need-loop-again (given t) (number-run-at t) number-run.Post number-run-Inv-loop number-run-μ-loop
 unfolding cut
 number-run-loop-again t c = let turn = c .before .before .before .before in
     let loop = turn .before .before .loop in
     let test = turn .before .loop-test .taken in
-    let start = turn .before .before .before .before .before .before .before in
+    let start = turn .before .before .before .before .before .before .before .before in
     let args = start .args in
     let fit = start .pre .1 .2 in
     let some = low t turn in
@@ -141,12 +151,12 @@ number-run-loop-again t c = let turn = c .before .before .before .before in
       whole-next _ _ _ _ whole (each-some fit some) test (turn .next-part .ensures),
     )
 
-number-run-same-length-2 : (t : ℕ) → number-run-lts.Need-same-length-2 (given t) (number-run-at t) number-run.Post number-run-Inv-loop number-run-μ-loop
-number-run-same-length-2 t c = c .before .loop .inv .1 .way .long
+number-run-same-length-3 : (t : ℕ) → number-run-lts.Need-same-length-3 (given t) (number-run-at t) number-run.Post number-run-Inv-loop number-run-μ-loop
+number-run-same-length-3 t c = c .before .loop .inv .1 .way .long
 
-number-run-returns-2 : (t : ℕ) → number-run-lts.Need-returns-2 (given t) (number-run-at t) number-run.Post number-run-Inv-loop number-run-μ-loop
-number-run-returns-2 t c = let loop = c .before .loop in
-    let start = c .before .before .before .before .before .before in
+number-run-returns-3 : (t : ℕ) → number-run-lts.Need-returns-3 (given t) (number-run-at t) number-run.Post number-run-Inv-loop number-run-μ-loop
+number-run-returns-3 t c = let loop = c .before .loop in
+    let start = c .before .before .before .before .before .before .before in
     let args = start .args in
     let done : loop .left ≡ 0 = omega arith in
     let none = none-left _ _ _ (loop .inv .2) (each-some (start .pre .1 .2) (omega arith)) done in
@@ -162,6 +172,9 @@ pub +number-run-spec : {M : Type 1} → statement M
     (number-run-number-leaves-requires t)
     (number-run-same-length t)
     (number-run-returns t)
+    (number-run-number-nodes-requires t)
+    (number-run-same-length-2 t)
+    (number-run-returns-2 t)
     (number-run-sub-below t)
     (number-run-mul-width t)
     (number-run-element-copy-out-width t)
@@ -176,5 +189,5 @@ pub +number-run-spec : {M : Type 1} → statement M
     (number-run-sub-left t)
     (number-run-loop-less t)
     (number-run-loop-again t)
-    (number-run-same-length-2 t)
-    (number-run-returns-2 t)
+    (number-run-same-length-3 t)
+    (number-run-returns-3 t)
