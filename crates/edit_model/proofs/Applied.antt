@@ -7,9 +7,9 @@ use native.Mathlib.Omega.{arith}
 use lib.ListN.{length, getD, take, drop, length-append, length-take, length-drop}
 use lib.Seq.{take-at, drop-at, getD-append-add}
 use Rattle.store_types.specs.Limits.{no-tag, word-limit, most-tags}
+use Rattle.shape.specs.Tables.{entry}
 use Rattle.tree.specs.Forest.{Forest, nil, leaf, node, labels, leaf-row, parts, spread}
 use Rattle.tree_laws.proofs.Ancestors.{getD-middle}
-use Rattle.walk_model.specs.Levels.{entry}
 use Rattle.edit_model.specs.Image.{Image, image-words, with-labels}
 use Rattle.edit_model.specs.Relabel.{relabel, shift}
 use Rattle.edit_model.specs.Insert.{Plan, applied}

@@ -11,6 +11,7 @@ use lib.Seq.{drop-drop}
 use Rattle.store_types.specs.Limits.{no-tag, label-limit, most-tags}
 use Rattle.store_types.specs.Layout.{header-words, tag-words, words-for}
 use Rattle.lists.proofs.Tests.{fails}
+use Rattle.shape.specs.Tables.{entry}
 use Rattle.words.proofs.Fields.{words-next}
 use Rattle.tree.specs.Book.{height, tags, labels-of, base, power-width, root-full, inserted, split-of, moved}
 use Rattle.tree.specs.Promise.{Widths, Step, Second-tag}
@@ -21,8 +22,7 @@ use Rattle.calls.specs.Kind.{kind-word}
 use Rattle.calls.specs.Store.{Store, Fact, count, row, width}
 use Rattle.calls.specs.Words.{words-of, Says}
 use Rattle.calls_laws.proofs.Tests.{Sound, sane}
-use Rattle.walk_model.specs.Levels.{entry}
-use Rattle.walk_model.proofs.Shapes.{low-enough}
+use Rattle.shape.proofs.Fits.{height-range}
 use Rattle.edit_model.specs.Image.{image-words, image-of, with-labels}
 use Rattle.edit_model.specs.Insert.{added, applied, plain-plan, widths-of}
 use Rattle.edit_model.proofs.Image.{Alike, store-image, image-is}
@@ -80,7 +80,7 @@ module _ (ws : List ℕ) (st : Store) (says : Says ws st) (p : ℕ) (fits : p �
     unfolding power-width base
     low =
         let least : 3 ≤ st .book .s * st .book .r - 1 = omega (arith, mul-le-mul (own .degrees .s-least) (own .degrees .r-least)) in
-        omega (arith, low-enough (st .book .s * st .book .r - 1) (height (book-with p st)) least labels-fit)
+        omega (arith, height-range (st .book .s * st .book .r - 1) (height (book-with p st)) least labels-fit)
 
     -- the image with the first tag
     count-first : length (image-of (grown p t st) .facts) ≡ suc (count st)

@@ -10,6 +10,7 @@ use lib.Dec.{eqb}
 use lib.ListN.{length, getD, drop, replicate}
 use Rattle.store_types.specs.Limits.{no-tag, most-tags}
 use Rattle.store_types.specs.Layout.{tag-words, label-at}
+use Rattle.shape.specs.Tables.{entry}
 use Rattle.tree.specs.Row.{insert-at}
 use Rattle.tree.specs.Forest.{size, labels}
 use Rattle.tree.specs.Book.{Book, height, tags, labels-of, power-width, inserted, split-of}
@@ -21,7 +22,6 @@ use Rattle.tree_laws.proofs.Root.{whole, labels-whole, flat-whole, split-flat, 
 use Rattle.tree_laws.proofs.Border.{Cut, cut-flat}
 use Rattle.calls.specs.Kind.{kind-word}
 use Rattle.calls.specs.Store.{Fact}
-use Rattle.walk_model.specs.Levels.{entry}
 use Rattle.walk_model.specs.Watch.{ancestor-numbers}
 use Rattle.walk_model.proofs.Numbers.{numbers-whole}
 use Rattle.edit_model.specs.Image.{Image, image-words, with-labels}

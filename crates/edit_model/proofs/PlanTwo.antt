@@ -9,6 +9,7 @@ use borrow.Author.Tests.{eq-eqb, ne-eqb, le-ltb, lt-ltb, eqb-true}
 use lib.Dec.{ltb, eqb}
 use lib.ListN.{length, getD}
 use Rattle.lists.proofs.Tests.{by-test}
+use Rattle.shape.specs.Tables.{entry}
 use Rattle.tree.specs.Forest.{nil, size, labels}
 use Rattle.tree.specs.Book.{Book, height, root-full, inserted, split-of}
 use Rattle.tree.specs.Reach.{size-in}
@@ -23,7 +24,6 @@ use Rattle.tree_laws.proofs.Both.{Pieces, pieces-root, pieces-cut}
 use Rattle.calls.specs.Store.{Store, count, width}
 use Rattle.calls.specs.Words.{Says}
 use Rattle.calls_laws.proofs.Tests.{sane}
-use Rattle.walk_model.specs.Levels.{entry}
 use Rattle.edit_model.specs.Split.{left-of}
 use Rattle.edit_model.specs.Insert.{Plan, numbers-at, plain-plan, root-plan, split-plan, plan, widths-of, highs-of, plan-of}
 use Rattle.edit_model.proofs.Splits.{Highest, Fills, second-split-of}

@@ -11,6 +11,7 @@ use lib.Seq.{getD-append-add}
 use Rattle.store_types.specs.Limits.{no-tag}
 use Rattle.store_types.specs.Layout.{label-at}
 use Rattle.lists.proofs.Tests.{by-test}
+use Rattle.shape.specs.Tables.{entry}
 use Rattle.tree.specs.Good.{Good}
 use Rattle.tree.specs.Forest.{Forest, nil, leaf, node, leaves, size, labels, split-height}
 use Rattle.tree.specs.Book.{height, labels-of, root-full, split-of}
@@ -28,7 +29,6 @@ use Rattle.calls.specs.Words.{Says}
 use Rattle.calls_laws.proofs.Tests.{Sound, sane, facts-of}
 use Rattle.calls_laws.proofs.Sections.{row-below}
 use Rattle.calls_laws.proofs.WordSteps.{header-said}
-use Rattle.walk_model.specs.Levels.{entry}
 use Rattle.walk_model.specs.Walk.{shape-of}
 use Rattle.walk_model.specs.Watch.{ancestor-numbers, watched-label, sizes-at}
 use Rattle.walk_model.specs.Promise.{Tables-right}

@@ -7,10 +7,10 @@ use native.Mathlib.Omega.{arith}
 use lib.ListN.{length, getD, take, drop, length-append, length-drop, length-map, List·getD-append}
 use lib.Seq.{length-take-le, getD-append-add}
 use Rattle.store_types.specs.Limits.{no-tag, most-tags}
+use Rattle.shape.specs.Tables.{entry}
 use Rattle.tree.specs.Forest.{labels, spread}
 use Rattle.tree_laws.proofs.Ancestors.{getD-middle}
 use Rattle.calls_laws.proofs.Reader.{getD-map}
-use Rattle.walk_model.specs.Levels.{entry}
 use Rattle.edit_model.specs.Image.{Image, image-words, with-labels}
 use Rattle.edit_model.specs.Insert.{Plan, applied}
 use Rattle.edit_model.proofs.Image.{Proper}

@@ -9,6 +9,7 @@ use borrow.Author.Tests.{ltb-true, ltb-false, eqb-true, eqb-false}
 use lib.Dec.{ltb, eqb}
 use lib.ListN.{length}
 use Rattle.lists.proofs.Tests.{by-test}
+use Rattle.shape.specs.Tables.{entry}
 use Rattle.tree.specs.Good.{Good}
 use Rattle.tree.specs.Row.{insert-at}
 use Rattle.tree.specs.Forest.{Forest, nil, leaf, node, leaves, size, spread, put, split-height}
@@ -20,7 +21,6 @@ use Rattle.tree_laws.proofs.Insertion.{Turn, right, split, below, turn, put-rig
 use Rattle.tree_laws.proofs.Ancestors.{at-right, at-here, at-inside}
 use Rattle.tree_laws.proofs.Flat.{split-at-most}
 use Rattle.tree_laws.proofs.Second.{unsplit-joined}
-use Rattle.walk_model.specs.Levels.{entry}
 use Rattle.edit_model.specs.Split.{highest-full}
 
 -- THE HIGHEST number from low on (without it) up to top of which P holds; 0 if there is none

@@ -13,7 +13,7 @@ use Rattle.tree.specs.Book.{Book, height, labels-of, base, power-width}
 use Rattle.tree.specs.Promise.{Widths, Sane, Labels-rise}
 use Rattle.tree_laws.proofs.Labels.{rising-of, rising-below, labels-rise, power-widths}
 use Rattle.calls_laws.proofs.Tests.{Degrees}
-use Rattle.walk_model.proofs.Shapes.{low-enough}
+use Rattle.shape.proofs.Fits.{height-range}
 
 -- a test of every number below n
 below : (n : ℕ) → (ℕ → Bool) → Bool
@@ -41,7 +41,7 @@ narrower : (s r h : ℕ) → Degrees s r → power-width s r h ≤ label-limit �
 unfolding power-width base misses
 narrower s r h d fits =
     let least : 3 ≤ s * r - 1 = omega (arith, mul-le-mul (d .s-least) (d .r-least)) in
-    let low = low-enough (s * r - 1) h least fits in
+    let low : h < 24 = omega (arith, height-range (s * r - 1) h least fits) in
     let own-s : s - 2 + 2 ≡ s = omega (arith, d .s-least) in
     let own-r : r - 2 + 2 ≡ r = omega (arith, d .r-least) in
     let test = below-at 24 (misses (s - 2) (r - 2)) (below-at 15 (λ j. below 24 (misses (s - 2) j)) (below-at 15 (λ i. below 15 (λ j. below 24 (misses i j))) all-miss (s - 2) (omega (arith, d))) (r - 2) (omega (arith, d))) h low in

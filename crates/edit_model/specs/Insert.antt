@@ -6,10 +6,9 @@ use lib.Dec.{ltb, eqb}
 use lib.ListN.{replicate, set}
 use Rattle.store_types.specs.Limits.{no-tag}
 use Rattle.store_types.specs.Layout.{at-s, at-r, at-height, at-count, at-first, at-stamp, at-next, at-prior, at-mate, at-up, at-kind, word-at, field, label-at, with-field, with-label}
+use Rattle.shape.specs.Tables.{entry, table}
 use Rattle.tree.specs.Forest.{labels, spread}
 use Rattle.calls.specs.Words.{follow}
-use Rattle.walk_model.specs.Levels.{entry}
-use Rattle.walk_model.specs.Walk.{table}
 use Rattle.walk_model.specs.Watch.{ancestor-numbers, sizes-at}
 use Rattle.edit_model.specs.Relabel.{Relabelled, relabel, along, cut, shift}
 use Rattle.edit_model.specs.Split.{highest-full, left-of}

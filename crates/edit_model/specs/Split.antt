@@ -5,7 +5,7 @@ use mathlib.Core.List.{List}
 use Prim.Native.Nat.{ℕ, zero, suc, _+_}
 use lib.Dec.{leb, ltb, eqb}
 use Rattle.store_types.specs.Layout.{at-prior, field, label-at}
-use Rattle.walk_model.specs.Levels.{entry}
+use Rattle.shape.specs.Tables.{entry}
 
 -- the highest height from h on whose ancestor comes to its limit with k leaves more; `left` heights are left below the
 -- root, and `found` is the one below h

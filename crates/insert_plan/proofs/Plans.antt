@@ -13,9 +13,9 @@ use lib.ListN.{replicate}
 use Rattle.store_types.specs.Limits.{no-tag, label-limit}
 use Rattle.lists.proofs.Tests.{by-test}
 use Rattle.store_types.specs.Layout.{at-next, field, label-at, with-label}
+use Rattle.shape.specs.Tables.{entry}
 use Rattle.tree.specs.Forest.{spread}
 use Rattle.calls.specs.Words.{follow}
-use Rattle.walk_model.specs.Levels.{entry}
 use Rattle.edit_model.specs.Relabel.{Relabelled, cut, shift}
 use Rattle.walk_model.specs.Watch.{ancestor-numbers}
 use Rattle.edit_model.specs.Split.{highest-full, left-of}

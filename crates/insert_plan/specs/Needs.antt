@@ -1,7 +1,7 @@
 -- What making a plan and doing it ask of their callers. Assumes nothing: these are definitions.
 use mathlib.Core.List.{List}
 use Prim.Native.Nat.{ℕ, _≤_}
-use Rattle.walk_model.specs.Levels.{entry}
+use Rattle.shape.specs.Tables.{entry}
 use Rattle.edit_model.specs.Relabel.{cut}
 use Rattle.edit_model.specs.Insert.{Plan, behind}
 use Rattle.walk_levels.specs.Needs.{Ancestors-fit}

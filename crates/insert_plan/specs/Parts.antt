@@ -5,7 +5,7 @@ use Prim.Native.Nat.{ℕ, _+_}
 use lib.Dec.{eqb}
 use Rattle.store_types.specs.Limits.{no-tag}
 use Rattle.store_types.specs.Layout.{label-at}
-use Rattle.walk_model.specs.Levels.{entry}
+use Rattle.shape.specs.Tables.{entry}
 use Rattle.edit_model.specs.Split.{left-of}
 use Rattle.edit_model.specs.Insert.{Plan, numbers-at, plain-plan, split-plan}
 use Rattle.insert_plan.specs.declared.Plan as code

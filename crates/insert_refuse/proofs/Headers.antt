@@ -8,31 +8,18 @@ use lib.ListN.{length}
 use Rattle.store_types.specs.Limits.{label-limit}
 use Rattle.lists.proofs.Tests.{and-left}
 use Rattle.store_types.specs.Layout.{at-s, at-r, at-height, at-count, header-words, word-at, words-for}
+use Rattle.shape.proofs.TableLaws.{table-at}
+use Rattle.shape.specs.Tables.{entry, table, Table-fits}
 use Rattle.words.proofs.Fields.{header-fits}
+use Rattle.shape.proofs.Fits.{Fits, height-range}
 use Rattle.tree.specs.Book.{base, power-width}
 use Rattle.calls.specs.Words.{Says}
 use Rattle.calls.specs.Replies.{said}
 use Rattle.calls_laws.proofs.Tests.{Degrees}
-use Rattle.walk_model.specs.Levels.{entry}
-use Rattle.walk_model.specs.Walk.{table, header-passes, walk, shape-of, start, words-pass}
+use Rattle.walk_model.specs.Walk.{header-passes, walk, shape-of, start, words-pass}
 use Rattle.walk_model.specs.Promise.{Walk-right}
 use Rattle.walk_model.proofs.Shapes.{Header, header-facts}
 use Rattle.walk_model.proofs.WalkRight.{walk-right}
-use Rattle.walk_levels.specs.Needs.{Table-fits}
-use Rattle.walk_levels.proofs.TableLaws.{table-at}
-
--- f is 4 to 256
-product-range : {s r : ℕ} → Degrees s r → (4 ≤ s * r) × (s * r ≤ 256)
-product-range d = (mul-le-mul (d .s-least) (d .r-least), mul-le-mul (d .s-most) (d .r-most))
-
--- three to the 21st passes the limit of labels
-pub height-range : (b h : ℕ) → 3 ≤ b → b ^ h ≤ label-limit → h ≤ 20
-height-range b h l fits =
-    let low : h < 21 = lt-of-not-le λ high.
-    let three : 3 ^ 21 ≤ 3 ^ h = pow-le-pow-right (omega arith) high in
-    let more : 3 ^ h ≤ b ^ h = pow-le-pow-left l h in
-    omega arith in
-    omega arith
 
 -- THE NUMBERS OF A HEADER
 pub record Ranges (s r h n : ℕ) : Type 0 where
@@ -57,9 +44,9 @@ module _ (ws : List ℕ) (h : Says ws (said ws)) where
       let fits = rw (← f .levels) at (f .labels-fit) in
       record {
         degrees = f .degrees;
-        product = product-range (f .degrees);
+        product = (mul-le-mul (f .degrees .s-least) (f .degrees .r-least), mul-le-mul (f .degrees .s-most) (f .degrees .r-most));
         low = omega (arith, f .levels);
-        high = height-range _ (word-at ws at-height) (omega (arith, product-range (f .degrees))) fits;
+        high = height-range _ (word-at ws at-height) (omega (arith, mul-le-mul (f .degrees .s-least) (f .degrees .r-least))) fits;
         power = fits;
         few = f .few;
         below = rw (f .levels) (f .below);
@@ -72,23 +59,9 @@ module _ (ws : List ℕ) (h : Says ws (said ws)) where
   header-room = omega (arith, room, header-fits (word-at ws at-count))
 
 -- TABLES of its powers
-module _ {s r h n : ℕ} (f : Ranges s r h n) where
-  pub widths-fit : Table-fits 1 (s * r - 1) h
-  widths-fit =
-      record { height = omega (arith, f .high); grows = omega (arith, f .product); last = rw (one-mul ((s * r - 1) ^ h)) (omega (arith, f .power)) }
-
-  -- r is below b
-  pub lows-below : r ^ h ≤ label-limit
-  lows-below =
-      let less : r ≤ s * r - 1 = omega (arith, mul-le-mul-right r (f .degrees .s-least), f .degrees .r-least) in
-      omega (arith, pow-le-pow-left less h, f .power)
-
-  pub lows-fit : Table-fits 1 r h
-  lows-fit = record { height = omega (arith, f .high); grows = omega (arith, f .degrees .r-least); last = rw (one-mul (r ^ h)) (omega (arith, lows-below)) }
-
-  pub highs-fit : Table-fits s r h
-  highs-fit =
-      record { height = omega (arith, f .high); grows = omega (arith, f .degrees .r-least); last = omega (arith, mul-le-mul (f .degrees .s-most) lows-below) }
+pub fits-of : {s r h n : ℕ} → Ranges s r h n → Fits s r h
+fits-of f =
+    record { s-least = f .degrees .s-least; s-most = f .degrees .s-most; r-least = f .degrees .r-least; r-most = f .degrees .r-most; power = f .power }
 
 -- what stands in them
 pub power-at : (v b top : ℕ) {t : List ℕ} → t ≡ table v b top → (k : ℕ) → k ≤ top → entry t k ≡ v * b ^ k

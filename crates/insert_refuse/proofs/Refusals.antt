@@ -16,7 +16,7 @@ use Rattle.calls.specs.Insert.{insert-kinds, labels-end, tags-refused, insert-r
 use Rattle.calls.specs.Words.{Says}
 use Rattle.calls.specs.Replies.{said, insert-refused, refusal-over}
 use Rattle.calls_laws.proofs.WordSteps.{header-said, refusal-said}
-use Rattle.walk_header.specs.Needs.{power-fits}
+use Rattle.shape.specs.Needs.{power-fits}
 use Rattle.store_refuse.specs.Needs.{Tag-said}
 use Rattle.store_refuse.proofs.Laws.{refused-first, accepted-says, kind-of-tag}
 use Rattle.insert_refuse.specs.Parts.{place-refusal, room-refusal, tags-refusal}

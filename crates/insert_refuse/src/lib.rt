@@ -40,11 +40,11 @@ fn room_refused(k: u32, words: &[u32]) -> u32
     let s = words[words::AT_S] as u64;
     let r = words[words::AT_R] as u64;
     let h = words[words::AT_HEIGHT];
-    let highs = walk_levels::table(s, r, h as usize);
+    let highs = shape::table(s, r, h as usize);
     if (all as u64) < highs[h as usize] {
         return 0;
     }
-    if walk_header::power_fits(s * r - 1, h + 1) {
+    if shape::power_fits(s * r - 1, h + 1) {
         return 0;
     }
     7

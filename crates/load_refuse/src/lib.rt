@@ -75,10 +75,10 @@ fn kinds_refused(kinds: &[u8]) -> u32
 pub fn refused(room: usize, s: u32, r: u32, kinds: &[u8]) -> u32
     ensures { λ q. ⌜ q ≡ refusal-before room s r (now (kinds .entry)) ⌝ }
 {
-    if !walk_header::degree_fits(s) {
+    if !shape::degree_fits(s) {
         return 3;
     }
-    if !walk_header::degree_fits(r) {
+    if !shape::degree_fits(r) {
         return 3;
     }
     if 200000 < kinds.len() {

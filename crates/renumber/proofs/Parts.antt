@@ -7,11 +7,11 @@ use native.Mathlib.Numerals.{sub-one}
 use native.Mathlib.Omega.{arith}
 use lib.ListN.{length, length-map}
 use Rattle.store_types.specs.Limits.{word-limit}
+use Rattle.shape.specs.Tables.{entry}
 use Rattle.tree.specs.Forest.{labels, spread, parts}
 use Rattle.tree_laws.proofs.Labels.{length-labels}
 use Rattle.tree_laws.proofs.Spread.{parts-none, parts-one, parts-more, spread-suc, leaves-below, parts-in, some-power, lower-power}
 use Rattle.calls.specs.Words.{follow}
-use Rattle.walk_model.specs.Levels.{entry}
 use Rattle.edit_model.specs.Relabel.{Relabelled, relabel, along, cut}
 use Rattle.edit_model.proofs.Relabels.{relabel-append-words, relabel-append-moved, labels-cut}
 use Rattle.renumber.specs.Needs.{Row-there, Trees-fit, Row-numbered, Part-size, leaves-numbered, trees-numbered}

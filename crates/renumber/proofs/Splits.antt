@@ -9,7 +9,7 @@ use borrow.Author.Tests.{le-leb, lt-leb, lt-ltb, le-ltb, leb-true, leb-false, no
 use lib.Dec.{leb, ltb, eqb}
 use Rattle.lists.proofs.Tests.{by-test, or-left-false}
 use Rattle.store_types.specs.Layout.{at-prior, field, label-at}
-use Rattle.walk_model.specs.Levels.{entry}
+use Rattle.shape.specs.Tables.{entry}
 use Rattle.edit_model.specs.Split.{highest-full, left-of}
 
 -- TESTS: whether x is one of n and its label l is at least b

@@ -7,8 +7,8 @@ use native.Mathlib.Omega.{arith}
 use lib.ListN.{length}
 use Rattle.store_types.specs.Limits.{word-limit}
 use Rattle.store_types.specs.Layout.{with-label}
+use Rattle.shape.specs.Tables.{entry}
 use Rattle.words.proofs.Fields.{records-kept, length-with-label}
-use Rattle.walk_model.specs.Levels.{entry}
 use Rattle.edit_model.specs.Relabel.{Relabelled, along, cut}
 use Rattle.renumber.specs.Needs.{Straight, Row-there, Trees-fit, Row-numbered, Part-size, Next-size, leaves-numbered, trees-numbered}
 use Rattle.renumber.proofs.Rows.{Same-next, label-keeps-next, On-way, start, arrived, leaf-on, leaves-end}

@@ -5,9 +5,9 @@ use Prim.Native.Nat.{ℕ, _+_, _*_, _^_, _≤_, _<_}
 use lib.ListN.{length}
 use Rattle.store_types.specs.Limits.{most-tags, word-limit}
 use Rattle.store_types.specs.Layout.{at-next, field, Records}
+use Rattle.shape.specs.Tables.{entry}
 use Rattle.tree.specs.Forest.{labels, leaf-row, spread}
 use Rattle.calls.specs.Words.{follow}
-use Rattle.walk_model.specs.Levels.{entry}
 use Rattle.edit_model.specs.Relabel.{Relabelled, relabel, along, cut}
 
 -- no number, width or limit in a table passes this, so that sums of a few fit 64 bits

@@ -13,6 +13,8 @@ use lib.ListN.{length, getD, replicate}
 use Rattle.store_types.specs.Limits.{no-tag, label-limit, most-tags}
 use Rattle.lists.proofs.Tests.{by-test}
 use Rattle.store_types.specs.Layout.{at-s, at-r, at-height, at-count, word-at}
+use Rattle.shape.proofs.TableLaws.{table-at, table-bound}
+use Rattle.shape.specs.Tables.{entry, table}
 use Rattle.tree.specs.Book.{height}
 use Rattle.calls.specs.Kind.{Kind, kind-word}
 use Rattle.calls.specs.Store.{Fact, fact, count, row}
@@ -22,10 +24,7 @@ use Rattle.calls.specs.Replies.{said, insert-refused}
 use Rattle.calls_laws.proofs.Inserts.{Row-accepted, accepted-row}
 use Rattle.calls_laws.proofs.Steps.{insert-passed}
 use Rattle.calls_laws.proofs.WordSteps.{header-said}
-use Rattle.walk_model.specs.Levels.{entry}
-use Rattle.walk_model.specs.Walk.{table}
 use Rattle.walk_model.specs.Watch.{sizes-at}
-use Rattle.walk_levels.proofs.TableLaws.{table-at, table-bound}
 use Rattle.edit_model.specs.Image.{image-of}
 use Rattle.edit_model.specs.Insert.{behind, added, widths-of, highs-of, plan-of}
 use Rattle.edit_model.proofs.Image.{proper-image}

@@ -30,7 +30,8 @@ use Rattle.edit_model.proofs.Inserted.{position-said, few-said, room-said, labe
 use Rattle.edit_model.proofs.Elements.{element-row}
 use Rattle.insert_link.specs.Needs.{Tag-fits}
 use Rattle.store_insert.specs.Needs.{Put-fits, End-fits, Ready, Edits}
-use Rattle.insert_refuse.proofs.Headers.{ranges, height-range}
+use Rattle.shape.proofs.Fits.{height-range}
+use Rattle.insert_refuse.proofs.Headers.{ranges}
 use Rattle.store_insert.proofs.Keeps.{length-added, added-header}
 use Rattle.store_insert.proofs.Rows.{behind-or-none}
 use Rattle.store_insert.proofs.Accepted.{widths-most, widths-least, lows-at, applicable, tag-fits, one-applicable, next-or-none, says-accepted, store-accepted, row-accepted}

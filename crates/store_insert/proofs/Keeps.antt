@@ -13,8 +13,8 @@ use mathlib.Core.Bool.{_||_}
 use Rattle.store_types.specs.Limits.{no-tag}
 use Rattle.store_types.specs.Layout.{at-count, at-first, header-words, at-next, at-prior, at-mate, at-up, at-kind, word-at, field, label-at, with-label, Records}
 use Rattle.lists.proofs.Tests.{by-test}
+use Rattle.shape.specs.Tables.{entry}
 use Rattle.words.proofs.Fields.{header-fits, room, room-same, records-kept, field-same, field-other-word, header-kept, header-kept-label, length-with-field, length-with-label, field-past-header}
-use Rattle.walk_model.specs.Levels.{entry}
 use Rattle.edit_model.specs.Relabel.{relabel, along, cut, shift}
 use Rattle.edit_model.specs.Insert.{Plan, behind, with-record, linked-place, linked-next, added, plain-plan, applied}
 use Rattle.renumber.specs.Needs.{table-limit}

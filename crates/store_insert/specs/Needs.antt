@@ -3,8 +3,8 @@ use mathlib.Core.Path.{_≡_}
 use mathlib.Core.List.{List}
 use Prim.Native.Nat.{ℕ, suc, pred, _≤_, _<_}
 use Rattle.store_types.specs.Layout.{at-r, at-height, at-count, word-at}
+use Rattle.shape.specs.Tables.{entry}
 use Rattle.calls.specs.Replies.{insert-refused}
-use Rattle.walk_model.specs.Levels.{entry}
 use Rattle.edit_model.specs.Insert.{Plan, Edited, up-word, widths-of, plan-of}
 use Rattle.walk_levels.specs.Needs.{Ancestors-fit}
 use Rattle.renumber.specs.Needs.{table-limit}

@@ -4,7 +4,7 @@ use mathlib.Core.List.{List}
 use Prim.Native.Nat.{ℕ}
 use lib.Dec.{eqb}
 use Rattle.store_types.specs.Layout.{at-r, at-height, word-at}
-use Rattle.walk_model.specs.Walk.{table}
+use Rattle.shape.specs.Tables.{table}
 use Rattle.edit_model.specs.Insert.{Edited, text-edit, element-edit}
 
 -- THE EDIT of a call by its kind, and the least leaves of the nodes by height

@@ -148,9 +148,9 @@ fn change(kind: u8, place: TagId, words: &mut [u32], sizes: &[u32; 24]) -> Done
     let r = words[words::AT_R] as u64;
     let h = words[words::AT_HEIGHT] as usize;
     let n = words[words::AT_COUNT];
-    let widths = walk_levels::table(1, s * r - 1, h);
-    let lows = walk_levels::table(1, r, h);
-    let highs = walk_levels::table(s, r, h);
+    let widths = shape::table(1, s * r - 1, h);
+    let lows = shape::table(1, r, h);
+    let highs = shape::table(s, r, h);
     let up = insert_link::up_at(words, n, place);
     let p = insert_plan::plan_at(words, n, 1, place, s, h - 1, &widths, &highs, sizes);
     if kind != 1 {

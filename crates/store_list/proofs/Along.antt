@@ -9,7 +9,7 @@ use lib.ListN.{length, getD, List·getD-eq-default}
 use lib.Seq.{slice, slice-empty, slice-cons, length-slice}
 use Rattle.store_types.specs.Limits.{no-tag, most-tags}
 use Rattle.lists.proofs.Tests.{by-test}
-use Rattle.store_types.specs.Layout.{at-count, word-at, at-next, at-kind, field}
+use Rattle.store_types.specs.Layout.{at-count, at-next, at-kind, word-at, field}
 use Rattle.tree_laws.proofs.Rows.{place-le, member-of-place, place-getD}
 use Rattle.calls.specs.Store.{Store, fact, row, place-of, next-in}
 use Rattle.calls.specs.Words.{Says}

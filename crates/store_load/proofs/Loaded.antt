@@ -10,9 +10,11 @@ use lib.ListN.{length, getD, take, drop, replicate, length-replicate, drop-of-le
 use lib.Seq.{take-all}
 use Rattle.store_types.specs.Limits.{no-tag, word-limit, most-tags, label-limit}
 use Rattle.lists.proofs.Tests.{by-test}
-use Rattle.store_types.specs.Layout.{at-next, field, header-words, words-for}
+use Rattle.store_types.specs.Layout.{header-words, at-next, words-for, field}
 use Rattle.lists.specs.Lists.{numbers}
 use Rattle.lists.proofs.Numbers.{length-numbers, getD-numbers}
+use Rattle.shape.proofs.TableLaws.{table-at}
+use Rattle.shape.specs.Tables.{entry, table}
 use Rattle.tree.specs.Forest.{labels, spread}
 use Rattle.tree.specs.Book.{base, power-width, load-under, loaded}
 use Rattle.tree.specs.Promise.{Labels-rise}
@@ -21,9 +23,6 @@ use Rattle.tree_laws.proofs.Load.{tags-loaded, size-loaded, sane-loaded}
 use Rattle.calls.specs.Load.{load-store}
 use Rattle.calls.specs.Words.{words-of, follow}
 use Rattle.calls_laws.proofs.Steps.{Load-accepted}
-use Rattle.walk_model.specs.Levels.{entry}
-use Rattle.walk_model.specs.Walk.{table}
-use Rattle.walk_levels.proofs.TableLaws.{table-at}
 use Rattle.edit_model.specs.Image.{image-words, image-of, with-labels}
 use Rattle.edit_model.specs.Relabel.{along, relabel, cut}
 use Rattle.edit_model.proofs.Image.{image-is}

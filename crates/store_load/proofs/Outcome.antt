@@ -24,7 +24,7 @@ use Rattle.calls_laws.proofs.Tests.{passes, Degrees, degrees-of}
 use Rattle.calls_laws.proofs.Fields.{length-words}
 use Rattle.calls_laws.proofs.Steps.{Load-accepted, accepted-load}
 use Rattle.calls_laws.proofs.WordSteps.{length-in-front}
-use Rattle.walk_header.specs.Needs.{power-fits}
+use Rattle.shape.specs.Needs.{power-fits}
 use Rattle.edit_model.specs.Image.{image-words}
 use Rattle.edit_model.proofs.Image.{length-image}
 use Rattle.load_refuse.specs.Refusals.{kinds-refusal, refusal-before}

@@ -2,53 +2,28 @@
 use mathlib.Core.Path.{_≡_, ap, _∙_}
 use mathlib.Core.List.{List}
 use Prim.Native.Nat.{ℕ, suc, _*_, _-_, _^_, _≤_}
-use native.Mathlib.Nat.{one-mul, mul-le-mul-left, pow-le-pow-right}
+use native.Mathlib.Nat.{one-mul}
 use native.Mathlib.Omega.{arith}
-use Rattle.store_types.specs.Layout.{words-for}
+use Rattle.shape.proofs.TableLaws.{table-at, table-bound}
+use Rattle.shape.specs.Tables.{table, Table-fits}
 use Rattle.tree.specs.Book.{base, power-width}
-use Rattle.walk_model.specs.Walk.{table}
-use Rattle.walk_levels.specs.Needs.{Table-fits}
-use Rattle.walk_levels.proofs.TableLaws.{table-at, table-bound}
-use Rattle.walk.proofs.SoundLaws.{Frame, widths-fit, lows-fit}
+use Rattle.shape.proofs.Fits.{Fits, height-fits, widths-fit, lows-fit, lower}
 use Rattle.renumber.specs.Needs.{Trees-fit, trees-numbered}
-use Rattle.store_load.specs.Labels.{header-new, Labels-fit, labels-written}
-
--- a table one lower
-lower : (v b u : ℕ) → Table-fits v b (suc u) → Table-fits v b u
-lower v b u h =
-    record {
-      height = omega (arith, h .height);
-      grows = h .grows;
-      last = omega (arith, h .last, mul-le-mul-left v (pow-le-pow-right {n = b} (h .grows) {i = u} {j = suc u} (omega arith)));
-    }
+use Rattle.store_load.specs.Labels.{Labels-fit, labels-written}
 
 module _ (ws : List ℕ) (s r n u : ℕ) (h : Labels-fit ws s r n u) where
-  -- the header of a store of this height with no tags passes
-  frame-of : Frame (header-new s r (suc u) 0 0)
-  unfolding header-new power-width base words-for
-  frame-of =
-      record {
-        header = omega arith;
-        s-low = h .s-least;
-        s-high = h .s-most;
-        r-low = h .r-least;
-        r-high = h .r-most;
-        low = omega arith;
-        records = record { few = omega arith; long = omega arith };
-        power = h .powers;
-      }
+  fits : Fits s r (suc u)
+  unfolding power-width base
+  fits = record { s-least = h .s-least; s-most = h .s-most; r-least = h .r-least; r-most = h .r-most; power = h .powers }
 
   pub widths-small : Table-fits 1 (s * r - 1) u
-  unfolding header-new
-  widths-small = lower 1 (s * r - 1) u (widths-fit (header-new s r (suc u) 0 0) frame-of)
+  widths-small = lower (widths-fit fits)
 
   pub lows-small : Table-fits 1 r u
-  unfolding header-new
-  lows-small = lower 1 r u (lows-fit (header-new s r (suc u) 0 0) frame-of)
+  lows-small = lower (lows-fit fits)
 
   height-small : u ≤ 22
-  unfolding header-new
-  height-small = omega (arith, widths-fit (header-new s r (suc u) 0 0) frame-of .height)
+  height-small = omega (arith, height-fits fits)
 
   pub trees-fit : (w l : List ℕ) → w ≡ table 1 (s * r - 1) u → l ≡ table 1 r u → Trees-fit r u 0 n w l
   trees-fit w l of-w of-l =

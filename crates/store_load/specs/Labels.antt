@@ -4,8 +4,8 @@ use mathlib.Core.List.{List, [], _∷_}
 use Prim.Native.Nat.{ℕ, suc, _^_, _≤_}
 use lib.Dec.{eqb}
 use Rattle.store_types.specs.Limits.{no-tag, label-limit}
+use Rattle.shape.specs.Tables.{table}
 use Rattle.tree.specs.Book.{base, power-width}
-use Rattle.walk_model.specs.Walk.{table}
 use Rattle.renumber.specs.Needs.{Straight, trees-numbered}
 
 -- the first of n tags, or no tag

@@ -41,8 +41,8 @@ fn write_labels(words: &mut [u32], s: u32, r: u32, n: u32, under: usize)
     requires { ⌜ Labels-fit (now words) s r n under ⌝ }
     ensures { λ _. ⌜ now (words .exit) ≡ labels-written (now (words .entry)) s r n under ⌝ }
 {
-    let widths = walk_levels::table(1, (s as u64) * (r as u64) - 1, under);
-    let lows = walk_levels::table(1, r as u64, under);
+    let widths = shape::table(1, (s as u64) * (r as u64) - 1, under);
+    let lows = shape::table(1, r as u64, under);
     let all = Run {
         a: 0,
         x: 0,
@@ -63,7 +63,7 @@ pub fn load(s: u32, r: u32, book: u32, kinds: &[u8], words: &mut [u32]) -> LoadR
     let under = load_refuse::load_under(n as u64, r as u64);
     let h = under + 1;
     // The last refusal goes by the height; nothing has been written yet.
-    if !walk_header::power_fits((s as u64) * (r as u64) - 1, h) {
+    if !shape::power_fits((s as u64) * (r as u64) - 1, h) {
         return LoadReply::Refused(7);
     }
     write_header(words, s, r, h, n, book);

@@ -13,15 +13,17 @@ use borrow.Author.Tests.{leb-true, not-true, not-false}
 use lib.ListN.{length, getD, replicate}
 use Rattle.store_types.specs.Limits.{label-limit, word-limit}
 use Rattle.store_types.specs.Layout.{at-s, at-r, at-height, at-count, header-words, word-at, Records}
+use Rattle.shape.proofs.TableLaws.{table-at, table-bound}
+use Rattle.shape.specs.Tables.{table, entry-limit, Table-fits}
+use Rattle.shape.proofs.Fits.{Fits, product-range, height-fits, widths-fit, lows-fit, highs-fit}
 use Rattle.tree.specs.Book.{base, power-width}
 use Rattle.calls.specs.Sound.{degrees-fit}
-use Rattle.walk_model.specs.Walk.{table, shape-of, start, walk, header-passes, words-pass}
+use Rattle.walk_model.specs.Walk.{shape-of, start, walk, header-passes, words-pass}
 use Rattle.walk_model.specs.Watch.{ancestor-numbers, watched-label, watched-numbers, walk-sizes, sizes-at}
-use Rattle.walk_levels.specs.Needs.{entry-limit, Table-fits, Ancestors-fit, Packed, widths-in, numbers-in, tables-of, levels-of}
-use Rattle.walk_header.specs.Needs.{Root-fits, power-fits, frame-passes, root-passes}
+use Rattle.walk_levels.specs.Needs.{Ancestors-fit, Packed, widths-in, numbers-in, tables-of, levels-of}
+use Rattle.shape.specs.Needs.{Root-fits, power-fits, frame-passes, root-passes}
 use Rattle.walk.specs.Needs.{Pass-fits, shape-with, shape-in, start-with}
-use Rattle.walk_levels.proofs.TableLaws.{table-at, table-bound}
-use Rattle.walk_header.proofs.HeaderLaws.{degrees-product}
+use Rattle.shape.proofs.HeaderLaws.{degrees-product}
 use Rattle.walk_levels.proofs.AncestorNumbers.{numbers-fit}
 
 module _ (ws : List ℕ) where
@@ -65,30 +67,15 @@ frame ws e p =
     }
 
 -- ITS TABLES FIT
+pub framed-fits : (ws : List ℕ) → Frame ws → Fits (s-of ws) (r-of ws) (h-of ws)
+framed-fits ws a = record { s-least = a .s-low; s-most = a .s-high; r-least = a .r-low; r-most = a .r-high; power = a .power }
+
 module _ (ws : List ℕ) (a : Frame ws) where
   pub f-range : (4 ≤ s-of ws * r-of ws) × (s-of ws * r-of ws ≤ 256)
-  f-range = degrees-product (a .s-low) (a .s-high) (a .r-low) (a .r-high)
+  f-range = product-range (framed-fits ws a)
 
-  -- 3^21 is over 2^32
   pub high : h-of ws ≤ 20
-  high =
-      let b = s-of ws * r-of ws - 1 in
-      by-cases (decLe (h-of ws) 20) (λ p. p)
-      (λ p. absurd (omega (arith, a .power, pow-le-pow-left {n = 3} {m = b} (omega (arith, f-range)) 21, pow-le-pow-right {n = b} (omega (arith, f-range)) {i = 21} {j = h-of ws} (omega arith))))
-
-  -- r is at most b
-  r-power : r-of ws ^ h-of ws ≤ 4294967296
-  r-power =
-      omega (arith, a .power, pow-le-pow-left {n = r-of ws} {m = s-of ws * r-of ws - 1} (omega (arith, a .r-low, mul-le-mul-right (r-of ws) (a .s-low))) (h-of ws))
-
-  pub widths-fit : Table-fits 1 (s-of ws * r-of ws - 1) (h-of ws)
-  widths-fit = record { height = omega (arith, high); grows = omega (arith, f-range); last = rw one-mul (omega (arith, a .power)) }
-
-  pub lows-fit : Table-fits 1 (r-of ws) (h-of ws)
-  lows-fit = record { height = omega (arith, high); grows = omega (arith, a .r-low); last = rw one-mul (omega (arith, r-power)) }
-
-  pub highs-fit : Table-fits (s-of ws) (r-of ws) (h-of ws)
-  highs-fit = record { height = omega (arith, high); grows = omega (arith, a .r-low); last = omega (arith, mul-le-mul (a .s-high) r-power) }
+  high = height-fits (framed-fits ws a)
 
 entries-fit : {v b top : ℕ} → Table-fits v b top → {t : List ℕ} → t ≡ table v b top → (k : ℕ) → getD t k 0 ≤ entry-limit
 entries-fit {v} {b} {top} a e k = rw e (omega (arith, a .last, table-bound v b top (a .grows) k))
@@ -102,7 +89,7 @@ ancestors-fit ws a e =
 
 module _ (ws lo : List ℕ) (a : Frame ws) (of-lo : lo ≡ table 1 (r-of ws) (h-of ws)) where
   pub root-fits : Root-fits (h-of ws) lo
-  root-fits = record { low = a .low; high = omega (arith, high ws a); lows = entries-fit (lows-fit ws a) of-lo }
+  root-fits = record { low = a .low; high = omega (arith, high ws a); lows = entries-fit (lows-fit (framed-fits ws a)) of-lo }
 
   pub pass-fits : {w hi ns t : List ℕ} {l : ℕ} → Packed t w lo hi ns → w ≡ table 1 (s-of ws * r-of ws - 1) (h-of ws) → hi ≡ table (s-of ws) (r-of ws) (h-of ws) → ns ≡ ancestor-numbers w (h-of ws - 1) l 0 (replicate 24 0) → l < word-limit → Pass-fits ws (n-of ws) (h-of ws - 1) t
   pass-fits {w} p of-w of-hi of-ns fits =
@@ -112,9 +99,9 @@ module _ (ws lo : List ℕ) (a : Frame ws) (of-lo : lo ≡ table 1 (r-of ws) (h-
         tables-fit = (
           record {
             height = omega (arith, high ws a);
-            widths = λ k. rw (p .widths) (entries-fit (widths-fit ws a) of-w k);
-            lows = λ k. rw (p .lows) (entries-fit (lows-fit ws a) of-lo k);
-            highs = λ k. rw (p .highs) (entries-fit (highs-fit ws a) of-hi k);
+            widths = λ k. rw (p .widths) (entries-fit (widths-fit (framed-fits ws a)) of-w k);
+            lows = λ k. rw (p .lows) (entries-fit (lows-fit (framed-fits ws a)) of-lo k);
+            highs = λ k. rw (p .highs) (entries-fit (highs-fit (framed-fits ws a)) of-hi k);
           },
           λ k. rw (p .numbers) (numbers-fit w (h-of ws - 1) of-ns fits k),
         );

@@ -151,17 +151,17 @@ pub fn sound_at(words: &[u32], place: TagId, sizes: &mut [u32; 24]) -> bool
     ensures ok { λ t. ⌜ t ≡ words-pass (now (words .entry)) ⌝ }
     ensures sizes { λ t. ⌜ (t ≡ true → now (sizes .exit) ≡ sizes-at (now (words .entry)) (place .0) (now (sizes .entry))) ⌝ }
 {
-    if !walk_header::frame_passes(words) {
+    if !shape::frame_passes(words) {
         return false;
     }
     let s = words[1] as u64;
     let r = words[2] as u64;
     let h = words[3] as usize;
     let n = words[4];
-    let widths = walk_levels::table(1, s * r - 1, h);
-    let lows = walk_levels::table(1, r, h);
-    let highs = walk_levels::table(s, r, h);
-    if !walk_header::root_passes(n, h, &lows, &highs) {
+    let widths = shape::table(1, s * r - 1, h);
+    let lows = shape::table(1, r, h);
+    let highs = shape::table(s, r, h);
+    if !shape::root_passes(n, h, &lows, &highs) {
         return false;
     }
     let label = walk_levels::ancestors::watched_label(words, place);

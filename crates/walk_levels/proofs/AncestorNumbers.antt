@@ -8,9 +8,8 @@ use borrow.Author.Tests.{lt-ltb, le-ltb}
 use lib.ListN.{set, replicate}
 use Rattle.store_types.specs.Limits.{word-limit}
 use Rattle.store_types.specs.Layout.{at-count, word-at, label-at}
-use Rattle.walk_model.specs.Levels.{entry}
+use Rattle.shape.specs.Tables.{entry, entry-limit}
 use Rattle.walk_model.specs.Watch.{ancestor-numbers, watched-label}
-use Rattle.walk_levels.specs.Needs.{entry-limit}
 
 -- what is added to the number above goes no further than the label
 pub step-fits : (l a v : ℕ) → (l - a) / v * v ≤ l - a

@@ -1,4 +1,3 @@
-pub mod TableLaws
 pub mod PartLaws
 pub mod LevelLaws
 pub mod SizeLaws

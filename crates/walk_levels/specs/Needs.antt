@@ -7,16 +7,8 @@ use Prim.Native.Nat.{ℕ, _*_, _^_, _≤_, _<_}
 use lib.Dec.{ltb}
 use lib.ListN.{getD, take, drop}
 use Rattle.store_types.specs.Limits.{label-limit}
-use Rattle.walk_model.specs.Levels.{Tables, Levels, Settled, entry, closes, settle, place-label, all-close}
-
--- TABLES: no entry passes 2^40, so that a sum or a double of entries fits 64 bits
-abbrev pub entry-limit : ℕ
-entry-limit = 1099511627776
-
-pub record Table-fits (v b top : ℕ) : Type 0 where
-  pub height : top ≤ 23
-  pub grows : 1 ≤ b
-  pub last : v * b ^ top ≤ entry-limit
+use Rattle.shape.specs.Tables.{entry-limit, entry}
+use Rattle.walk_model.specs.Levels.{Tables, Levels, Settled, closes, settle, place-label, all-close}
 
 -- FOUR TABLES by height in one array: widths, least leaves, limits, and the numbers of the watched nodes
 unfoldable pub part : (k : ℕ) → List ℕ → List ℕ

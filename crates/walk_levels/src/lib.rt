@@ -6,25 +6,9 @@ ghost use mathlib.Core.Bool.{true, cond};
 ghost use Prim.Native.Nat.{_+_, _-_, _≤_, _<_};
 ghost use lib.Dec.{eqb};
 ghost use lib.ListN.{getD};
-ghost use Rattle.walk_model.specs.Walk.{table as power-table};
 ghost use Rattle.walk_model.specs.Watch.{settle-sizes, close-sizes};
-ghost use Rattle.walk_levels.specs.Needs.{Table-fits, Levels-fit, Tables-fit, Packed, With-part, part, widths-in, lows-in, highs-in, numbers-in, levels-of, closes-from, settle-from, close-from, expected-label};
+ghost use Rattle.walk_levels.specs.Needs.{Levels-fit, Tables-fit, Packed, With-part, part, widths-in, lows-in, highs-in, numbers-in, levels-of, closes-from, settle-from, close-from, expected-label};
 use store_types::Label;
-
-// Powers by height, from v on: entries 0 to top.
-pub fn table(v: u64, b: u64, top: usize) -> [u64; 24]
-    requires { ⌜ Table-fits v b top ⌝ }
-    ensures { λ t. ⌜ t ≡ power-table v b top ⌝ }
-{
-    let mut t = [0u64; 24];
-    t[0] = v;
-    let mut h: usize = 0;
-    while h < top {
-        t[h + 1] = t[h] * b;
-        h += 1;
-    }
-    t
-}
 
 // Four tables by height in one array: widths, least leaves, limits, and the numbers of the watched nodes.
 const WIDTHS: usize = 0;

@@ -12,7 +12,8 @@ use lib.Dec.{ltb, eqb}
 use lib.ListN.{length, length-set}
 use lib.Seq.{getD-set-same, getD-set-other}
 use Rattle.lists.proofs.Tests.{and-left, and-right, by-test}
-use Rattle.walk_model.specs.Levels.{Tables, Levels, Settled, entry, closes, settle, place-label}
+use Rattle.shape.specs.Tables.{entry}
+use Rattle.walk_model.specs.Levels.{Tables, Levels, Settled, closes, settle, place-label}
 use Rattle.walk_model.specs.Watch.{taken, settle-sizes, place-sizes}
 use Rattle.walk_model.proofs.Spine.{opened, settle-stays, settle-higher, settle-fails}
 

@@ -10,13 +10,14 @@ use borrow.Author.Tests.{lt-ltb, le-ltb, eq-eqb}
 use lib.Dec.{eqb}
 use lib.ListN.{length, length-append}
 use Rattle.lists.proofs.Tests.{and-both}
+use Rattle.shape.specs.Tables.{entry}
 use Rattle.tree.specs.Good.{Good}
 use Rattle.tree.specs.Forest.{Forest, nil, leaf, node, leaves, size, labels, joined}
 use Rattle.tree.specs.Promise.{Widths}
 use Rattle.tree_laws.proofs.Insertion.{size-node}
 use Rattle.tree_laws.proofs.Labels.{trees, width-least, children-fit, length-labels}
 use Rattle.tree_laws.proofs.Spread.{leaves-joined, good-joined, some-power}
-use Rattle.walk_model.specs.Levels.{Tables, Levels, entry, settle, place-label, all-close, labels-pass}
+use Rattle.walk_model.specs.Levels.{Tables, Levels, settle, place-label, all-close, labels-pass}
 use Rattle.walk_model.specs.Promise.{Tables-right}
 use Rattle.walk_model.proofs.Spine.{Spine, top, over, number, Good-spine, end-is, At, at-closed, at-opened, trees-joined, closed, closed-number, closed-leaves, opened, with-leaf, leaf-leaves, leaf-number, at-leaf, settle-higher, Placed, stay, closes-of, next-number, descend}
 

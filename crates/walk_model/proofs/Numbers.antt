@@ -8,6 +8,7 @@ use lib.Dec.{eqb}
 use lib.ListN.{getD, length, set, replicate, length-set}
 use lib.Seq.{getD-set-same, getD-set-other}
 use Rattle.lists.proofs.Tests.{by-test}
+use Rattle.shape.specs.Tables.{entry}
 use Rattle.tree.specs.Good.{Good}
 use Rattle.tree.specs.Forest.{Forest, nil, size, labels}
 use Rattle.tree.specs.Book.{Book, height, labels-of}
@@ -16,7 +17,6 @@ use Rattle.tree_laws.proofs.Spread.{some-power}
 use Rattle.tree_laws.proofs.Insertion.{rooted}
 use Rattle.tree_laws.proofs.Ancestors.{number-in, number-top, number-next, at-here, at-inside, found, number-by-quotient}
 use Rattle.tree_laws.proofs.Root.{whole}
-use Rattle.walk_model.specs.Levels.{entry}
 use Rattle.walk_model.specs.Watch.{ancestor-numbers}
 
 zero-entry : (n i : ℕ) → entry (replicate n 0) i ≡ 0

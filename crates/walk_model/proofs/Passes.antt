@@ -11,8 +11,9 @@ use lib.ListN.{length}
 use Rattle.store_types.specs.Limits.{no-tag}
 use Rattle.lists.proofs.Tests.{and-left, and-right, and-both}
 use Rattle.store_types.specs.Layout.{at-stamp, at-next, at-prior, at-kind, word-at, field, label-at}
+use Rattle.shape.specs.Tables.{entry}
 use Rattle.calls.specs.Words.{follow}
-use Rattle.walk_model.specs.Levels.{entry, all-close, labels-pass}
+use Rattle.walk_model.specs.Levels.{all-close, labels-pass}
 use Rattle.walk_model.specs.Walk.{kind-fits, open-after, State, Shape, placed, tag-passes, passed, ends-well, walk}
 
 -- THE PASSES along a row. Each tag is the one that next leads to, a tag, and knows the one before it; no tag follows

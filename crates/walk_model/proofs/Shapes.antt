@@ -11,45 +11,16 @@ use lib.ListN.{length, getD, replicate, length-append, length-replicate, List·g
 use Rattle.store_types.specs.Limits.{most-tags, label-limit}
 use Rattle.store_types.specs.Layout.{at-version, at-s, at-r, at-height, at-count, header-words, word-at, words-for}
 use Rattle.lists.proofs.Tests.{and-left, and-right, and-both}
+use Rattle.shape.specs.Tables.{entry, powers, table}
+use Rattle.words.proofs.Fields.{header-fits}
+use Rattle.shape.proofs.TableLaws.{table-at, length-table}
+use Rattle.shape.proofs.Fits.{height-range}
 use Rattle.tree.specs.Book.{base, power-width}
 use Rattle.calls.specs.Sound.{degrees-fit}
 use Rattle.calls_laws.proofs.Tests.{Degrees, degrees-of, degrees-test}
-use Rattle.walk_model.specs.Levels.{entry}
-use Rattle.walk_model.specs.Walk.{header-passes, powers, table, shape-of}
+use Rattle.walk_model.specs.Walk.{header-passes, shape-of}
 use Rattle.walk_model.specs.Promise.{Tables-right}
 use Rattle.walk_model.proofs.Passes.{four}
-
--- POWERS in a table
-length-powers : (v b m : ℕ) → length (powers v b m) ≡ m
-unfolding powers
-length-powers v b zero = refl
-length-powers v b (suc m) = ap suc (length-powers (v * b) b m)
-
-power-at : (v b m i : ℕ) → i < m → getD (powers v b m) i 0 ≡ v * b ^ i
-unfolding powers
-power-at v b zero i l = absurd (not-suc-le-zero l)
-power-at v b (suc m) zero l = rw (pow-zero, mul-one)
-power-at v b (suc m) (suc i) l = power-at (v * b) b m i (le-of-suc-le-suc l) ∙ rw (pow-succ', mul-assoc)
-
-table-at : (v b top h : ℕ) → h ≤ top → entry (table v b top) h ≡ v * b ^ h
-unfolding table
-table-at v b top h l =
-    List·getD-append (powers v b (suc top)) (replicate (23 - top) 0) 0 h (omega (arith, length-powers v b (suc top)))
-    ∙ power-at v b (suc top) h (omega arith)
-
-length-table : (v b top : ℕ) → top < 24 → length (table v b top) ≡ 24
-unfolding table
-length-table v b top l =
-    length-append (powers v b (suc top)) (replicate (23 - top) 0)
-    ∙ omega (arith, length-powers v b (suc top), length-replicate {A = ℕ} (23 - top) 0)
-
--- three to the 24th passes the limit of labels, so that no table is too short
-pub low-enough : (b h : ℕ) → 3 ≤ b → b ^ h ≤ label-limit → h < 24
-low-enough b h l fits =
-    lt-of-not-le λ high.
-    let three : 3 ^ 24 ≤ 3 ^ h = pow-le-pow-right (omega arith) high in
-    let more : 3 ^ h ≤ b ^ h = pow-le-pow-left l h in
-    omega arith
 
 -- THE HEADER'S FACTS, where the root's children have height u, and its test both ways
 pub record Header (ws : List ℕ) (s r u n : ℕ) : Type 0 where
@@ -97,9 +68,9 @@ header-facts ws e =
     }
 
 pub header-test : {ws : List ℕ} {s r u n : ℕ} → Header ws s r u n → header-passes ws ≡ true
-unfolding header-passes words-for
+unfolding header-passes
 header-test {ws} {s} {r} {u} {n} h =
-    let head : header-words ≤ length ws = omega (arith, h .room) in
+    let head : header-words ≤ length ws = omega (arith, h .room, header-fits n) in
     rw (h .version, h .degree-s, h .degree-r, h .levels, h .issued, eqb·suc-suc u 0)
     (and-both (and-both (and-both (le-leb _ _ head) refl) (and-both (degrees-test s r (h .degrees)) (le-leb 1 (suc u) (omega arith))))
     (and-both (and-both (le-leb _ _ (h .few)) (le-leb _ _ (h .room)))
@@ -110,7 +81,7 @@ pub tables-right : {ws : List ℕ} {s r u n : ℕ} → Header ws s r u n → Tab
 unfolding shape-of power-width base
 tables-right {ws} {s} {r} {u} {n} h =
     let least : 3 ≤ s * r - 1 = omega (arith, mul-le-mul (h .degrees .s-least) (h .degrees .r-least)) in
-    let low = low-enough (s * r - 1) (suc u) least (h .labels-fit) in
+    let low : suc u < 24 = omega (arith, height-range (s * r - 1) (suc u) least (h .labels-fit)) in
     rw (h .degree-s, h .degree-r, h .levels) (record {
       top-fits = low;
       long = length-table 1 (s * r - 1) (suc u) low;

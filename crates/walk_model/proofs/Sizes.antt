@@ -12,6 +12,7 @@ use lib.ListN.{length, getD, set, length-set, length-replicate, getD-replicate}
 use lib.Seq.{getD-set-same, getD-set-other}
 use Rattle.lists.proofs.Tests.{and-left, and-right, by-test}
 use Rattle.store_types.specs.Layout.{at-height, at-count, at-first, word-at, label-at}
+use Rattle.shape.specs.Tables.{entry}
 use Rattle.tree.specs.Good.{Good}
 use Rattle.tree.specs.Forest.{Forest, size, labels}
 use Rattle.tree.specs.Book.{base, power-width, labels-of}
@@ -23,7 +24,7 @@ use Rattle.tree_laws.proofs.Ancestors.{count-in, count-above, number-in, number
 use Rattle.calls.specs.Store.{Store, count, row, width}
 use Rattle.calls.specs.Words.{Says, follow}
 use Rattle.calls_laws.proofs.WordSteps.{header-said, row-said, labels-said}
-use Rattle.walk_model.specs.Levels.{Tables, Levels, entry, start-levels, place-label, labels-pass}
+use Rattle.walk_model.specs.Levels.{Tables, Levels, start-levels, place-label, labels-pass}
 use Rattle.walk_model.specs.Walk.{Shape, State, placed, passed, shape-of, start}
 use Rattle.walk_model.specs.Watch.{taken, place-sizes, close-sizes, walk-sizes, watched-label, watched-numbers, sizes-at}
 use Rattle.walk_model.proofs.Levels.{levels-right}

@@ -10,10 +10,11 @@ use borrow.Author.Tests.{eqb-true}
 use lib.Dec.{ltb, eqb}
 use lib.ListN.{length}
 use Rattle.lists.proofs.Tests.{and-left, and-right, by-test}
+use Rattle.shape.specs.Tables.{entry}
 use Rattle.tree.specs.Good.{Good}
 use Rattle.tree.specs.Forest.{Forest, nil, leaves, labels}
 use Rattle.tree_laws.proofs.Labels.{trees}
-use Rattle.walk_model.specs.Levels.{Tables, Levels, Settled, entry, closes, settle, place-label, all-close, labels-pass}
+use Rattle.walk_model.specs.Levels.{Tables, Levels, Settled, closes, settle, place-label, all-close, labels-pass}
 use Rattle.walk_model.specs.Promise.{Tables-right}
 use Rattle.walk_model.proofs.Spine.{Spine, top, over, number, tags, marks, At, at-opened, closed, closed-number, closed-leaves, closed-labels, opened, with-leaf, leaf-leaves, leaf-labels, at-leaf, settle-stays, settle-higher, settle-fails, Placed, stay, of-closes, next-number, descend}
 

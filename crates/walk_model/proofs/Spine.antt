@@ -11,11 +11,12 @@ use lib.Dec.{ltb, leb, eqb}
 use lib.ListN.{length, set, length-append, length-set}
 use lib.Seq.{getD-set-same, getD-set-other}
 use Rattle.lists.proofs.Tests.{and-left, and-right, and-both}
+use Rattle.shape.specs.Tables.{entry}
 use Rattle.tree.specs.Good.{Good}
 use Rattle.tree.specs.Forest.{Forest, nil, leaf, node, leaves, size, labels, joined}
 use Rattle.tree_laws.proofs.Labels.{trees, labels-joined}
 use Rattle.tree_laws.proofs.Spread.{leaves-joined, good-joined}
-use Rattle.walk_model.specs.Levels.{Tables, Levels, entry, closes, settle}
+use Rattle.walk_model.specs.Levels.{Tables, Levels, closes, settle}
 use Rattle.walk_model.specs.Promise.{Tables-right}
 
 -- for each of k heights, from the lowest up, the closed trees left of the open node of that height

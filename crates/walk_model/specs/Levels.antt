@@ -4,16 +4,14 @@ use mathlib.Core.Bool.{Bool, true, false, _&&_, _||_, not, cond}
 use mathlib.Core.List.{List, [], _∷_}
 use Prim.Native.Nat.{ℕ, zero, suc, _+_}
 use lib.Dec.{ltb, leb, eqb}
-use lib.ListN.{getD, set, replicate}
+use lib.ListN.{set, replicate}
+use Rattle.shape.specs.Tables.{entry}
 
 -- by height: the width of a tree, the least leaves of a node, and its limit
 pub record Tables : Type 0 where
   pub widths : List ℕ
   pub lows : List ℕ
   pub highs : List ℕ
-
-abbrev pub entry : List ℕ → (h : ℕ) → ℕ
-entry t h = getD t h 0
 
 -- the open nodes by height: the number where each ends, and how many leaves stand before it
 pub record Levels : Type 0 where

@@ -5,12 +5,13 @@ use mathlib.Core.List.{List}
 use mathlib.Core.Logic.{_↔_}
 use Prim.Native.Nat.{ℕ, suc, _*_, _^_, _≤_, _<_}
 use lib.ListN.{length}
+use Rattle.shape.specs.Tables.{entry}
 use Rattle.tree.specs.Good.{Good}
 use Rattle.tree.specs.Forest.{Forest, leaves, labels}
 use Rattle.tree.specs.Promise.{Widths}
 use Rattle.calls.specs.Store.{Store}
 use Rattle.calls.specs.Words.{Says}
-use Rattle.walk_model.specs.Levels.{Tables, entry, start-levels, labels-pass}
+use Rattle.walk_model.specs.Levels.{Tables, start-levels, labels-pass}
 use Rattle.walk_model.specs.Walk.{words-pass}
 
 -- tables that are right up to height H

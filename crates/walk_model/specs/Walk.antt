@@ -9,7 +9,8 @@ use Rattle.store_types.specs.Limits.{no-tag, most-tags, label-limit}
 use Rattle.store_types.specs.Layout.{at-version, at-s, at-r, at-height, at-count, at-first, at-stamp, header-words, at-next, at-prior, at-mate, at-up, at-kind, word-at, words-for, field, label-at}
 use Rattle.tree.specs.Book.{power-width}
 use Rattle.calls.specs.Sound.{degrees-fit}
-use Rattle.walk_model.specs.Levels.{Tables, Levels, Settled, entry, start-levels, place-label, all-close}
+use Rattle.shape.specs.Tables.{entry, table}
+use Rattle.walk_model.specs.Levels.{Tables, Levels, Settled, start-levels, place-label, all-close}
 
 -- ONE TAG x of kind word c, where o is the innermost open begin or no tag
 unfoldable pub marked-word : List ℕ → (tag : ℕ) → Bool
@@ -90,15 +91,6 @@ header-passes ws =
     ((leb header-words (length ws) && eqb (word-at ws at-version) 1) && (degrees-fit s r && leb 1 h))
     && ((leb n most-tags && leb (words-for header-words n) (length ws))
     && (leb (power-width s r h) label-limit && (ltb n (s * r ^ h) && (eqb h 1 || leb (2 * r ^ pred h) n))))
-
--- v, v times b, .. : count numbers; and a table of 24 entries, of which those up to a height are used
--- (b^21 is over 2^32 for every b, so that no sound store is as high as 21)
-unfoldable pub powers : (v b count : ℕ) → List ℕ
-powers v b zero = []
-powers v b (suc m) = v ∷ powers (v * b) b m
-
-unfoldable pub table : (v b top : ℕ) → List ℕ
-table v b top = powers v b (suc top) ++ replicate (23 - top) 0
 
 unfoldable pub shape-of : List ℕ → Shape
 shape-of ws =

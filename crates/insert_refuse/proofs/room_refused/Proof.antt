@@ -4,7 +4,8 @@ use Prim.Native.Nat.{_+_, _*_, _≤_}
 use native.Mathlib.Omega.{arith}
 use lib.ListN.{length}
 use Rattle.store_types.specs.Layout.{at-s, at-r, at-height, at-count, header-words, word-at}
-use Rattle.insert_refuse.proofs.Headers.{Ranges, ranges, header-room, highs-fit, last-power}
+use Rattle.shape.proofs.Fits.{highs-fit}
+use Rattle.insert_refuse.proofs.Headers.{Ranges, ranges, header-room, last-power, fits-of}
 use Rattle.insert_refuse.proofs.Refusals.{room-many, room-short, room-below, room-fits, room-none}
 use Rattle.insert_refuse.proofs.room_refused.Statement.{statement}
 use Rattle.insert_refuse.proofs.room_refused.Tie as tie
@@ -56,7 +57,7 @@ cast-table : tie.Need-cast-table
 cast-table c = omega (arith, fits (c .before .before .before .before .before .before .before))
 
 table-requires : tie.Need-table-requires
-table-requires c κs = highs-fit (fits (c .before .before .before .before .before .before .before))
+table-requires c κs = highs-fit (fits-of (fits (c .before .before .before .before .before .before .before)))
 
 cast-if3 : tie.Need-cast-if3
 cast-if3 c = search needs

@@ -5,7 +5,7 @@ use borrow.Author.Tests.{lt-ltb, le-ltb, not-true, not-false}
 use lib.Dec.{leb}
 use Rattle.store_types.specs.Layout.{words-for}
 use Rattle.calls.specs.Sound.{degrees-fit}
-use Rattle.walk_header.specs.Needs.{degree-fits}
+use Rattle.shape.specs.Needs.{degree-fits}
 use Rattle.load_refuse.specs.Refusals.{refusal-before}
 use borrow.Author.Needs.{needs}
 use Rattle.load_refuse.proofs.refused.Statement.{statement}

@@ -4,7 +4,8 @@ use Prim.Native.Nat.{_+_, _*_, _≤_}
 use native.Mathlib.Omega.{arith}
 use lib.ListN.{length}
 use Rattle.store_types.specs.Layout.{at-s, at-r, at-height, at-count, header-words, word-at}
-use Rattle.insert_refuse.proofs.Headers.{Ranges, ranges, header-room, widths-fit, lows-fit, highs-fit}
+use Rattle.shape.proofs.Fits.{widths-fit, lows-fit, highs-fit}
+use Rattle.insert_refuse.proofs.Headers.{Ranges, ranges, header-room, fits-of}
 use Rattle.store_insert.proofs.Accepted.{says-accepted, place-accepted, plan-accepted}
 use Rattle.store_insert.proofs.Changes.{text-ready, element-ready, text-changes, element-changes}
 use Rattle.store_insert.proofs.change.Statement.{statement}
@@ -45,13 +46,13 @@ sub-table : tie.Need-sub-table
 sub-table c = omega (arith, fits (c .before .before .before .before .before))
 
 table-requires : tie.Need-table-requires
-table-requires c κs = widths-fit (fits (c .before .before .before .before .before))
+table-requires c κs = widths-fit (fits-of (fits (c .before .before .before .before .before)))
 
 table-requires-2 : tie.Need-table-requires-2
-table-requires-2 c κs = lows-fit (fits (c .before .before .before .before .before .before))
+table-requires-2 c κs = lows-fit (fits-of (fits (c .before .before .before .before .before .before)))
 
 table-requires-3 : tie.Need-table-requires-3
-table-requires-3 c κs = highs-fit (fits (c .before .before .before .before .before .before .before))
+table-requires-3 c κs = highs-fit (fits-of (fits (c .before .before .before .before .before .before .before)))
 
 up-at-requires : tie.Need-up-at-requires
 up-at-requires c κs = place-accepted _ _ _ (c .before .before .before .before .before .before .before .before .before .pre .0)

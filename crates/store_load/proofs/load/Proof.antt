@@ -4,7 +4,7 @@ use Prim.Native.Nat.{_*_, _≤_}
 use borrow.Author.Tests.{not-true, not-false}
 use lib.ListN.{length}
 use Rattle.calls.specs.Load.{load-refusal}
-use Rattle.walk_header.proofs.HeaderLaws.{degrees-product}
+use Rattle.shape.proofs.HeaderLaws.{degrees-product}
 use Rattle.load_refuse.proofs.Height.{height-most}
 use Rattle.store_load.proofs.Outcome.{Passed, passed, early, too-wide, none-refused, refused-with, header-room, tags-fit, replied, labels-fit, all-written}
 use borrow.Author.Needs.{needs}

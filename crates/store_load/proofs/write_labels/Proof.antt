@@ -1,6 +1,6 @@
 -- `store_load::write_labels` meets its contract. Assumes nothing.
 use mathlib.Core.Path.{_∙_}
-use Rattle.walk_header.proofs.HeaderLaws.{degrees-product}
+use Rattle.shape.proofs.HeaderLaws.{degrees-product}
 use Rattle.store_load.proofs.Tables.{widths-small, lows-small, trees-fit, as-written}
 use borrow.Author.Needs.{needs}
 use native.Mathlib.Omega.{arith}

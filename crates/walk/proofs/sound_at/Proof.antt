@@ -4,7 +4,8 @@ use borrow.Author.Needs.{needs}
 use mathlib.Core.Path.{sym}
 use native.Mathlib.Omega.{arith}
 use Rattle.walk_levels.proofs.SizeLaws.{never}
-use Rattle.walk.proofs.SoundLaws.{Frame, frame, widths-fit, lows-fit, highs-fit, high, f-range, root-fits, ancestors-fit, pass-fits, frame-refuses, root-refuses, pass-decides, sizes-taken}
+use Rattle.shape.proofs.Fits.{widths-fit, lows-fit, highs-fit}
+use Rattle.walk.proofs.SoundLaws.{framed-fits, Frame, frame, high, f-range, root-fits, ancestors-fit, pass-fits, frame-refuses, root-refuses, pass-decides, sizes-taken}
 use Rattle.walk.proofs.sound_at.Statement.{statement}
 use Rattle.walk.proofs.sound_at.Tie as tie
 
@@ -45,13 +46,13 @@ sub-table : tie.Need-sub-table
 sub-table c = omega (arith, f-range _ (framed (c .before .before .before .before)))
 
 table-requires : tie.Need-table-requires
-table-requires c κs = widths-fit _ (framed (c .before .before .before .before))
+table-requires c κs = widths-fit (framed-fits _ (framed (c .before .before .before .before)))
 
 table-requires-2 : tie.Need-table-requires-2
-table-requires-2 c κs = lows-fit _ (framed (c .before .before .before .before .before))
+table-requires-2 c κs = lows-fit (framed-fits _ (framed (c .before .before .before .before .before)))
 
 table-requires-3 : tie.Need-table-requires-3
-table-requires-3 c κs = highs-fit _ (framed (c .before .before .before .before .before .before))
+table-requires-3 c κs = highs-fit (framed-fits _ (framed (c .before .before .before .before .before .before)))
 
 root-passes-requires : tie.Need-root-passes-requires
 root-passes-requires c κs = root-fits _ _ (framed (c .before .before .before .before .before .before .before .before .before)) (c .before .before .before .table2 .ensures)

@@ -4,7 +4,7 @@
 use mathlib.Core.Path.{_≡_, ap, _∙_}
 use Prim.Native.Nat.{ℕ, _-_, _/_, _≤_, _<_}
 use native.Mathlib.Omega.{arith}
-use Rattle.walk_model.specs.Levels.{entry}
+use Rattle.shape.specs.Tables.{entry}
 use Rattle.edit_model.specs.Relabel.{Relabelled, cut}
 use Rattle.renumber.specs.Needs.{trees-numbered}
 use Rattle.renumber.proofs.Parts.{parts-numbered, parts-start, parts-end, trees-zero, each-power, each-some, each-parts, fit-below, Next-part, next-part}

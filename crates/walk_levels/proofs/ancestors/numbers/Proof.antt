@@ -2,7 +2,7 @@
 -- whole (Descending). The measure is the height. Assumes nothing.
 use native.Mathlib.Omega.{arith}
 use lib.ListN.{replicate}
-use Rattle.walk_model.specs.Levels.{entry}
+use Rattle.shape.specs.Tables.{entry}
 use Rattle.walk_model.specs.Watch.{ancestor-numbers}
 use Rattle.walk_levels.proofs.AncestorNumbers.{Descending, step-fits, descend-start, descend-on, descend-end}
 use Rattle.walk_levels.proofs.ancestors.numbers.Statement.{statement}

@@ -1,7 +1,24 @@
-// The header of a store (document 01, "The book in words"): its own limits and the root's.
+// The shape of a store, s, r and H: the tables by height that they give, and the limits of the header and of the root
+// (document 01, "The book in words", "The tree").
 ghost use mathlib.Core.Path.{_≡_};
 ghost use Prim.Native.Nat.{_≤_};
-ghost use Rattle.walk_header.specs.Needs.{Root-fits, frame-passes, root-passes, power-fits, degree-fits};
+ghost use Rattle.shape.specs.Tables.{Table-fits, table as power-table};
+ghost use Rattle.shape.specs.Needs.{Root-fits, frame-passes, root-passes, power-fits, degree-fits};
+
+// Powers by height, from v on: entries 0 to top.
+pub fn table(v: u64, b: u64, top: usize) -> [u64; 24]
+    requires { ⌜ Table-fits v b top ⌝ }
+    ensures { λ t. ⌜ t ≡ power-table v b top ⌝ }
+{
+    let mut t = [0u64; 24];
+    t[0] = v;
+    let mut h: usize = 0;
+    while h < top {
+        t[h + 1] = t[h] * b;
+        h += 1;
+    }
+    t
+}
 
 // Whether b^h is at most 2^32.
 pub fn power_fits(b: u64, h: u32) -> bool

@@ -1,11 +1,11 @@
--- `walk_header::frame_passes` meets its contract. Assumes nothing.
+-- `shape::frame_passes` meets its contract. Assumes nothing.
 use Prim.Native.Nat.{_*_, _≤_}
 use native.Mathlib.Omega.{arith}
 use borrow.Author.Needs.{needs}
 use Rattle.store_types.specs.Layout.{at-s, at-r, word-at}
-use Rattle.walk_header.proofs.HeaderLaws.{degree-range, degrees-product, frame-short, frame-version, frame-s, frame-r, frame-height, frame-count, frame-words, frame-power}
-use Rattle.walk_header.proofs.frame_passes.Statement.{statement}
-use Rattle.walk_header.proofs.frame_passes.Tie as tie
+use Rattle.shape.proofs.HeaderLaws.{degree-range, degrees-product, frame-short, frame-version, frame-s, frame-r, frame-height, frame-count, frame-words, frame-power}
+use Rattle.shape.proofs.frame_passes.Statement.{statement}
+use Rattle.shape.proofs.frame_passes.Tie as tie
 
 returns : tie.Need-returns
 returns c = frame-short _ (c .if1 .taken)

@@ -1,12 +1,12 @@
--- `walk_levels::table` meets its contract. The loop's invariant: the table is whole up to height h. The measure is what is
+-- `shape::table` meets its contract. The loop's invariant: the table is whole up to height h. The measure is what is
 -- left of the heights. Assumes nothing.
 use mathlib.Core.Path.{_≡_}
 use Prim.Native.Nat.{_-_, _≤_}
 use native.Mathlib.Omega.{arith}
-use Rattle.walk_model.specs.Walk.{table}
-use Rattle.walk_levels.proofs.TableLaws.{table-start, table-more, table-fits}
-use Rattle.walk_levels.proofs.table.Statement.{statement}
-use Rattle.walk_levels.proofs.table.Tie as tie
+use Rattle.shape.proofs.TableLaws.{table-start, table-more, table-fits}
+use Rattle.shape.specs.Tables.{table}
+use Rattle.shape.proofs.table.Statement.{statement}
+use Rattle.shape.proofs.table.Tie as tie
 
 abbrev Inv-loop : tie.InvT-loop
 Inv-loop v b top t₀ h₀ t h = (h ≤ top) × (t ≡ table v b h)

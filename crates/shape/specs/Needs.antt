@@ -7,9 +7,8 @@ use lib.Dec.{ltb, leb, eqb}
 use lib.ListN.{length, getD}
 use Rattle.store_types.specs.Limits.{most-tags, label-limit}
 use Rattle.store_types.specs.Layout.{at-version, at-s, at-r, at-height, at-count, header-words, word-at, words-for}
+use Rattle.shape.specs.Tables.{entry, entry-limit}
 use Rattle.calls.specs.Sound.{degrees-fit}
-use Rattle.walk_model.specs.Levels.{entry}
-use Rattle.walk_levels.specs.Needs.{entry-limit}
 
 unfoldable pub power-fits : (b h : ℕ) → Bool
 power-fits b h = leb (b ^ h) label-limit

@@ -1,12 +1,12 @@
--- `walk_header::power_fits` meets its contract. The loop's invariant: p is b^i, and fits. The measure is what is left of the height.
+-- `shape::power_fits` meets its contract. The loop's invariant: p is b^i, and fits. The measure is what is left of the height.
 -- Assumes nothing.
 use mathlib.Core.Path.{_≡_, sym}
 use Prim.Native.Nat.{_-_, _^_, _≤_}
 use native.Mathlib.Nat.{pow-zero}
 use native.Mathlib.Omega.{arith}
-use Rattle.walk_header.proofs.HeaderLaws.{power-more, product-fits, power-over, power-within}
-use Rattle.walk_header.proofs.power_fits.Statement.{statement}
-use Rattle.walk_header.proofs.power_fits.Tie as tie
+use Rattle.shape.proofs.HeaderLaws.{power-more, product-fits, power-over, power-within}
+use Rattle.shape.proofs.power_fits.Statement.{statement}
+use Rattle.shape.proofs.power_fits.Tie as tie
 
 abbrev Inv-loop : tie.InvT-loop
 Inv-loop b h p₀ i₀ p i = (i ≤ h) × (p ≡ b ^ i) × (p ≤ 4294967296)

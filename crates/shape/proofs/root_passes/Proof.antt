@@ -1,10 +1,10 @@
--- `walk_header::root_passes` meets its contract. Assumes nothing.
+-- `shape::root_passes` meets its contract. Assumes nothing.
 use Prim.Native.Nat.{_-_}
 use native.Mathlib.Omega.{arith}
 use borrow.Author.Needs.{needs}
-use Rattle.walk_header.proofs.HeaderLaws.{root-over, root-low, root-high}
-use Rattle.walk_header.proofs.root_passes.Statement.{statement}
-use Rattle.walk_header.proofs.root_passes.Tie as tie
+use Rattle.shape.proofs.HeaderLaws.{root-over, root-low, root-high}
+use Rattle.shape.proofs.root_passes.Statement.{statement}
+use Rattle.shape.proofs.root_passes.Tie as tie
 
 mul-if1 : tie.Need-mul-if1
 mul-if1 c = search needs

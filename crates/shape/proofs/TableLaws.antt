@@ -1,4 +1,4 @@
--- Tables of powers (walk_model's Walk): what stands at a height, one more height, and that every entry fits. Assumes nothing.
+-- Tables of powers (specs/Tables.antt): how many entries, what stands at a height, one more height, and that every entry fits. Assumes nothing.
 use mathlib.Core.Path.{_≡_, refl, ap, _∙_}
 use mathlib.Core.List.{[], _∷_, _++_, append-assoc}
 use mathlib.Core.Logic.{by-cases}
@@ -7,9 +7,9 @@ use native.Mathlib.Nat.{pow-zero, pow-succ', pow-suc, mul-one, mul-assoc, mul-le
 use native.Mathlib.Numerals.{add-one}
 use native.Mathlib.Decide.{decLe}
 use native.Mathlib.Omega.{arith}
-use lib.ListN.{length, getD, set, replicate, List·getD-append}
+use lib.ListN.{length, getD, set, replicate, length-append, length-replicate, List·getD-append}
 use lib.Seq.{set-at, getD-append-add}
-use Rattle.walk_model.specs.Walk.{powers, table}
+use Rattle.shape.specs.Tables.{powers, table}
 
 length-powers : (v b n : ℕ) → length (powers v b n) ≡ n
 unfolding powers
@@ -37,6 +37,12 @@ unfolding table
 table-at v b top k q =
     List·getD-append (powers v b (suc top)) (replicate (23 - top) 0) 0 k (omega (arith, length-powers v b (suc top)))
     ∙ powers-low v b (suc top) k (omega arith)
+
+pub length-table : (v b top : ℕ) → top < 24 → length (table v b top) ≡ 24
+unfolding table
+length-table v b top l =
+    length-append (powers v b (suc top)) (replicate (23 - top) 0)
+    ∙ omega (arith, length-powers v b (suc top), length-replicate {A = ℕ} (23 - top) 0)
 
 pub table-start : (v b : ℕ) → set (replicate 24 0) 0 v ≡ table v b 0
 unfolding table powers

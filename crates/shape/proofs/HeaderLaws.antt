@@ -12,7 +12,7 @@ use lib.ListN.{length, getD}
 use Rattle.store_types.specs.Limits.{label-limit, most-tags}
 use Rattle.store_types.specs.Layout.{at-version, at-s, at-r, at-height, at-count, word-at, words-for}
 use Rattle.calls.specs.Sound.{degrees-fit}
-use Rattle.walk_header.specs.Needs.{power-fits, root-passes, degree-fits, frame-passes}
+use Rattle.shape.specs.Needs.{power-fits, root-passes, degree-fits, frame-passes}
 
 -- A POWER: p is b^i
 pub power-more : (b p i : ℕ) → p ≡ b ^ i → p * b ≡ b ^ (i + 1)
