@@ -1,7 +1,7 @@
 -- Load (document 01, "Calls and their replies"). Assumes nothing: these are definitions.
 use mathlib.Core.Bool.{Bool, true, _&&_, not, cond}
 use mathlib.Core.List.{List, [], _∷_, map}
-use Prim.Native.Nat.{ℕ, suc, _+_, _*_}
+use Prim.Native.Nat.{ℕ, suc}
 use lib.Dec.{ltb}
 use lib.ListN.{length}
 use Rattle.store_types.specs.Limits.{no-tag, label-limit, most-tags}

@@ -8,7 +8,7 @@ use borrow.Author.Tests.{eqb-true, leb-true}
 use lib.Dec.{leb, eqb}
 use Rattle.store_types.specs.Limits.{most-tags, most-levels}
 use Rattle.lists.proofs.Tests.{by-test}
-use Rattle.calls.specs.Store.{Store, count}
+use Rattle.calls.specs.Store.{count}
 use Rattle.calls.specs.Promise.{Height-most}
 use Rattle.calls_laws.proofs.Tests.{facts-of, root-limits}
 

@@ -1,17 +1,16 @@
 -- Demand 2 over words: the held-pair question answers by what stands along next, and a held pair holds the label words.
 -- Assumes nothing.
-use mathlib.Core.Path.{_≡_, refl, ap, sym, _∙_}
+use mathlib.Core.Path.{_≡_, refl, sym, _∙_}
 use mathlib.Core.Bool.{Bool, true, false, false≢true}
 use mathlib.Core.List.{List}
 use mathlib.Core.Logic.{_↔_, _⊎_, inl, inr}
 use Prim.Native.Nat.{ℕ, zero, suc, _%_, _<_}
 use native.Mathlib.Omega.{arith}
-use lib.Dec.{leb}
 use Rattle.store_types.specs.declared.HeldPair.{HeldPair}
 use Rattle.store_types.specs.declared.Answer.{Answer}
 use Rattle.store_types.specs.declared.Answer.the-variants.{Yes, No, Stale}
 use Rattle.store_types.specs.declared.QuestionReply.{QuestionReply}
-use Rattle.store_types.specs.declared.QuestionReply.the-variants.{Answered, Refused}
+use Rattle.store_types.specs.declared.QuestionReply.the-variants.{Answered}
 use Rattle.store_types.specs.declared.HoldReply.the-variants as held
 use Rattle.store_types.specs.Layout.{at-book, at-mate, word-at, field, label-at}
 use Rattle.calls.specs.Kind.{Kind, begin, end, text, code, kind-word, is-begin}
@@ -27,7 +26,7 @@ use Rattle.calls_laws.proofs.Marks.{accepted-section}
 use Rattle.calls_laws.proofs.Pairs.{pairs-right}
 use Rattle.calls_laws.proofs.WordSteps.{said-store, refusal-said, refusal-passed, header-said}
 use Rattle.demands.specs.Words.{is-marked}
-use Rattle.demands.specs.Promise.{Asked-words, Current-words, Enclosed, Question-right, Held-words, Hold-right}
+use Rattle.demands.specs.Promise.{Asked-words, Current-words, Enclosed, Question-right, Hold-right}
 use Rattle.demands.proofs.Said.{sound-said, tag-said, book-row}
 use Rattle.demands.proofs.Places.{stand-of, places-of}
 

@@ -1,34 +1,32 @@
 -- Moved and marked are differences of words: how many tags have another label word, how many kind words became marked
 -- ones. Assumes nothing.
-use mathlib.Core.Path.{_≡_, refl, ap, sym, _∙_}
+use mathlib.Core.Path.{_≡_, refl, sym, _∙_}
 use mathlib.Core.Bool.{Bool, true, false, _&&_, _||_, not, cond}
 use mathlib.Core.List.{List, [], _∷_}
-use Prim.Native.Nat.{ℕ, zero, suc, _+_, _≤_, _<_}
+use Prim.Native.Nat.{ℕ, zero, suc, _+_, _<_}
 use native.Mathlib.Nat.{zero-add}
 use native.Mathlib.Omega.{arith}
-use lib.Dec.{leb, eqb}
-use lib.ListN.{length, getD, length-append, List·getD-append}
+use lib.Dec.{eqb}
+use lib.ListN.{length, getD, length-append}
 use Rattle.store_types.specs.declared.InsertReply.the-variants.{Inserted}
 use Rattle.store_types.specs.declared.MarkReply.the-variants.{Marked}
 use Rattle.lists.proofs.Tests.{by-test}
 use Rattle.store_types.specs.Layout.{label-at}
 use Rattle.lists.specs.Lists.{numbers}
 use Rattle.lists.proofs.Numbers.{length-numbers}
-use Rattle.tree.specs.Row.{member}
-use Rattle.tree.specs.Book.{Book, tags, label-of, moved-among, moved}
+use Rattle.tree.specs.Book.{Book, label-of, moved-among, moved}
 use Rattle.tree_laws.proofs.Rows.{member-numbers}
-use Rattle.calls.specs.Kind.{kind-word}
 use Rattle.calls.specs.Store.{Store, Fact, no-fact, fact, count, row, width, label}
 use Rattle.calls.specs.Nesting.{new-facts}
 use Rattle.calls.specs.Insert.{insert-kinds, position, up-at, book-after, insert-store, insert-moved, insert-refusal}
-use Rattle.calls.specs.Mark.{within, mark-facts, mark-store, new-marks, mark-count, section-refusal}
-use Rattle.calls.specs.Words.{words-of, Says}
+use Rattle.calls.specs.Mark.{within, mark-store, new-marks, mark-count, section-refusal}
+use Rattle.calls.specs.Words.{Says}
 use Rattle.calls.specs.Replies.{said, refusal-over, written, insert-outcome, insert-refused, insert-reply, insert-words, mark-outcome, mark-reply, mark-words}
 use Rattle.calls.specs.Calls.{insert, mark, refusal, changed}
 use Rattle.calls_laws.proofs.Reader.{kind-back}
 use Rattle.calls_laws.proofs.Sections.{distinct-row, row-below}
 use Rattle.calls_laws.proofs.Inserts.{row-degrees}
-use Rattle.calls_laws.proofs.Marks.{length-marked, alike-marked, mark-of}
+use Rattle.calls_laws.proofs.Marks.{length-marked, mark-of}
 use Rattle.calls_laws.proofs.Steps.{changed-sound}
 use Rattle.calls_laws.proofs.WordSteps.{refusal-passed, header-said, says-in-front}
 use Rattle.walk_model.proofs.Passes.{total}

@@ -1,6 +1,6 @@
 -- The labels of a good forest have digits that spell it without gaps and within the limits; and labels with such digits are
 -- those of a good forest. Assumes nothing.
-use mathlib.Core.Path.{_≡_, refl, ap, ap₂, sym, _∙_}
+use mathlib.Core.Path.{_≡_, refl, ap, sym, _∙_}
 use mathlib.Core.Bool.{true}
 use mathlib.Core.List.{List, [], _∷_, _++_}
 use Prim.Native.Nat.{ℕ, zero, suc, _+_, _*_, _/_, _%_, _^_, _≤_, _<_}
@@ -11,7 +11,7 @@ use lib.Dec.{ltb, eqb}
 use lib.ListN.{length, take, drop, length-append, length-take, length-drop, take-append-drop}
 use Rattle.lists.proofs.Tests.{by-test}
 use Rattle.tree.specs.Good.{Good}
-use Rattle.tree.specs.Row.{member, rises}
+use Rattle.tree.specs.Row.{rises}
 use Rattle.tree.specs.Forest.{Forest, nil, leaf, node, leaves, size, labels}
 use Rattle.tree.specs.Book.{base, power-width}
 use Rattle.tree_laws.proofs.Rows.{member-first, member-later, member-cases}

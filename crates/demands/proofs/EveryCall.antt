@@ -9,7 +9,6 @@ use lib.Dec.{ltb, leb, eqb, eqb·suc-zero}
 use lib.ListN.{length, drop, length-map}
 use lib.Seq.{take-append-seam, drop-append-seam}
 use Rattle.store_types.specs.Limits.{no-tag}
-use Rattle.store_types.specs.declared.ListReply.{ListReply}
 use Rattle.lists.proofs.Tests.{by-test, or-left-false, or-right-false}
 use Rattle.calls.specs.Kind.{is-begin}
 use Rattle.calls.specs.Store.{Store, fact, count, label}
@@ -20,14 +19,14 @@ use Rattle.calls.specs.Mark.{section-refusal, mark-store}
 use Rattle.calls.specs.Listing.{listed-tags, listed-labels, list-refusal}
 use Rattle.calls.specs.Words.{words-of, Says, in-front}
 use Rattle.calls.specs.Replies.{said, refusal-over, written, load-reply, load-words, insert-refused, insert-reply, insert-words, mark-reply, mark-words, list-outcome, list-refused, list-reply, list-tags, list-labels}
-use Rattle.calls.specs.Calls.{Call, load, insert, mark, refusal, changed, Event, loads, inserts, marks, holds, asks, lists, Happens, load-accepted, insert-accepted, mark-accepted}
+use Rattle.calls.specs.Calls.{Call, insert, mark, refusal, changed, loads, inserts, marks, holds, asks, lists, Happens, load-accepted, insert-accepted, mark-accepted}
 use Rattle.calls.specs.Promise.{Load-sound}
 use Rattle.calls_laws.proofs.Tests.{passes}
 use Rattle.calls_laws.proofs.Steps.{load-sound, changed-sound}
 use Rattle.calls_laws.proofs.WordSteps.{words-fit, refusal-passed, length-in-front}
 use Rattle.calls_laws.proofs.RunsKeep.{load-fits, changed-fits, load-told, insert-told, mark-told}
 use Rattle.demands.specs.Words.{Fronted}
-use Rattle.demands.specs.Promise.{listed, accepted, changes, Lists-stay, Lists-hold, Call-right, Every-call}
+use Rattle.demands.specs.Promise.{listed, accepted, changes, Lists-stay, Lists-hold, Every-call}
 
 -- A RESULT IN FRONT, where it fits
 fronted : (new old : List ℕ) → length new ≤ length old → Fronted new old (in-front new old)

@@ -1,21 +1,21 @@
 -- List over words: what it writes are the unmarked tags that next meets inside the section, with their label words.
 -- Assumes nothing.
 use mathlib.Core.Path.{_≡_, refl, ap, sym, _∙_}
-use mathlib.Core.Bool.{Bool, true, false, _&&_, _||_, not, cond, false≢true, and-false}
+use mathlib.Core.Bool.{true, false, not, false≢true, and-false}
 use mathlib.Core.List.{List, [], _∷_, _++_, map, append-assoc, append-nil}
-use mathlib.Core.Logic.{_⊎_, inl, inr}
-use Prim.Native.Nat.{ℕ, zero, suc, _+_, _≤_, _<_}
+use mathlib.Core.Logic.{inl, inr}
+use Prim.Native.Nat.{ℕ, zero, suc, _+_, _<_}
 use native.Mathlib.Omega.{arith}
 use borrow.Author.Tests.{lt-ltb, le-ltb, leb-false, not-false, eqb-true, eqb-false}
-use lib.Dec.{leb, ltb, eqb, eqb·suc-zero}
+use lib.Dec.{leb, eqb}
 use lib.ListN.{length, take, drop, length-append}
 use Rattle.store_types.specs.Limits.{no-tag}
 use Rattle.store_types.specs.declared.ListReply.the-variants.{Listed}
 use Rattle.lists.proofs.Tests.{by-test}
 use Rattle.store_types.specs.Layout.{label-at}
 use Rattle.tree.specs.Row.{member, place}
-use Rattle.tree_laws.proofs.Rows.{member-nil, member-first, member-later, member-append, member-of-drop}
-use Rattle.calls.specs.Kind.{begin, end, text, is-begin}
+use Rattle.tree_laws.proofs.Rows.{member-first, member-later, member-append, member-of-drop}
+use Rattle.calls.specs.Kind.{is-begin}
 use Rattle.calls.specs.Store.{Store, fact, count, row, place-of, label}
 use Rattle.calls.specs.Held.{encloses}
 use Rattle.calls.specs.Listing.{is-listed, listed-of, listed-tags, listed-labels, list-refusal}
@@ -26,8 +26,8 @@ use Rattle.calls_laws.proofs.Tests.{Sound, passes}
 use Rattle.calls_laws.proofs.Nesting.{Step, begins, ends, stands, Closed}
 use Rattle.calls_laws.proofs.Sections.{place-at, place-first-part, place-middle-part, place-last-part, distinct-row, row-below, row-at, At, pass-at, closed-at}
 use Rattle.calls_laws.proofs.WordSteps.{refusal-passed}
-use Rattle.demands.specs.Words.{is-marked, unmarked-of, Inside, Fronted}
-use Rattle.demands.specs.Promise.{listed, accepted, Lists-hold, Every-call, Listed-words, List-right}
+use Rattle.demands.specs.Words.{is-marked, unmarked-of, Inside}
+use Rattle.demands.specs.Promise.{listed, accepted, Lists-hold, Every-call, List-right}
 use Rattle.demands.proofs.Said.{sound-said, tag-said, book-row}
 use Rattle.demands.proofs.EveryCall.{every-call}
 use Rattle.demands.proofs.Asked.{marked-said, label-said}

@@ -7,7 +7,6 @@ use Prim.Native.Nat.{ℕ, suc, _+_, _-_, _<_}
 use native.Mathlib.Omega.{arith}
 use lib.ListN.{length, getD, take, drop, length-append, length-drop}
 use lib.Seq.{split-at, getD-drop}
-use Rattle.store_types.specs.Limits.{no-tag}
 use Rattle.store_types.specs.Layout.{at-first, at-next, word-at, field}
 use Rattle.tree.specs.Row.{member, place}
 use Rattle.tree_laws.proofs.Rows.{Distinct, place-of-member, getD-place}

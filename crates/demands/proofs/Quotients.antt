@@ -1,5 +1,5 @@
 -- Quotients of labels by the powers of b: the ancestors of a label. Assumes nothing.
-use mathlib.Core.Path.{_≡_, refl, ap, sym, _∙_}
+use mathlib.Core.Path.{_≡_, sym}
 use mathlib.Core.Logic.{_↔_}
 use Prim.Native.Nat.{ℕ, zero, suc, _+_, _*_, _/_, _%_, _^_, _≤_, _<_}
 use native.Mathlib.Nat.{pow-suc, pow-zero, one-le-pow, div-one, mod-lt, mod-add-div', div-div-eq-div-mul, div-eq-of-lt-le, le-div-iff-mul-le, div-lt-iff-lt-mul, lt-of-not-le}

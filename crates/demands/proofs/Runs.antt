@@ -1,15 +1,13 @@
 -- Demand 3 along next: the words after every run have the reference list's row along next and prior, and N in word 4; and
 -- every list of calls is a run. Assumes nothing.
-use mathlib.Core.Path.{_≡_, refl, ap, sym, _∙_}
-use mathlib.Core.Bool.{cond}
-use mathlib.Core.List.{List, [], _∷_, map}
-use Prim.Native.Nat.{ℕ, _+_}
+use mathlib.Core.Path.{_≡_, refl, sym, _∙_}
+use mathlib.Core.List.{List, [], _∷_}
+use Prim.Native.Nat.{ℕ}
 use native.Mathlib.Omega.{arith}
 use lib.ListN.{length}
 use Rattle.lists.proofs.Tests.{by-test}
 use Rattle.lists.specs.Lists.{numbers}
 use Rattle.lists.proofs.Numbers.{length-numbers}
-use Rattle.tree.specs.Row.{insert-at}
 use Rattle.tree_laws.proofs.Rows.{length-insert}
 use Rattle.calls.specs.Insert.{insert-kinds}
 use Rattle.calls.specs.Load.{load-store}
@@ -18,7 +16,7 @@ use Rattle.calls.specs.Calls.{Call, load, insert, mark, after, calls-of, Event,
 use Rattle.calls.specs.Reference.{Reference, total, reference-load, reference-position, reference-insert, reference-call, reference-told, reference-after}
 use Rattle.calls.specs.Promise.{Runs-keep}
 use Rattle.calls_laws.proofs.RunsKeep.{runs-keep}
-use Rattle.demands.specs.Promise.{Row-kept, Runs-along, Request, request, Runs-exist}
+use Rattle.demands.specs.Promise.{Runs-along, Request, request, Runs-exist}
 use Rattle.demands.specs.Promise as ask
 use Rattle.demands.proofs.Said.{book-row}
 

@@ -1,6 +1,6 @@
 -- Words that say a store: each tag's words, and its row along next and prior. Assumes nothing.
-use mathlib.Core.Path.{_≡_, refl, sym, _∙_}
-use mathlib.Core.List.{List, [], _∷_, headD, reverse, reverseAux}
+use mathlib.Core.Path.{_≡_, refl}
+use mathlib.Core.List.{List, [], _∷_, headD, reverseAux}
 use Prim.Native.Nat.{ℕ, _≤_, _<_}
 use native.Mathlib.Omega.{arith}
 use Rattle.store_types.specs.Limits.{no-tag, most-tags}

@@ -1,13 +1,13 @@
 -- Words that are sound by document 01's sentences say a store, and words that say one are sound. Assumes nothing.
 use mathlib.Core.Path.{_≡_, refl, ap, sym, _∙_}
-use mathlib.Core.Bool.{Bool, true, false, _||_}
-use mathlib.Core.List.{List, [], _∷_, map, headD, reverse, reverseAux}
+use mathlib.Core.Bool.{Bool, true, false}
+use mathlib.Core.List.{List, [], _∷_, map, headD, reverseAux}
 use mathlib.Core.Option.{Option, none, some}
-use Prim.Native.Nat.{ℕ, suc, _+_, _*_, _-_, _^_, _%_, _≤_, _<_}
+use Prim.Native.Nat.{ℕ, suc, _*_, _-_, _^_, _≤_, _<_}
 use native.Mathlib.Nat.{lt-of-not-le}
 use native.Mathlib.Omega.{arith}
 use borrow.Author.Tests.{le-ltb, le-leb, leb-true, ne-eqb, eqb-false}
-use lib.Dec.{leb, eqb}
+use lib.Dec.{eqb}
 use lib.ListN.{length, length-map}
 use Rattle.store_types.specs.Limits.{no-tag}
 use Rattle.store_types.specs.Layout.{at-s, at-r, at-height, at-count, at-first, header-words, at-next, at-prior, word-at, words-for, field, label-at}
@@ -27,15 +27,15 @@ use Rattle.calls.specs.Store.{Store, fact, count, row, width}
 use Rattle.calls.specs.Words.{Says, read}
 use Rattle.calls.specs.Replies.{on-store, refusal-over}
 use Rattle.calls.specs.Promise.{Reader-right}
-use Rattle.calls_laws.proofs.Tests.{Degrees, Sound, sane, root-limits}
+use Rattle.calls_laws.proofs.Tests.{Sound, sane, root-limits}
 use Rattle.calls_laws.proofs.WordSteps.{words-fit, refusal-said, header-said, labels-said}
 use Rattle.calls_laws.proofs.Reader.{reader-right}
 use Rattle.walk_model.proofs.Passes.{Linked, kinds-pass, total, mark-word}
 use Rattle.walk_model.proofs.Shapes.{Header}
 use Rattle.walk_model.proofs.Counts.{total-same, marks-same}
 use Rattle.walk_model.proofs.Found.{found, found-said}
-use Rattle.demands.specs.Words.{Met, Book-row, is-marked, count-below}
-use Rattle.demands.specs.Sound.{Spells, Nests, Sound-words}
+use Rattle.demands.specs.Words.{Met, is-marked, count-below}
+use Rattle.demands.specs.Sound.{Sound-words}
 use Rattle.demands.specs.Promise.{Says-some, Sound-says, Unsound-two}
 use Rattle.demands.proofs.Said.{sound-said, tag-said, book-row}
 use Rattle.demands.proofs.Differences.{count-total}

@@ -1,6 +1,6 @@
 -- Mates and ups by a stack of open begins, and by the one pass over a store's facts: the same. Assumes nothing.
 use mathlib.Core.Path.{_≡_, refl, ap, sym, _∙_}
-use mathlib.Core.Bool.{Bool, true, false, _&&_, _||_, not, cond, or-true}
+use mathlib.Core.Bool.{Bool, true, false, _&&_, _||_, not, or-true}
 use mathlib.Core.List.{List, [], _∷_, headD}
 use mathlib.Core.Logic.{_⊎_, inl, inr}
 use Prim.Native.Nat.{ℕ, _-_, _%_, _≤_, _<_}
@@ -13,7 +13,7 @@ use Rattle.store_types.specs.Layout.{at-mate, at-up, at-kind, field}
 use Rattle.tree.specs.Row.{member}
 use Rattle.tree_laws.proofs.Rows.{member-first, member-later}
 use Rattle.calls.specs.Kind.{begin, end, text, code, kind-word}
-use Rattle.calls.specs.Store.{Store, Fact, fact, count, row}
+use Rattle.calls.specs.Store.{Store, fact, count, row}
 use Rattle.calls.specs.Words.{Says}
 use Rattle.calls_laws.proofs.Tests.{Sound}
 use Rattle.calls_laws.proofs.Nesting.{Ends, Step, begins, ends, stands, Pass, chain-mark}

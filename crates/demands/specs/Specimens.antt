@@ -18,7 +18,7 @@ use Rattle.calls.specs.Insert.{insert-refusal}
 use Rattle.calls.specs.Words.{follow}
 use Rattle.calls.specs.Replies.{load-words, insert-words, mark-reply, mark-words, mark-numbers, list-tags, list-labels}
 use Rattle.calls.specs.Calls.{insert, mark, Told}
-use Rattle.calls.specs.Reference.{Reference, reference-load, reference-after}
+use Rattle.calls.specs.Reference.{reference-load, reference-after}
 
 -- LABELS END. s = 13 and r = 2: b = 25, 25^6 ≤ 2^32 < 25^7, and a root of height 6 has its limit at 13 times 2^6 = 832
 unfoldable pub wide-book : (n : ℕ) → Store

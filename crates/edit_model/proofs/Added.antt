@@ -3,12 +3,12 @@
 use mathlib.Core.Path.{_≡_, refl, ap, sym, _∙_}
 use mathlib.Core.Bool.{true, false, false≢true}
 use mathlib.Core.List.{List, [], _∷_, _++_, append-assoc}
-use Prim.Native.Nat.{ℕ, zero, suc, _+_, _*_, _≤_, _<_}
+use Prim.Native.Nat.{ℕ, zero, suc, _+_, _≤_, _<_}
 use native.Mathlib.Omega.{arith}
 use borrow.Author.Tests.{ne-eqb, eqb-true, eqb-false, ltb-true, ltb-false}
 use lib.Dec.{ltb, eqb}
 use lib.ListN.{length, getD, drop, set, length-set, length-append, List·getD-append, List·getD-eq-default}
-use lib.Seq.{getD-set-same, getD-set-other, getD-append-add, getD-at, set-append-left, sets-eq}
+use lib.Seq.{getD-set-same, getD-set-other, getD-at, set-append-left, sets-eq}
 use Rattle.store_types.specs.Limits.{no-tag, most-tags}
 use Rattle.store_types.specs.Layout.{at-height, at-count, at-first, at-stamp, header-words, label-words, at-next, at-prior, at-mate, at-up, at-kind, tag-words, word-at, words-for, field, label-at, with-field, Room}
 use Rattle.lists.proofs.Tests.{by-test, fails}

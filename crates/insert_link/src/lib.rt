@@ -1,6 +1,6 @@
 // A new tag's record, and its place along next.
 ghost use mathlib.Core.Path.{_≡_};
-ghost use Prim.Native.Nat.{suc, _+_, _≤_, _<_};
+ghost use Prim.Native.Nat.{_+_, _≤_, _<_};
 ghost use lib.ListN.{length};
 ghost use Rattle.store_types.specs.Layout.{at-height, header-words, word-at, Room};
 ghost use Rattle.edit_model.specs.Insert.{behind as tag-behind, with-record, linked-place, linked-next, added, up-word, raised-words};

@@ -13,7 +13,7 @@ use lib.ListN.{replicate}
 use Rattle.store_types.specs.Limits.{no-tag, label-limit}
 use Rattle.lists.proofs.Tests.{by-test}
 use Rattle.store_types.specs.Layout.{at-next, field, label-at, with-label}
-use Rattle.shape.specs.Tables.{entry}
+use Rattle.shape.specs.Tables.{entry, entry-limit}
 use Rattle.tree.specs.Forest.{spread}
 use Rattle.calls.specs.Words.{follow}
 use Rattle.edit_model.specs.Relabel.{Relabelled, cut, shift}
@@ -21,7 +21,7 @@ use Rattle.walk_model.specs.Watch.{ancestor-numbers}
 use Rattle.edit_model.specs.Split.{highest-full, left-of}
 use Rattle.edit_model.specs.Insert.{Plan, place-label, numbers-at, plain-plan, root-plan, split-plan, plan, behind, applied}
 use Rattle.edit_model.proofs.Relabels.{labels-cut}
-use Rattle.renumber.specs.Needs.{table-limit, trees-numbered, Row-numbered}
+use Rattle.renumber.specs.Needs.{trees-numbered, Row-numbered}
 use Rattle.renumber.proofs.Parts.{trees-moved}
 use Rattle.insert_plan.specs.Parts.{next-label, inner-plan}
 
@@ -119,7 +119,7 @@ module _ (ws w : List ℕ) (r n : ℕ) (p : Plan) {x next m : ℕ} {vs : List �
 pub record Plan-fits (r top : ℕ) (p : Plan) : Type 0 where
   pub height : p .height ≤ top
   pub least : r ^ p .height ≤ p .count
-  pub by : p .by ≤ table-limit
+  pub by : p .by ≤ entry-limit
 
 module _ (ws : List ℕ) (s r : ℕ) (w hi sz : List ℕ) (n k u y : ℕ) (s-least : 1 ≤ s) (s-most : s ≤ 16)
     (limits : (h : ℕ) → h ≤ suc u → entry hi h ≡ s * r ^ h) (widths : (h : ℕ) → entry w h ≤ label-limit) where

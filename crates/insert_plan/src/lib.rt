@@ -1,8 +1,8 @@
 // What an insertion renumbers: planned on the words before it, then done.
 ghost use mathlib.Core.Path.{_≡_};
 ghost use Prim.Native.Nat.{_+_, _≤_};
+ghost use Rattle.shape.specs.Tables.{entry-limit};
 ghost use Rattle.edit_model.specs.Insert.{place-label, plain-plan, split-plan, plan as plan-of-tags, applied};
-ghost use Rattle.renumber.specs.Needs.{table-limit};
 ghost use Rattle.insert_plan.specs.Parts.{plan-record, next-label, inner-plan};
 ghost use Rattle.insert_link.specs.Needs.{Place-there};
 ghost use Rattle.insert_plan.specs.Needs.{Plain-reads, Plan-reads, Split-fits, Applicable};
@@ -33,7 +33,7 @@ fn place_label(words: &[u32], n: u32, place: TagId) -> Label
 
 // The new label behind a place.
 fn next_label(words: &[u32], n: u32, place: TagId, width: u64) -> u64
-    requires { ⌜ Place-there (now words) n (place .0) × (width ≤ table-limit) ⌝ }
+    requires { ⌜ Place-there (now words) n (place .0) × (width ≤ entry-limit) ⌝ }
     ensures { λ l. ⌜ l ≡ next-label (now (words .entry)) (place .0) width ⌝ }
 {
     if place.is_none() {

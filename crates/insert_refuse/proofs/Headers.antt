@@ -1,15 +1,15 @@
 -- The header of words that say a store: each number in its range, and tables of its powers fit. Assumes nothing.
 use mathlib.Core.Path.{_≡_}
 use mathlib.Core.List.{List}
-use Prim.Native.Nat.{ℕ, pred, _+_, _*_, _-_, _^_, _≤_, _<_}
-use native.Mathlib.Nat.{mul-le-mul, mul-le-mul-right, pow-le-pow-left, pow-le-pow-right, one-mul, lt-of-not-le}
+use Prim.Native.Nat.{ℕ, pred, _*_, _-_, _^_, _≤_, _<_}
+use native.Mathlib.Nat.{mul-le-mul}
 use native.Mathlib.Omega.{arith}
 use lib.ListN.{length}
 use Rattle.store_types.specs.Limits.{label-limit}
 use Rattle.lists.proofs.Tests.{and-left}
 use Rattle.store_types.specs.Layout.{at-s, at-r, at-height, at-count, header-words, word-at, words-for}
 use Rattle.shape.proofs.TableLaws.{table-at}
-use Rattle.shape.specs.Tables.{entry, table, Table-fits}
+use Rattle.shape.specs.Tables.{entry, table}
 use Rattle.words.proofs.Fields.{header-fits}
 use Rattle.shape.proofs.Fits.{Fits, height-range}
 use Rattle.tree.specs.Book.{base, power-width}

@@ -1,7 +1,6 @@
 // The records of the tags, with no labels yet. An open begin's own up word serves as the stack.
 ghost use mathlib.Core.Path.{_≡_};
-ghost use Prim.Native.Nat.{_<_, _≤_};
-ghost use lib.ListN.{length};
+ghost use Prim.Native.Nat.{_<_};
 ghost use Rattle.store_types.specs.Layout.{at-up, field, Room};
 ghost use Rattle.load_tags.specs.Tags.{next-number, prior-number, place-written, inner-written, end-written, tag-written, open-behind, Tag-fits, Tags-fit, Tags-written};
 use store_types::Label;

@@ -10,9 +10,9 @@ use Rattle.store_types.specs.Layout.{with-label}
 use Rattle.shape.specs.Tables.{entry}
 use Rattle.words.proofs.Fields.{records-kept, length-with-label}
 use Rattle.edit_model.specs.Relabel.{Relabelled, along, cut}
-use Rattle.renumber.specs.Needs.{Straight, Row-there, Trees-fit, Row-numbered, Part-size, Next-size, leaves-numbered, trees-numbered}
-use Rattle.renumber.proofs.Rows.{Same-next, label-keeps-next, On-way, start, arrived, leaf-on, leaves-end}
-use Rattle.renumber.proofs.Parts.{parts-numbered, Parts-left, parts-end, trees-keep-next, Next-part, next-part, part-on}
+use Rattle.renumber.specs.Needs.{Straight, Row-there, Part-size, Next-size, leaves-numbered, trees-numbered}
+use Rattle.renumber.proofs.Rows.{Same-next, label-keeps-next, On-way, start, arrived, leaf-on}
+use Rattle.renumber.proofs.Parts.{parts-numbered, Parts-left, trees-keep-next, next-part, part-on}
 
 pub along-straight : {ws : List ℕ} {n : ℕ} → Straight ws n → (i x : ℕ) → x + i < n → along i ws x ≡ x + i
 unfolding along

@@ -2,17 +2,12 @@
 use mathlib.Core.Path.{_≡_}
 use mathlib.Core.List.{List, map}
 use Prim.Native.Nat.{ℕ, _+_, _*_, _^_, _≤_, _<_}
-use lib.ListN.{length}
 use Rattle.store_types.specs.Limits.{most-tags, word-limit}
 use Rattle.store_types.specs.Layout.{at-next, field, Records}
-use Rattle.shape.specs.Tables.{entry}
+use Rattle.shape.specs.Tables.{entry, entry-limit}
 use Rattle.tree.specs.Forest.{labels, leaf-row, spread}
 use Rattle.calls.specs.Words.{follow}
 use Rattle.edit_model.specs.Relabel.{Relabelled, relabel, along, cut}
-
--- no number, width or limit in a table passes this, so that sums of a few fit 64 bits
-abbrev pub table-limit : ℕ
-table-limit = 1099511627776
 
 -- n tags in the order of their numbers
 pub record Straight (ws : List ℕ) (n : ℕ) : Type 0 where
@@ -31,7 +26,7 @@ pub record Trees-fit (r j a count : ℕ) (w l : List ℕ) : Type 0 where
   pub height : j ≤ 22
   pub least : 1 ≤ j → r ^ j ≤ count
   pub number : a < word-limit
-  pub widths : (k : ℕ) → entry w k ≤ table-limit
+  pub widths : (k : ℕ) → entry w k ≤ entry-limit
   pub lows : (k : ℕ) → k ≤ j → entry l k ≡ r ^ k
 
 -- how many tags the next of so many parts takes: the last takes all that remain

@@ -6,11 +6,11 @@ ghost use mathlib.Core.Path.{_≡_};
 ghost use mathlib.Core.Bool.{cond};
 ghost use Prim.Native.Nat.{_+_, _%_, _≤_, _<_};
 ghost use lib.Dec.{eqb};
-ghost use lib.ListN.{length};
 ghost use Rattle.store_types.specs.Limits.{word-limit};
 ghost use Rattle.store_types.specs.Layout.{label-at, with-label, Room, Records};
+ghost use Rattle.shape.specs.Tables.{entry-limit};
 ghost use Rattle.edit_model.specs.Relabel.{cut, shift as shifted};
-ghost use Rattle.renumber.specs.Needs.{Row-there, Trees-fit, Row-numbered, Part-size, leaves-numbered, trees-numbered, table-limit};
+ghost use Rattle.renumber.specs.Needs.{Row-there, Trees-fit, Row-numbered, Part-size, leaves-numbered, trees-numbered};
 use store_types::Label;
 use store_types::TagId;
 
@@ -34,7 +34,7 @@ fn number_leaf(words: &mut [u32], tag: TagId, at: u64) -> u32
 
 // Leaves in a row, a width apart.
 fn number_leaves(words: &mut [u32], n: u32, a: u64, x: TagId, count: u64, width: u64) -> Numbered
-    requires { ⌜ Row-there (now words) n (x .0) count × (a < 4294967296) × (width ≤ table-limit) ⌝ }
+    requires { ⌜ Row-there (now words) n (x .0) count × (a < 4294967296) × (width ≤ entry-limit) ⌝ }
     ensures { λ q. ⌜ Row-numbered (now (words .entry)) (now (words .exit)) (leaves-numbered (now (words .entry)) width a (x .0) count) (x .0) count (q .next .0) (q .moved) ⌝ }
 {
     let mut at = a;
@@ -99,7 +99,7 @@ pub fn number(
 
 // A label with a number added, by its low 32 bits.
 fn raised(label: Label, by: u64) -> Label
-    requires { ⌜ by ≤ table-limit ⌝ }
+    requires { ⌜ by ≤ entry-limit ⌝ }
     ensures { λ l. ⌜ l .0 ≡ (label .0 + by) % word-limit ⌝ }
 {
     Label((((label.0 as u64) + by) % 4294967296) as u32)
@@ -107,7 +107,7 @@ fn raised(label: Label, by: u64) -> Label
 
 // Adds to each label from x on, as long as it is below a bound.
 pub fn shift(words: &mut [u32], n: u32, x: TagId, bound: u64, by: u64) -> u32
-    requires { ⌜ Records (now words) n × (by ≤ table-limit) ⌝ }
+    requires { ⌜ Records (now words) n × (by ≤ entry-limit) ⌝ }
     ensures words { λ _. ⌜ now (words .exit) ≡ shifted n n (now (words .entry)) (x .0) bound by .words ⌝ }
     ensures moved { λ m. ⌜ m ≡ shifted n n (now (words .entry)) (x .0) bound by .moved ⌝ }
 {

@@ -1,7 +1,8 @@
 // Trees over tags that stand in the order of their numbers, as load leaves them: the next tag is found with no look at next.
 ghost use mathlib.Core.Path.{_≡_};
 ghost use Prim.Native.Nat.{_+_, _≤_, _<_};
-ghost use Rattle.renumber.specs.Needs.{Straight, Trees-fit, Next-size, leaves-numbered, trees-numbered, table-limit};
+ghost use Rattle.shape.specs.Tables.{entry-limit};
+ghost use Rattle.renumber.specs.Needs.{Straight, Trees-fit, Next-size, leaves-numbered, trees-numbered};
 use store_types::Label;
 use store_types::TagId;
 
@@ -14,7 +15,7 @@ pub struct Run {
 
 // Leaves in a row, a width apart.
 fn number_leaves(words: &mut [u32], n: u32, run: Run, width: u64)
-    requires { ⌜ Straight (now words) n × (run .x + run .count ≤ n) × (run .a < 4294967296) × (width ≤ table-limit) ⌝ }
+    requires { ⌜ Straight (now words) n × (run .x + run .count ≤ n) × (run .a < 4294967296) × (width ≤ entry-limit) ⌝ }
     ensures { λ _. ⌜ now (words .exit) ≡ leaves-numbered (now (words .entry)) width (run .a) (run .x) (run .count) .words ⌝ }
 {
     let mut at = run.a;
@@ -30,7 +31,7 @@ fn number_leaves(words: &mut [u32], n: u32, run: Run, width: u64)
 
 // How many tags the next of some parts takes: the last one takes all that remain.
 fn next_part(each: u64, left: u64) -> u64
-    requires { ⌜ each ≤ table-limit ⌝ }
+    requires { ⌜ each ≤ entry-limit ⌝ }
     ensures { λ n. ⌜ Next-size each left n ⌝ }
 {
     if left < 2 * each { left } else { each }

@@ -51,22 +51,22 @@ pub fn frame_passes(words: &[u32]) -> bool
     if words.len() < 8 {
         return false;
     }
-    if words[0] != 1 {
+    if words[words::AT_VERSION] != 1 {
         return false;
     }
-    let s = words[1];
+    let s = words[words::AT_S];
     if !degree_fits(s) {
         return false;
     }
-    let r = words[2];
+    let r = words[words::AT_R];
     if !degree_fits(r) {
         return false;
     }
-    let h = words[3];
+    let h = words[words::AT_HEIGHT];
     if h < 1 {
         return false;
     }
-    let n = words[4];
+    let n = words[words::AT_COUNT];
     if 200000 < n {
         return false;
     }

@@ -7,17 +7,16 @@ use native.Mathlib.Nat.{pow-zero, not-suc-le-zero}
 use native.Mathlib.Omega.{arith}
 use borrow.Author.Tests.{eqb-false}
 use lib.Dec.{leb, eqb}
-use lib.ListN.{length, set, length-set}
+use lib.ListN.{length, length-set}
 use lib.Seq.{getD-set-same, getD-set-other}
 use mathlib.Core.Bool.{_||_}
 use Rattle.store_types.specs.Limits.{no-tag}
 use Rattle.store_types.specs.Layout.{at-count, at-first, header-words, at-next, at-prior, at-mate, at-up, at-kind, word-at, field, label-at, with-label, Records}
 use Rattle.lists.proofs.Tests.{by-test}
-use Rattle.shape.specs.Tables.{entry}
+use Rattle.shape.specs.Tables.{entry, entry-limit}
 use Rattle.words.proofs.Fields.{header-fits, room, room-same, records-kept, field-same, field-other-word, header-kept, header-kept-label, length-with-field, length-with-label, field-past-header}
 use Rattle.edit_model.specs.Relabel.{relabel, along, cut, shift}
 use Rattle.edit_model.specs.Insert.{Plan, behind, with-record, linked-place, linked-next, added, plain-plan, applied}
-use Rattle.renumber.specs.Needs.{table-limit}
 use Rattle.renumber.proofs.Rows.{cut-small}
 use Rattle.insert_link.specs.Needs.{Tag-fits}
 use Rattle.insert_plan.specs.Needs.{Applicable}
@@ -112,7 +111,7 @@ module _ (ws : List ℕ) (n y mate up kind : ℕ) (h : Tag-fits ws n y) where
   records-added = records-kept (h .records) (length-added ws n y mate up kind)
 
   -- AND BY ITSELF it can be numbered
-  pub plain-applicable : (w l : List ℕ) (r u : ℕ) → 2 ≤ r → ((k : ℕ) → entry w k ≤ table-limit) → entry l 0 ≡ 1 →
+  pub plain-applicable : (w l : List ℕ) (r u : ℕ) → 2 ≤ r → ((k : ℕ) → entry w k ≤ entry-limit) → entry l 0 ≡ 1 →
       Applicable (added ws n y mate up kind) (suc n) r (plain-plan ws w u y) w l
   unfolding plain-plan along
   plain-applicable w l r u degree widths low =

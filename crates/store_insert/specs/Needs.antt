@@ -3,11 +3,10 @@ use mathlib.Core.Path.{_≡_}
 use mathlib.Core.List.{List}
 use Prim.Native.Nat.{ℕ, suc, pred, _≤_, _<_}
 use Rattle.store_types.specs.Layout.{at-r, at-height, at-count, word-at}
-use Rattle.shape.specs.Tables.{entry}
+use Rattle.shape.specs.Tables.{entry, entry-limit}
 use Rattle.calls.specs.Replies.{insert-refused}
 use Rattle.edit_model.specs.Insert.{Plan, Edited, up-word, widths-of, plan-of}
 use Rattle.walk_levels.specs.Needs.{Ancestors-fit}
-use Rattle.renumber.specs.Needs.{table-limit}
 use Rattle.store_insert.specs.Parts.{lows-of}
 use Rattle.insert_link.specs.Needs.{Tag-fits}
 use Rattle.insert_plan.specs.Needs.{Applicable}
@@ -41,7 +40,7 @@ pub record End-fits (ws : List ℕ) (n r : ℕ) (w l : List ℕ) : Type 0 where
   pub tag : Tag-fits ws (suc n) n
   pub levels : 1 ≤ word-at ws at-height
   pub ancestors : Ancestors-fit (pred (word-at ws at-height)) w
-  pub widths : (h : ℕ) → entry w h ≤ table-limit
+  pub widths : (h : ℕ) → entry w h ≤ entry-limit
   pub degree : r ≡ word-at ws at-r
   pub degree-least : 2 ≤ r
   pub low : entry l 0 ≡ 1

@@ -53,7 +53,7 @@ fn inside_refused(begin: TagId, words: &[u32]) -> u32
     if first != 0 || begin.is_none() {
         return first;
     }
-    if words[4] <= begin.0 {
+    if words[words::AT_COUNT] <= begin.0 {
         return 8;
     }
     let kind = words::kind_of(words, begin);
@@ -72,7 +72,7 @@ fn first_inside(begin: TagId, words: &[u32]) -> TagId
     ensures { λ x. ⌜ x .0 ≡ first-inside (begin .0) (said (now (words .entry))) ⌝ }
 {
     if begin.is_none() {
-        return TagId(words[5]);
+        return TagId(words[words::AT_FIRST]);
     }
     words::next_of(words, begin)
 }

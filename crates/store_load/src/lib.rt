@@ -26,14 +26,14 @@ fn write_header(words: &mut [u32], s: u32, r: u32, h: u32, n: u32, book: u32)
     ensures { λ _. ⌜ now (words .exit) ≡ in-front (header-new s r h n book) (now (words .entry)) ⌝ }
 {
     let first = first_tag(n);
-    words[0] = 1;
-    words[1] = s;
-    words[2] = r;
-    words[3] = h;
-    words[4] = n;
-    words[5] = first.0;
-    words[6] = book;
-    words[7] = 0;
+    words[words::AT_VERSION] = 1;
+    words[words::AT_S] = s;
+    words[words::AT_R] = r;
+    words[words::AT_HEIGHT] = h;
+    words[words::AT_COUNT] = n;
+    words[words::AT_FIRST] = first.0;
+    words[words::AT_BOOK] = book;
+    words[words::AT_STAMP] = 0;
 }
 
 // The labels of n tags, which stand in the order of their numbers, where the root's children have height `under`.

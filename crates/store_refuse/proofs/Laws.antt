@@ -9,7 +9,6 @@ use native.Mathlib.Omega.{arith}
 use borrow.Author.Tests.{lt-ltb, le-ltb, le-leb, lt-leb, ne-eqb}
 use lib.Dec.{ltb, leb, eqb}
 use lib.ListN.{length}
-use Rattle.store_types.specs.Limits.{word-limit}
 use Rattle.store_types.specs.Layout.{at-count, header-words, at-kind, word-at, field, Room}
 use Rattle.lists.proofs.Tests.{by-test}
 use Rattle.words.proofs.Fields.{header-fits, record-room}

@@ -1,7 +1,7 @@
 -- Specimens of the tree (document 01, "Specimens", and others that tell it and its bounds from wrong ones): three tables,
 -- which proofs/Specimens.antt shows to hold. Expected values are worked out from document 01, by hand or by a model of
 -- the tree on explicit nodes, never by these definitions.
-use mathlib.Core.Bool.{Bool, true, false, _&&_}
+use mathlib.Core.Bool.{Bool, _&&_}
 use mathlib.Core.List.{List, [], _∷_}
 use Prim.Native.Nat.{ℕ, zero, suc, _+_, _*_, _-_}
 use lib.Dec.{leb, eqb}

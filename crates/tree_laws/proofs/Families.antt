@@ -1,19 +1,17 @@
 -- An insertion that splits no node puts the new leaf beside the tag at its place, under the same parent. Assumes nothing.
 use mathlib.Core.Path.{_≡_, refl, ap, sym, _∙_}
-use mathlib.Core.Bool.{Bool, true, false, cond}
 use mathlib.Core.List.{List, [], _∷_, _++_, append-assoc, append-nil, flatten}
-use Prim.Native.Nat.{ℕ, zero, suc, pred, _+_, _*_, _-_, _^_, _≤_, _<_}
+use Prim.Native.Nat.{ℕ, zero, suc, _+_, _*_, _-_, _^_, _≤_}
 use native.Mathlib.Omega.{arith}
 use borrow.Author.Tests.{ne-eqb}
-use lib.Dec.{eqb}
 use lib.ListN.{length, take, drop, length-append, take-append-drop, length-take}
 use Rattle.lists.proofs.Tests.{by-test}
 use Rattle.tree.specs.Good.{Good}
 use Rattle.tree.specs.Row.{insert-at}
 use Rattle.tree.specs.Forest.{Forest, nil, leaf, node, leaves, size, put, split-height}
-use Rattle.tree.specs.Book.{Book, height, tags, root-full, put-inside, inserted, split-of}
+use Rattle.tree.specs.Book.{root-full, put-inside}
 use Rattle.tree.specs.Families.{families, families-of, Joins}
-use Rattle.tree.specs.Promise.{Sane, Insertion-family}
+use Rattle.tree.specs.Promise.{Insertion-family}
 use Rattle.tree_laws.proofs.Spread.{some-power}
 use Rattle.tree_laws.proofs.Insertion.{Turn, right, split, below, turn, put-right, put-below, height-right, height-split, height-below, size-node, leaves-put, inserted-inside, split-of-split, split-of-inside, Rooted, rooted}
 

@@ -1,7 +1,7 @@
 -- The limits of a forest as facts, and the bridges to the test of specs/Forest.antt both ways. Assumes nothing.
 use mathlib.Core.Path.{_≡_, refl}
-use mathlib.Core.Bool.{Bool, true, false, _&&_, false≢true}
-use Prim.Native.Nat.{ℕ, zero, suc, _*_, _^_, _≤_, _<_}
+use mathlib.Core.Bool.{true, _&&_, false≢true}
+use Prim.Native.Nat.{ℕ, zero, suc, _*_, _^_}
 use borrow.Author.Tests.{lt-ltb, le-leb, ltb-true, leb-true}
 use lib.Dec.{ltb, leb}
 use Rattle.lists.proofs.Tests.{and-left, and-right, and-both}

@@ -1,15 +1,15 @@
 -- What load and split make: s complete trees, the smallest height, and the tags. Assumes nothing.
-use mathlib.Core.Path.{_≡_, refl, ap, sym, _∙_}
+use mathlib.Core.Path.{_≡_, refl, ap, _∙_}
 use mathlib.Core.List.{List, [], _∷_}
 use Prim.Native.Nat.{ℕ, zero, suc, _*_, _^_, _≤_, _<_}
-use native.Mathlib.Nat.{pow-zero, mul-one, mul-le-mul-left, mul-le-mul-right, pow-le-pow-right, div-eq-of-eq-mul-left, lt-of-not-le}
+use native.Mathlib.Nat.{pow-zero, mul-one, mul-le-mul-right, pow-le-pow-right, div-eq-of-eq-mul-left, lt-of-not-le}
 use native.Mathlib.Omega.{arith}
 use lib.ListN.{length, drop}
 use Rattle.tree.specs.Forest.{Forest, leaf-row, parts, spread, trees}
 use Rattle.tree.specs.Book.{load-under, loaded}
-use Rattle.tree.specs.Promise.{Split-made, Splits-complete, Load-smallest, Load-tags, Insertion-tags}
-use Rattle.tree_laws.proofs.Spread.{parts-none, parts-one, parts-more, spread-zero, spread-suc, some-power, leaves-spread-zero, leaves-spread, complete-spread}
-use Rattle.tree_laws.proofs.Load.{Least, load-least, tags-loaded}
+use Rattle.tree.specs.Promise.{Splits-complete, Load-smallest, Load-tags, Insertion-tags}
+use Rattle.tree_laws.proofs.Spread.{parts-none, parts-one, parts-more, spread-zero, spread-suc, some-power, leaves-spread, complete-spread}
+use Rattle.tree_laws.proofs.Load.{load-least, tags-loaded}
 use Rattle.tree_laws.proofs.Insertion.{tags-inserted}
 
 -- how many trees a spread row has

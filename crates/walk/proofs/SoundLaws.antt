@@ -2,12 +2,10 @@
 -- parts decide. Assumes nothing.
 use mathlib.Core.Path.{_≡_, sym, _∙_}
 use mathlib.Core.Bool.{Bool, true, false, _&&_, not, and-assoc, and-false, and-eq-true-iff}
-use mathlib.Core.Logic.{by-cases}
 use mathlib.Core.List.{List}
-use Prim.Native.Nat.{ℕ, pred, _+_, _*_, _-_, _^_, _≤_, _<_}
-use native.Mathlib.Nat.{pow-zero, one-le-pow, one-mul, mul-le-mul, mul-le-mul-right, pow-le-pow-left, pow-le-pow-right}
+use Prim.Native.Nat.{ℕ, pred, _*_, _-_, _^_, _≤_, _<_}
+use native.Mathlib.Nat.{pow-zero, one-le-pow, one-mul}
 use native.Mathlib.Numerals.{sub-one}
-use native.Mathlib.Decide.{decLe}
 use native.Mathlib.Omega.{arith}
 use borrow.Author.Tests.{leb-true, not-true, not-false}
 use lib.ListN.{length, getD, replicate}
@@ -23,7 +21,6 @@ use Rattle.walk_model.specs.Watch.{ancestor-numbers, watched-label, watched-num
 use Rattle.walk_levels.specs.Needs.{Ancestors-fit, Packed, widths-in, numbers-in, tables-of, levels-of}
 use Rattle.shape.specs.Needs.{Root-fits, power-fits, frame-passes, root-passes}
 use Rattle.walk.specs.Needs.{Pass-fits, shape-with, shape-in, start-with}
-use Rattle.shape.proofs.HeaderLaws.{degrees-product}
 use Rattle.walk_levels.proofs.AncestorNumbers.{numbers-fit}
 
 module _ (ws : List ℕ) where

@@ -154,10 +154,10 @@ pub fn sound_at(words: &[u32], place: TagId, sizes: &mut [u32; 24]) -> bool
     if !shape::frame_passes(words) {
         return false;
     }
-    let s = words[1] as u64;
-    let r = words[2] as u64;
-    let h = words[3] as usize;
-    let n = words[4];
+    let s = words[words::AT_S] as u64;
+    let r = words[words::AT_R] as u64;
+    let h = words[words::AT_HEIGHT] as usize;
+    let n = words[words::AT_COUNT];
     let widths = shape::table(1, s * r - 1, h);
     let lows = shape::table(1, r, h);
     let highs = shape::table(s, r, h);

@@ -1,7 +1,7 @@
 // The ancestors of a place by their numbers: the nodes whose leaves the pass counts.
 ghost use mathlib.Core.Path.{_≡_};
-ghost use Prim.Native.Nat.{_+_, _*_, _≤_};
-ghost use lib.ListN.{length, replicate};
+ghost use Prim.Native.Nat.{_+_, _*_};
+ghost use lib.ListN.{replicate};
 ghost use Rattle.store_types.specs.Layout.{at-count, word-at, Records};
 ghost use Rattle.walk_model.specs.Watch.{ancestor-numbers, watched-label};
 ghost use Rattle.walk_levels.specs.Needs.{Ancestors-fit};
@@ -13,7 +13,7 @@ pub fn watched_label(words: &[u32], place: TagId) -> Label
     requires { ⌜ Records (now words) (word-at (now words) at-count) ⌝ }
     ensures { λ l. ⌜ l .0 ≡ watched-label (now (words .entry)) (place .0) ⌝ }
 {
-    if place.0 < words[4] {
+    if place.0 < words[words::AT_COUNT] {
         return words::label_of(words, place);
     }
     Label(0)

@@ -1,17 +1,16 @@
 -- The header's test as facts, and that the walk's tables are right where it is passed. Assumes nothing.
-use mathlib.Core.Path.{_≡_, refl, ap, _∙_}
+use mathlib.Core.Path.{_≡_, refl, _∙_}
 use mathlib.Core.Bool.{true, _&&_, _||_}
 use mathlib.Core.List.{List}
-use Prim.Native.Nat.{ℕ, zero, suc, pred, _*_, _-_, _^_, _≤_, _<_}
-use native.Mathlib.Nat.{one-mul, mul-one, mul-assoc, pow-zero, pow-succ', pow-le-pow-left, pow-le-pow-right, mul-le-mul, lt-of-not-le, not-suc-le-zero, le-of-suc-le-suc}
+use Prim.Native.Nat.{ℕ, suc, pred, _*_, _-_, _^_, _≤_, _<_}
+use native.Mathlib.Nat.{one-mul, mul-le-mul}
 use native.Mathlib.Omega.{arith}
 use borrow.Author.Tests.{ltb-true, leb-true, eqb-true, lt-ltb, le-leb}
 use lib.Dec.{ltb, leb, eqb, eqb·suc-suc}
-use lib.ListN.{length, getD, replicate, length-append, length-replicate, List·getD-append}
+use lib.ListN.{length}
 use Rattle.store_types.specs.Limits.{most-tags, label-limit}
 use Rattle.store_types.specs.Layout.{at-version, at-s, at-r, at-height, at-count, header-words, word-at, words-for}
 use Rattle.lists.proofs.Tests.{and-left, and-right, and-both}
-use Rattle.shape.specs.Tables.{entry, powers, table}
 use Rattle.words.proofs.Fields.{header-fits}
 use Rattle.shape.proofs.TableLaws.{table-at, length-table}
 use Rattle.shape.proofs.Fits.{height-range}

@@ -1,16 +1,16 @@
 -- The soundness walk over words: the header, then one pass along next. Follows the code of crate walk.
 -- Assumes nothing: these are definitions.
-use mathlib.Core.Bool.{Bool, true, false, _&&_, _||_, not, cond}
-use mathlib.Core.List.{List, [], _∷_, _++_}
+use mathlib.Core.Bool.{Bool, false, _&&_, _||_, not, cond}
+use mathlib.Core.List.{List}
 use Prim.Native.Nat.{ℕ, zero, suc, pred, _+_, _*_, _-_, _^_, _%_}
 use lib.Dec.{ltb, leb, eqb}
-use lib.ListN.{length, getD, replicate}
+use lib.ListN.{length, replicate}
 use Rattle.store_types.specs.Limits.{no-tag, most-tags, label-limit}
 use Rattle.store_types.specs.Layout.{at-version, at-s, at-r, at-height, at-count, at-first, at-stamp, header-words, at-next, at-prior, at-mate, at-up, at-kind, word-at, words-for, field, label-at}
 use Rattle.tree.specs.Book.{power-width}
 use Rattle.calls.specs.Sound.{degrees-fit}
 use Rattle.shape.specs.Tables.{entry, table}
-use Rattle.walk_model.specs.Levels.{Tables, Levels, Settled, start-levels, place-label, all-close}
+use Rattle.walk_model.specs.Levels.{Tables, Levels, Settled, place-label, all-close}
 
 -- ONE TAG x of kind word c, where o is the innermost open begin or no tag
 unfoldable pub marked-word : List ℕ → (tag : ℕ) → Bool

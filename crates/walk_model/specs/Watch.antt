@@ -8,7 +8,7 @@ use lib.Dec.{ltb, eqb}
 use lib.ListN.{set, replicate}
 use Rattle.store_types.specs.Layout.{at-height, at-count, word-at, label-at}
 use Rattle.shape.specs.Tables.{entry}
-use Rattle.walk_model.specs.Levels.{Tables, Levels}
+use Rattle.walk_model.specs.Levels.{Levels}
 use Rattle.walk_model.specs.Walk.{Shape, State, passed, shape-of, start}
 
 -- the number of the ancestor of each height, from the top down: that of height `left` from that of the one above it

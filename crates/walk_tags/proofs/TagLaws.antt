@@ -4,7 +4,7 @@ use mathlib.Core.Path.{_≡_, refl, sym, _∙_}
 use mathlib.Core.Bool.{Bool, true, false, _&&_, _||_, not, cond, true≢false, false≢true, and-true, and-false, and-comm, and-eq-true-iff}
 use mathlib.Core.Logic.{_⊎_, inl, inr, ⊎-elim, by-cases}
 use mathlib.Core.List.{List}
-use Prim.Native.Nat.{ℕ, _+_, _-_, _/_, _%_, _≤_, _<_}
+use Prim.Native.Nat.{ℕ, _-_, _%_, _≤_, _<_}
 use native.Mathlib.Decide.{ℕ-discrete, decLe}
 use native.Mathlib.Omega.{arith}
 use borrow.Author.Tests.{eq-eqb, ne-eqb, lt-ltb, le-ltb, le-leb, lt-leb, ltb-true, leb-true, eqb-true}
@@ -12,10 +12,10 @@ use lib.Dec.{ltb, leb, eqb}
 use Rattle.store_types.specs.Limits.{no-tag}
 use Rattle.lists.proofs.Tests.{fails}
 use Rattle.store_types.specs.Layout.{at-prior, at-mate, at-up, at-kind, field}
-use Rattle.walk_model.specs.Walk.{marked-word, inner-fits, end-fits, kind-fits, open-after}
+use Rattle.walk_model.specs.Walk.{marked-word, inner-fits, end-fits, kind-fits}
 use Rattle.kind_pick.proofs.PickLaws.{test-same}
 use Rattle.kind_pick.specs.Needs.{Kind-word}
-use Rattle.walk_tags.specs.Needs.{Begin-word, Open, none, begin, Tag-reads, Beside, is-kind-word, pair-fits, links-fit, marks-at}
+use Rattle.walk_tags.specs.Needs.{Begin-word, Open, none, begin, is-kind-word, pair-fits, links-fit}
 
 -- THE KIND WORD
 module _ (c : ℕ) where

@@ -1,22 +1,21 @@
 -- What each way through the tests of one tag says, from what the tests read. Assumes nothing.
 use mathlib.Core.Path.{_≡_, sym, _∙_}
-use mathlib.Core.Bool.{Bool, true, false, _&&_, not, cond, and-false}
+use mathlib.Core.Bool.{Bool, true, false, _&&_, not, cond}
 use mathlib.Core.Logic.{by-cases}
 use mathlib.Core.List.{List}
-use Prim.Native.Nat.{ℕ, _+_, _*_, _/_, _%_, _≤_, _<_}
+use Prim.Native.Nat.{ℕ, _+_, _/_, _%_, _≤_, _<_}
 use native.Mathlib.Decide.{ℕ-discrete, decLe}
 use native.Mathlib.Omega.{arith}
 use borrow.Author.Tests.{eq-eqb, ne-eqb, le-leb, lt-leb, eqb-true, not-true, not-false}
 use mathlib.Core.Bool.{and-eq-true-iff}
-use lib.Dec.{leb, eqb}
+use lib.Dec.{eqb}
 use lib.ListN.{getD}
-use Rattle.store_types.specs.Limits.{no-tag}
 use Rattle.store_types.specs.Layout.{at-prior, at-mate, at-up, at-kind, tag-words, field, Room}
 use Rattle.words.specs.Offsets.{Record-at}
 use Rattle.words.proofs.Fields.{room}
 use Rattle.walk_model.specs.Walk.{kind-fits, inner-fits, open-after}
 use Rattle.kind_pick.specs.Needs.{Kind-word}
-use Rattle.walk_tags.specs.Needs.{Tag-reads, Beside, pair-table, pair-fits, is-kind-word, bit-of, links-fit, fits-at, marks-at}
+use Rattle.walk_tags.specs.Needs.{Tag-reads, pair-table, pair-fits, bit-of, links-fit, fits-at, marks-at}
 use Rattle.walk_tags.proofs.PairLaws.{pair-right}
 use Rattle.walk_tags.proofs.TagLaws.{kind-given, kind-fitting, kind-large, kind-beside, q-below, tag-right}
 

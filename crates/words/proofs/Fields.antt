@@ -1,6 +1,6 @@
 -- The laws of the words' layout: what stands in words after a field or a label was written, words in front of others, and
 -- that words are told by their header, labels and fields. All else cites these. Assumes nothing.
-use mathlib.Core.Path.{_≡_, refl}
+use mathlib.Core.Path.{_≡_}
 use mathlib.Core.List.{List, _++_}
 use Prim.Native.Nat.{ℕ, zero, suc, _+_, _*_, _-_, _/_, _%_, _≤_, _<_}
 use native.Mathlib.Nat.{add-zero, div-add-mod, mod-lt}

@@ -1,6 +1,5 @@
 -- `insert_link::link_next` meets its contract. Assumes nothing.
 use borrow.Author.Needs.{needs}
-use native.Mathlib.Omega.{arith}
 use Rattle.insert_link.proofs.Links.{place-room, linked-none, linked-back}
 use Rattle.insert_link.proofs.link_next.Statement.{statement}
 use Rattle.insert_link.proofs.link_next.Tie as tie

@@ -1,6 +1,5 @@
 -- `insert_link::up_at` meets its contract. Assumes nothing.
 use borrow.Author.Needs.{needs}
-use native.Mathlib.Omega.{arith}
 use Rattle.insert_link.proofs.Links.{place-room, up-front, up-begin, up-other}
 use Rattle.insert_link.proofs.up_at.Statement.{statement}
 use Rattle.insert_link.proofs.up_at.Tie as tie

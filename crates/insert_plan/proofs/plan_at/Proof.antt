@@ -1,6 +1,5 @@
 -- `insert_plan::plan_at` meets its contract. Assumes nothing.
 use borrow.Author.Needs.{needs}
-use native.Mathlib.Omega.{arith}
 use Rattle.insert_plan.proofs.Plans.{split-under, plan-root, plan-inner}
 use Rattle.edit_model.specs.Insert.{root-plan}
 use Rattle.insert_plan.specs.Parts.{plan-record}

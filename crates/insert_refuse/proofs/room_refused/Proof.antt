@@ -1,6 +1,6 @@
 -- `insert_refuse::room_refused` meets its contract. Assumes nothing.
 use borrow.Author.Needs.{needs}
-use Prim.Native.Nat.{_+_, _*_, _≤_}
+use Prim.Native.Nat.{_≤_}
 use native.Mathlib.Omega.{arith}
 use lib.ListN.{length}
 use Rattle.store_types.specs.Layout.{at-s, at-r, at-height, at-count, header-words, word-at}

@@ -1,5 +1,4 @@
 -- `load_tags::write_tag` meets its contract. Assumes nothing.
-use Prim.Native.Nat.{_<_}
 use borrow.Author.Tests.{eq-eqb, ne-eqb}
 use Rattle.words.proofs.Fields.{room, room-same}
 use Rattle.load_tags.specs.Tags.{tag-written, open-behind}

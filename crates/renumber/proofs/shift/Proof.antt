@@ -1,9 +1,8 @@
 -- `renumber::shift` meets its contract. The loop's invariant: what is shifted from here comes to the whole (Shifting). The
 -- measure is how many steps are left. Assumes nothing.
-use Prim.Native.Nat.{ℕ, _-_, _≤_, _<_}
+use Prim.Native.Nat.{_-_, _≤_, _<_}
 use native.Mathlib.Omega.{arith}
 use borrow.Author.Tests.{ltb-true, ltb-false}
-use lib.ListN.{length}
 use Rattle.store_types.specs.Layout.{label-at, Room}
 use Rattle.edit_model.specs.Relabel.{shift, cut}
 use Rattle.words.proofs.Fields.{room, room-with-label}

@@ -5,7 +5,6 @@ use mathlib.Core.Path.{_≡_, sym, _∙_}
 use mathlib.Core.Bool.{Bool, true, false, _&&_, cond, and-false}
 use mathlib.Core.Logic.{⊎-elim}
 use lib.Dec.{ltb}
-use native.Mathlib.Omega.{arith}
 use Rattle.store_types.specs.declared.Answer.the-variants.{Yes, No}
 use Rattle.store_types.specs.declared.QuestionReply.the-variants.{Answered}
 use Rattle.calls.specs.Held.{current}

@@ -1,6 +1,5 @@
 -- `store_held::end_label` meets its contract: the mate of a tag is a tag. Assumes nothing.
 use mathlib.Core.Path.{_∙_}
-use native.Mathlib.Omega.{arith}
 use Rattle.store_held.proofs.end_label.Statement.{statement}
 use Rattle.store_held.proofs.end_label.Tie as tie
 use Rattle.store_refuse.proofs.Laws.{tag-room, words-of-tag, mate-of-tag}

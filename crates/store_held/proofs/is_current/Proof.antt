@@ -1,7 +1,6 @@
 -- `store_held::is_current` meets its contract. Assumes nothing.
 use mathlib.Core.Path.{sym, _∙_}
 use borrow.Author.Needs.{needs}
-use native.Mathlib.Omega.{arith}
 use Rattle.store_held.proofs.is_current.Statement.{statement}
 use Rattle.store_held.proofs.is_current.Tie as tie
 use Rattle.store_refuse.proofs.Laws.{tag-room}

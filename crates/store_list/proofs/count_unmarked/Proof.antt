@@ -1,5 +1,4 @@
 -- `store_list::count_unmarked` meets its contract. Assumes nothing.
-use native.Mathlib.Omega.{arith}
 use Rattle.store_list.proofs.count_unmarked.Statement.{statement}
 use Rattle.store_list.proofs.count_unmarked.Tie as tie
 use Rattle.store_refuse.proofs.Laws.{tag-room}

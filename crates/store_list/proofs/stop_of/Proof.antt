@@ -1,7 +1,6 @@
 -- `store_list::stop_of` meets its contract. Assumes nothing.
 use borrow.Author.Needs.{needs}
 use mathlib.Core.Path.{sym, _∙_}
-use native.Mathlib.Omega.{arith}
 use Rattle.store_list.proofs.stop_of.Statement.{statement}
 use Rattle.store_list.proofs.stop_of.Tie as tie
 use Rattle.store_refuse.proofs.Laws.{tag-room}

@@ -1,7 +1,6 @@
 -- `store_list::write_between` meets its contract. The loop's invariant: writing what is left behind what is
 -- written makes the whole. The measure is how many tags are left. Assumes nothing.
 use Prim.Native.Nat.{_-_}
-use native.Mathlib.Omega.{arith}
 use Rattle.calls.specs.Store.{place-of}
 use Rattle.calls.specs.Replies.{said}
 use Rattle.store_list.proofs.write_between.Statement.{statement}

@@ -1,6 +1,5 @@
 -- `store_run::show` reads no index out of range, and ends. Assumes nothing.
 use Prim.Native.Nat.{_≤_, _-_}
-use native.Mathlib.Omega.{arith}
 use borrow.Author.Needs.{needs}
 use Rattle.store_run.proofs.show.Statement.{statement}
 use Rattle.store_run.proofs.show.Tie as tie

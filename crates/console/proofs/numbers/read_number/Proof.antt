@@ -1,5 +1,5 @@
 -- `console::read_number` meets its contract, by how the field begins. Assumes nothing.
-use mathlib.Core.Path.{_≡_, refl, ap, sym, _∙_}
+use mathlib.Core.Path.{ap, sym, _∙_}
 use native.Mathlib.Omega.{arith}
 use Rattle.console.specs.Scan.{number-reply}
 use Rattle.console.proofs.Scans.{number-empty, number-single, number-led, number-long}

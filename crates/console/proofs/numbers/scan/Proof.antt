@@ -1,6 +1,6 @@
 -- `console::scan` meets its contract: the digits from here on, with the value so far, give what the whole does. Assumes nothing.
 use mathlib.Core.Path.{_≡_, refl, ap, sym, _∙_}
-use Prim.Native.Nat.{_+_, _*_, _≤_, _<_, _-_}
+use Prim.Native.Nat.{_<_, _-_}
 use native.Mathlib.Omega.{arith}
 use lib.ListN.{length, drop}
 use Rattle.console.specs.Scan.{number-reply, scanned}

@@ -2,9 +2,9 @@
 -- to the whole (Going), and there are as many as what is left has room for (Whole-parts). The measure is what is left. Assumes
 -- nothing.
 use mathlib.Core.Path.{_≡_, ap, _∙_}
-use Prim.Native.Nat.{ℕ, _-_, _/_, _≤_}
+use Prim.Native.Nat.{ℕ, _-_, _/_}
 use native.Mathlib.Omega.{arith}
-use Rattle.walk_model.specs.Levels.{entry}
+use Rattle.shape.specs.Tables.{entry}
 use Rattle.edit_model.specs.Relabel.{Relabelled, cut}
 use Rattle.renumber.specs.Needs.{trees-numbered}
 use Rattle.renumber.proofs.Parts.{parts-numbered, parts-start, parts-end, trees-zero, each-power, each-some, each-parts, Next-part, next-part}
