@@ -9,7 +9,7 @@ use lib.Dec.{leb, eqb}
 use lib.ListN.{length}
 use Rattle.store_types.specs.Limits.{no-tag, most-tags, label-limit}
 use Rattle.lists.proofs.Tests.{by-test}
-use Rattle.store_types.specs.Layout.{at-s, at-r, at-height, at-count, at-kind, word-at, words-for, field}
+use Rattle.store_types.specs.Layout.{at-s, at-r, at-height, at-count, header-words, at-kind, tag-words, word-at, words-for, field}
 use Rattle.tree.specs.Book.{height, base, power-width}
 use Rattle.calls.specs.Store.{Store, fact, count}
 use Rattle.calls.specs.Insert.{insert-kinds, labels-end, tags-refused, insert-refusal}
@@ -52,16 +52,16 @@ module _ (ws : List ℕ) (h : Says ws (said ws)) (k : ℕ) where
   room-many m = rw (← header-said ws (said ws) h .issued, lt-ltb most-tags (word-at ws at-count + k) m)
 
   module _ (few : word-at ws at-count + k ≤ most-tags) where
-    pub room-short : length ws < 8 + 6 * (word-at ws at-count + k) → 6 ≡ room-refusal (length ws) k (said ws)
+    pub room-short : length ws < header-words + tag-words * (word-at ws at-count + k) → 6 ≡ room-refusal (length ws) k (said ws)
     unfolding room-refusal words-for
-    room-short m = rw (← header-said ws (said ws) h .issued, le-ltb most-tags (word-at ws at-count + k) few, lt-ltb (length ws) (8 + 6 * (word-at ws at-count + k)) m)
+    room-short m = rw (← header-said ws (said ws) h .issued, le-ltb most-tags (word-at ws at-count + k) few, lt-ltb (length ws) (header-words + tag-words * (word-at ws at-count + k)) m)
 
-    module _ (long : 8 + 6 * (word-at ws at-count + k) ≤ length ws) where
+    module _ (long : header-words + tag-words * (word-at ws at-count + k) ≤ length ws) where
       by-labels : (t : Bool) → labels-end (word-at ws at-s) (word-at ws at-r) k (word-at ws at-count) (word-at ws at-height) ≡ t → cond t 7 0 ≡ room-refusal (length ws) k (said ws)
       unfolding room-refusal words-for
       by-labels t e =
           let f = header-said ws (said ws) h in
-          rw (← f .issued, le-ltb most-tags (word-at ws at-count + k) few, le-ltb (length ws) (8 + 6 * (word-at ws at-count + k)) long, ← f .degree-s, ← f .degree-r, ← f .levels, e)
+          rw (← f .issued, le-ltb most-tags (word-at ws at-count + k) few, le-ltb (length ws) (header-words + tag-words * (word-at ws at-count + k)) long, ← f .degree-s, ← f .degree-r, ← f .levels, e)
 
       pub room-below : word-at ws at-count + k < word-at ws at-s * word-at ws at-r ^ word-at ws at-height → 0 ≡ room-refusal (length ws) k (said ws)
       unfolding labels-end

@@ -34,7 +34,7 @@ fn room_refused(k: u32, words: &[u32]) -> u32
     if 200000 < all {
         return 6;
     }
-    if words.len() < 8 + 6 * (all as usize) {
+    if words.len() < words::HEADER_WORDS + words::TAG_WORDS * (all as usize) {
         return 6;
     }
     let s = words[words::AT_S] as u64;

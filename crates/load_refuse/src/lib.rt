@@ -84,7 +84,7 @@ pub fn refused(room: usize, s: u32, r: u32, kinds: &[u8]) -> u32
     if 200000 < kinds.len() {
         return 6;
     }
-    if room < 8 + 6 * kinds.len() {
+    if room < words::HEADER_WORDS + words::TAG_WORDS * kinds.len() {
         return 1;
     }
     kinds_refused(kinds)

@@ -10,7 +10,7 @@ use borrow.Author.Tests.{eq-eqb, ne-eqb, lt-ltb, le-ltb, le-leb, lt-leb, leb-tru
 use lib.Dec.{leb, eqb}
 use lib.ListN.{length, getD}
 use Rattle.store_types.specs.Limits.{label-limit, most-tags}
-use Rattle.store_types.specs.Layout.{at-version, at-s, at-r, at-height, at-count, word-at, words-for}
+use Rattle.store_types.specs.Layout.{at-version, at-s, at-r, at-height, at-count, header-words, tag-words, word-at, words-for}
 use Rattle.calls.specs.Sound.{degrees-fit}
 use Rattle.shape.specs.Needs.{power-fits, root-passes, degree-fits, frame-passes}
 
@@ -89,11 +89,11 @@ module _ (ws : List ℕ) where
   unfolding frame-passes
   frame-count p = simp (lt-leb (word-at ws at-count) most-tags p, and-false)
 
-  pub frame-words : length ws < 8 + 6 * word-at ws at-count → false ≡ frame-passes ws
+  pub frame-words : length ws < header-words + tag-words * word-at ws at-count → false ≡ frame-passes ws
   unfolding frame-passes words-for
-  frame-words p = simp (lt-leb (8 + 6 * word-at ws at-count) (length ws) p, and-false)
+  frame-words p = simp (lt-leb (header-words + tag-words * word-at ws at-count) (length ws) p, and-false)
 
-  pub frame-power : {t p q : Bool} → 8 ≤ length ws → word-at ws at-version ≡ 1 → p ≡ degree-fits (word-at ws at-s) → not p ≡ false → q ≡ degree-fits (word-at ws at-r) → not q ≡ false → 1 ≤ word-at ws at-height → word-at ws at-count ≤ most-tags → 8 + 6 * word-at ws at-count ≤ length ws → t ≡ power-fits (word-at ws at-s * word-at ws at-r - 1) (word-at ws at-height) → t ≡ frame-passes ws
+  pub frame-power : {t p q : Bool} → header-words ≤ length ws → word-at ws at-version ≡ 1 → p ≡ degree-fits (word-at ws at-s) → not p ≡ false → q ≡ degree-fits (word-at ws at-r) → not q ≡ false → 1 ≤ word-at ws at-height → word-at ws at-count ≤ most-tags → header-words + tag-words * word-at ws at-count ≤ length ws → t ≡ power-fits (word-at ws at-s * word-at ws at-r - 1) (word-at ws at-height) → t ≡ frame-passes ws
   unfolding frame-passes degrees-fit degree-fits words-for
   frame-power a b c d e f g h i j =
-      rw (le-leb 8 (length ws) a, eq-eqb (word-at ws at-version) 1 b, sym c ∙ not-false _ d, sym e ∙ not-false _ f, le-leb 1 (word-at ws at-height) g, le-leb (word-at ws at-count) most-tags h, le-leb (8 + 6 * word-at ws at-count) (length ws) i, ← j)
+      rw (le-leb header-words (length ws) a, eq-eqb (word-at ws at-version) 1 b, sym c ∙ not-false _ d, sym e ∙ not-false _ f, le-leb 1 (word-at ws at-height) g, le-leb (word-at ws at-count) most-tags h, le-leb (header-words + tag-words * word-at ws at-count) (length ws) i, ← j)

@@ -48,7 +48,7 @@ pub fn degree_fits(d: u32) -> bool
 pub fn frame_passes(words: &[u32]) -> bool
     ensures { λ t. ⌜ t ≡ frame-passes (now (words .entry)) ⌝ }
 {
-    if words.len() < 8 {
+    if words.len() < words::HEADER_WORDS {
         return false;
     }
     if words[words::AT_VERSION] != 1 {
@@ -70,7 +70,7 @@ pub fn frame_passes(words: &[u32]) -> bool
     if 200000 < n {
         return false;
     }
-    if words.len() < 8 + 6 * (n as usize) {
+    if words.len() < words::HEADER_WORDS + words::TAG_WORDS * (n as usize) {
         return false;
     }
     power_fits((s as u64) * (r as u64) - 1, h)

@@ -11,7 +11,7 @@ pub fn words_refused_at(words: &[u32], place: TagId, sizes: &mut [u32; 24]) -> u
     ensures refusal { λ k. ⌜ k ≡ refusal-over (now (words .entry)) (λ st. 0) ⌝ }
     ensures sizes { λ k. ⌜ (k ≡ 0 → now (sizes .exit) ≡ sizes-at (now (words .entry)) (place .0) (now (sizes .entry))) ⌝ }
 {
-    if words.len() < 8 {
+    if words.len() < words::HEADER_WORDS {
         return 1;
     }
     if !walk::sound_at(words, place, sizes) {
