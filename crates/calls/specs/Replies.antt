@@ -47,75 +47,56 @@ store-or (some st) = st
 unfoldable pub said : (words : List ℕ) → Store
 said ws = store-or (read ws)
 
+-- what a call gives: where its refusal is 0 what it says accepted, else the refusal
+unfoldable pub replied : {A : Type 0} → (refused : ℕ → A) → (refusal : ℕ) → (accepted : A) → A
+replied f zero a = a
+replied f (suc k) a = f (suc k)
+
 -- the words after a call that writes: new words in front where it was accepted, all as they were where it was refused
 unfoldable pub written : (refusal : ℕ) → (new old : List ℕ) → List ℕ
-written zero new old = in-front new old
-written (suc k) new old = old
+written k new old = replied (λ _. old) k (in-front new old)
 
 -- LOAD
-unfoldable pub load-outcome : (refusal tags height : ℕ) → LoadReply
-load-outcome zero n h = load.Loaded n h
-load-outcome (suc k) n h = load.Refused (suc k)
-
 unfoldable pub load-reply : (s r number : ℕ) → (kinds words : List ℕ) → LoadReply
-load-reply s r b cs ws = load-outcome (load-refusal (length ws) s r cs) (length cs) (height (loaded s r (length cs)))
+load-reply s r b cs ws = replied load.Refused (load-refusal (length ws) s r cs) (load.Loaded (length cs) (height (loaded s r (length cs))))
 
 unfoldable pub load-words : (s r number : ℕ) → (kinds words : List ℕ) → List ℕ
 load-words s r b cs ws = written (load-refusal (length ws) s r cs) (words-of (load-store s r b cs)) ws
 
 -- INSERT
-unfoldable pub insert-outcome : (refusal first moved split : ℕ) → InsertReply
-insert-outcome zero x m h = insert.Inserted (record { 0 = x }) m h
-insert-outcome (suc k) x m h = insert.Refused (suc k)
-
 unfoldable pub insert-refused : (kind place : ℕ) → (words : List ℕ) → ℕ
 insert-refused c y ws = refusal-over ws (insert-refusal (length ws) c y)
 
 unfoldable pub insert-reply : (kind place : ℕ) → (words : List ℕ) → InsertReply
 insert-reply c y ws =
     let st = said ws in
-    insert-outcome (insert-refused c y ws) (count st) (insert-moved (insert-kinds c) y st) (insert-split (insert-kinds c) y st)
+    replied insert.Refused (insert-refused c y ws)
+    (insert.Inserted (record { 0 = count st }) (insert-moved (insert-kinds c) y st) (insert-split (insert-kinds c) y st))
 
 unfoldable pub insert-words : (kind place : ℕ) → (words : List ℕ) → List ℕ
 insert-words c y ws = written (insert-refused c y ws) (words-of (insert-store (insert-kinds c) y (said ws))) ws
 
 -- MARK
-unfoldable pub mark-outcome : (refusal count : ℕ) → MarkReply
-mark-outcome zero n = mark.Marked n
-mark-outcome (suc k) n = mark.Refused (suc k)
-
 unfoldable pub mark-reply : (section : ℕ) → (words : List ℕ) → MarkReply
-mark-reply x ws = mark-outcome (refusal-over ws (section-refusal x)) (mark-count x (said ws))
+mark-reply x ws = replied mark.Refused (refusal-over ws (section-refusal x)) (mark.Marked (mark-count x (said ws)))
 
 unfoldable pub mark-words : (section : ℕ) → (words : List ℕ) → List ℕ
 mark-words x ws = written (refusal-over ws (section-refusal x)) (words-of (mark-store x (said ws))) ws
 
 -- HOLD
-unfoldable pub hold-outcome : (refusal : ℕ) → HeldPair → HoldReply
-hold-outcome zero p = hold.Held p
-hold-outcome (suc k) p = hold.Refused (suc k)
-
 unfoldable pub hold-reply : (section : ℕ) → (words : List ℕ) → HoldReply
-hold-reply x ws = hold-outcome (refusal-over ws (section-refusal x)) (hold-pair x (said ws))
+hold-reply x ws = replied hold.Refused (refusal-over ws (section-refusal x)) (hold.Held (hold-pair x (said ws)))
 
 -- THE HELD-PAIR QUESTION
-unfoldable pub question-outcome : (refusal : ℕ) → QuestionReply → QuestionReply
-question-outcome zero q = q
-question-outcome (suc k) q = asked.Refused (suc k)
-
 unfoldable pub question-reply : HeldPair → (d : ℕ) → (words : List ℕ) → QuestionReply
-question-reply p d ws = question-outcome (refusal-over ws (λ st. 0)) (question p d (said ws))
+question-reply p d ws = replied asked.Refused (refusal-over ws (λ st. 0)) (question p d (said ws))
 
 -- LIST, into two lent lists
-unfoldable pub list-outcome : (refusal count : ℕ) → ListReply
-list-outcome zero n = list.Listed n
-list-outcome (suc k) n = list.Refused (suc k)
-
 unfoldable pub list-refused : (section : ℕ) → (words tags labels : List ℕ) → ℕ
 list-refused x ws ts ls = refusal-over ws (list-refusal (length ts) (length ls) x)
 
 unfoldable pub list-reply : (section : ℕ) → (words tags labels : List ℕ) → ListReply
-list-reply x ws ts ls = list-outcome (list-refused x ws ts ls) (length (listed-tags x (said ws)))
+list-reply x ws ts ls = replied list.Refused (list-refused x ws ts ls) (list.Listed (length (listed-tags x (said ws))))
 
 unfoldable pub list-tags : (section : ℕ) → (words tags labels : List ℕ) → List ℕ
 list-tags x ws ts ls = written (list-refused x ws ts ls) (listed-tags x (said ws)) ts

@@ -10,5 +10,6 @@ pub mod Pairs
 pub mod Fields
 pub mod Reader
 pub mod WordSteps
+pub mod Replies
 pub mod ListsKeep
 pub mod RunsKeep

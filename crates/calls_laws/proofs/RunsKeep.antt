@@ -8,9 +8,12 @@ use native.Mathlib.Omega.{arith}
 use lib.Dec.{eqb, eqb·suc-zero}
 use lib.ListN.{length}
 use Rattle.store_types.specs.declared.LoadReply.{LoadReply}
-use Rattle.store_types.specs.declared.LoadReply.the-variants.{Loaded}
+use Rattle.store_types.specs.declared.LoadReply.the-variants as loading
 use Rattle.store_types.specs.declared.InsertReply.{InsertReply}
+use Rattle.store_types.specs.declared.InsertReply.the-variants as inserting
 use Rattle.store_types.specs.declared.MarkReply.{MarkReply}
+use Rattle.store_types.specs.declared.MarkReply.the-variants as marking
+use Rattle.store_types.specs.declared.TagId.{TagId}
 use Rattle.store_types.specs.Layout.{header-words, words-for}
 use Rattle.tree.specs.Forest.{size}
 use Rattle.tree_laws.proofs.Insertion.{size-inserted-row}
@@ -21,7 +24,7 @@ use Rattle.calls.specs.Load.{load-refusal, load-store}
 use Rattle.calls.specs.Insert.{insert-kinds, position, book-after, insert-refusal, insert-store}
 use Rattle.calls.specs.Mark.{section-refusal, mark-store}
 use Rattle.calls.specs.Words.{words-of, Says, in-front}
-use Rattle.calls.specs.Replies.{refusal-over, written, load-outcome, load-reply, load-words, insert-outcome, insert-refused, insert-reply, insert-words, mark-outcome, mark-reply, mark-words}
+use Rattle.calls.specs.Replies.{refusal-over, written, replied, load-reply, load-words, insert-refused, insert-reply, insert-words, mark-reply, mark-words}
 use Rattle.calls.specs.Calls.{Call, load, insert, mark, refusal, changed, accepts, after-one, after, Event, loads, inserts, marks, holds, asks, lists, Happens, Run, Told, load-accepted, insert-accepted, mark-accepted, told, calls-of, total-after-load, total-after-insert, total-moved, moved-by, moved-after, judged}
 use Rattle.calls.specs.Reference.{Reference}
 use Rattle.calls.specs.Promise.{Load-sound, Kept, Lists-keep, Words-kept, Runs-keep}
@@ -30,6 +33,7 @@ use Rattle.calls_laws.proofs.Fields.{length-words}
 use Rattle.calls_laws.proofs.WordSteps.{said-store, words-fit, refusal-said, header-said, row-said, labels-said, says-in-front, length-in-front, written-says, length-written}
 use Rattle.calls_laws.proofs.Inserts.{accepted-row, position-fits}
 use Rattle.calls_laws.proofs.Steps.{accepted-load, insert-passed, load-sound, changed-sound}
+use Rattle.calls_laws.proofs.Replies.{replied-accepted, read-replied, replied-told}
 use Rattle.calls_laws.proofs.ListsKeep.{lists-keep}
 
 -- ROOM: the words of the store after an accepted call fit the lent words
@@ -63,36 +67,30 @@ changed-fits w (mark x) st h room e good = omega (arith, length-sound (mark-stor
 
 -- WHAT A REPLY TELLS, by its refusal: whether the call was accepted, and the total after it
 
-pub load-told : (k n h : ℕ) → load-accepted (load-outcome k n h) ≡ eqb k 0
-unfolding load-accepted load-outcome
-load-told zero n h = refl
-load-told (suc k) n h = sym (eqb·suc-zero k)
+pub load-told : (k n h : ℕ) → load-accepted (replied loading.Refused k (loading.Loaded n h)) ≡ eqb k 0
+unfolding load-accepted
+load-told k n h = replied-told loading.Refused load-accepted k (loading.Loaded n h) refl (λ i. refl)
 
-load-total : (k n h t : ℕ) → total-after-load (load-outcome k n h) t ≡ cond (eqb k 0) 0 t
-unfolding total-after-load load-outcome
-load-total zero n h t = refl
-load-total (suc k) n h t = rw (eqb·suc-zero k)
+load-total : (k n h t : ℕ) → total-after-load (replied loading.Refused k (loading.Loaded n h)) t ≡ cond (eqb k 0) 0 t
+unfolding total-after-load
+load-total k n h t = read-replied loading.Refused (λ q. total-after-load q t) k (loading.Loaded n h)
 
 -- a reply that says so is that of an accepted load
-pub load-zero : (k a c n h : ℕ) → Loaded n h ≡ load-outcome k a c → k ≡ 0
-unfolding load-outcome
-load-zero zero a c n h e = refl
-load-zero (suc k) a c n h e = let z : _≡_ {A = ℕ} 0 1 = cc in absurd (omega arith)
+pub load-zero : (k a c n h : ℕ) → loading.Loaded n h ≡ replied loading.Refused k (loading.Loaded a c) → k ≡ 0
+load-zero k a c n h e =
+    replied-accepted loading.Refused k (loading.Loaded a c) (loading.Loaded n h) (λ i q. let z : _≡_ {A = ℕ} 0 1 = cc in omega arith) (sym e) .0
 
-pub insert-told : (k x m h : ℕ) → insert-accepted (insert-outcome k x m h) ≡ eqb k 0
-unfolding insert-accepted insert-outcome
-insert-told zero x m h = refl
-insert-told (suc k) x m h = sym (eqb·suc-zero k)
+pub insert-told : (k : ℕ) (x : TagId) (m h : ℕ) → insert-accepted (replied inserting.Refused k (inserting.Inserted x m h)) ≡ eqb k 0
+unfolding insert-accepted
+insert-told k x m h = replied-told inserting.Refused insert-accepted k (inserting.Inserted x m h) refl (λ i. refl)
 
-insert-total : (k x m h t : ℕ) → total-after-insert (insert-outcome k x m h) t ≡ cond (eqb k 0) (t + m) t
-unfolding total-after-insert insert-outcome
-insert-total zero x m h t = refl
-insert-total (suc k) x m h t = rw (eqb·suc-zero k)
+insert-total : (k : ℕ) (x : TagId) (m h t : ℕ) → total-after-insert (replied inserting.Refused k (inserting.Inserted x m h)) t ≡ cond (eqb k 0) (t + m) t
+unfolding total-after-insert
+insert-total k x m h t = read-replied inserting.Refused (λ q. total-after-insert q t) k (inserting.Inserted x m h)
 
-pub mark-told : (k n : ℕ) → mark-accepted (mark-outcome k n) ≡ eqb k 0
-unfolding mark-accepted mark-outcome
-mark-told zero n = refl
-mark-told (suc k) n = sym (eqb·suc-zero k)
+pub mark-told : (k n : ℕ) → mark-accepted (replied marking.Refused k (marking.Marked n)) ≡ eqb k 0
+unfolding mark-accepted
+mark-told k n = replied-told marking.Refused mark-accepted k (marking.Marked n) refl (λ i. refl)
 
 either-way : (b : Bool) (t : ℕ) → cond b t t ≡ t
 either-way true t = refl
@@ -201,9 +199,9 @@ words-kept {ws} {st} h k =
     }
 
 -- the words after an accepted load, whatever they held before
-pub load-says : (s r b n h : ℕ) (ks old ws : List ℕ) → Happens (loads s r b ks (Loaded n h)) old ws →
+pub load-says : (s r b n h : ℕ) (ks old ws : List ℕ) → Happens (loads s r b ks (loading.Loaded n h)) old ws →
     (load-refusal (length old) s r ks ≡ 0) × Says ws (load-store s r b ks) × (length ws ≡ length old)
-unfolding Load-sound Happens load-reply load-words written
+unfolding Load-sound Happens load-reply load-words written replied
 load-says s r b n h ks old ws (reply, new) =
     let accepted = load-zero (load-refusal (length old) s r ks) _ _ n h reply in
     let st = load-store s r b ks in

@@ -14,7 +14,7 @@ use Rattle.tree.specs.Book.{labels-of}
 use Rattle.calls.specs.Store.{Store, count, row, width}
 use Rattle.calls.specs.Sound.{sound}
 use Rattle.calls.specs.Words.{words-of, Says, follow, read, in-front}
-use Rattle.calls.specs.Replies.{on-store, refusal-over, store-or, said, written}
+use Rattle.calls.specs.Replies.{on-store, refusal-over, store-or, said, written, replied}
 use Rattle.calls.specs.Promise.{Reader-right}
 use Rattle.calls_laws.proofs.Tests.{passes, facts-of}
 use Rattle.calls_laws.proofs.Fields.{length-words, Header-says, header-says}
@@ -75,11 +75,11 @@ length-in-front new old l = length-append new (drop (length new) old) ∙ omega 
 -- THE WORDS AFTER A CALL that writes where its refusal is 0: they say the new store, or still the old one
 pub written-says : (ws : List ℕ) (st su : Store) (refusal : ℕ) → Says ws st → (refusal ≡ 0 → sound su ≡ true) →
     Says (written refusal (words-of su) ws) (cond (eqb refusal 0) su st)
-unfolding written
+unfolding written replied
 written-says ws st su zero h good = says-in-front ws su (good refl)
 written-says ws st su (suc k) h good = rw (eqb·suc-zero k) h
 
 pub length-written : (refusal : ℕ) (new old : List ℕ) → (refusal ≡ 0 → length new ≤ length old) → length (written refusal new old) ≡ length old
-unfolding written
+unfolding written replied
 length-written zero new old fit = length-in-front new old (fit refl)
 length-written (suc k) new old fit = refl

@@ -9,8 +9,7 @@ use native.Mathlib.Omega.{arith}
 use Rattle.store_types.specs.declared.HeldPair.{HeldPair}
 use Rattle.store_types.specs.declared.Answer.{Answer}
 use Rattle.store_types.specs.declared.Answer.the-variants.{Yes, No, Stale}
-use Rattle.store_types.specs.declared.QuestionReply.{QuestionReply}
-use Rattle.store_types.specs.declared.QuestionReply.the-variants.{Answered}
+use Rattle.store_types.specs.declared.QuestionReply.the-variants.{Answered, Refused}
 use Rattle.store_types.specs.declared.HoldReply.the-variants as held
 use Rattle.store_types.specs.Layout.{at-book, at-mate, word-at, field, label-at}
 use Rattle.calls.specs.Kind.{Kind, begin, end, text, code, kind-word, is-begin}
@@ -18,13 +17,14 @@ use Rattle.calls.specs.Store.{Store, fact, count, row, label}
 use Rattle.calls.specs.Mark.{section-refusal}
 use Rattle.calls.specs.Held.{hold-pair, question}
 use Rattle.calls.specs.Words.{Says}
-use Rattle.calls.specs.Replies.{said, refusal-over, question-outcome, question-reply, hold-outcome, hold-reply}
+use Rattle.calls.specs.Replies.{said, refusal-over, replied, question-reply, hold-reply}
 use Rattle.calls.specs.Promise.{Encloses, Current, Asked, Pairs-right}
 use Rattle.calls_laws.proofs.Reader.{kind-back}
 use Rattle.calls_laws.proofs.Sections.{distinct-row, in-row, mate-fits}
 use Rattle.calls_laws.proofs.Marks.{accepted-section}
 use Rattle.calls_laws.proofs.Pairs.{pairs-right}
 use Rattle.calls_laws.proofs.WordSteps.{said-store, refusal-said, refusal-passed, header-said}
+use Rattle.calls_laws.proofs.Replies.{replied-accepted}
 use Rattle.demands.specs.Words.{is-marked}
 use Rattle.demands.specs.Promise.{Asked-words, Current-words, Enclosed, Question-right, Hold-right}
 use Rattle.demands.proofs.Said.{sound-said, tag-said, book-row}
@@ -113,18 +113,13 @@ module _ (ws : List ℕ) (st : Store) (h : Says ws st) where
           )
 
 -- AN ANSWER is over words that say a store, and the store's
-question-answered : (k : ℕ) (q : QuestionReply) (a : Answer) → question-outcome k q ≡ Answered a → (k ≡ 0) × (q ≡ Answered a)
-unfolding question-outcome
-question-answered zero q a e = (refl, e)
-question-answered (suc k) q a e = let z : _≡_ {A = ℕ} 0 1 = cc in absurd (omega arith)
-
 answered-said : (p : HeldPair) (d : ℕ) (ws : List ℕ) (a : Answer) → question-reply p d ws ≡ Answered a → Says ws (said ws) × (question p d (said ws) ≡ Answered a)
 unfolding question-reply
 answered-said p d ws a e =
-    let (z, q) = question-answered (refusal-over ws (λ st. 0)) (question p d (said ws)) a e in (refusal-passed ws (λ st. 0) z .0, q)
+    let (z, q) = replied-accepted Refused (refusal-over ws (λ st. 0)) (question p d (said ws)) (Answered a) (λ i e. let z : _≡_ {A = ℕ} 0 1 = cc in omega arith) e in (refusal-passed ws (λ st. 0) z .0, q)
 
 said-answered : (p : HeldPair) (d : ℕ) (ws : List ℕ) (st : Store) → Says ws st → question-reply p d ws ≡ question p d st
-unfolding question-reply question-outcome
+unfolding question-reply replied
 said-answered p d ws st h = rw (refusal-said ws st h (λ st. 0), said-store ws st h)
 
 -- yes, no and stale, each if and only if
@@ -175,10 +170,9 @@ question-right p d ws =
         let b = said-asked ws st h p d a in inr (e ∙ header-said ws st h .number, b, λ c. n (current-said ws st h p (b .tag) c))
 
 -- HOLD
-held-said : (k : ℕ) (p q : HeldPair) → hold-outcome k p ≡ held.Held q → (k ≡ 0) × (p ≡ q)
-unfolding hold-outcome
-held-said zero p q e = (refl, cc)
-held-said (suc k) p q e = let z : _≡_ {A = ℕ} 0 1 = cc in absurd (omega arith)
+held-said : (k : ℕ) (p q : HeldPair) → replied held.Refused k (held.Held p) ≡ held.Held q → (k ≡ 0) × (p ≡ q)
+held-said k p q e =
+    let (z, same) = replied-accepted held.Refused k (held.Held p) (held.Held q) (λ i f. let n : _≡_ {A = ℕ} 0 1 = cc in omega arith) e in (z, cc)
 
 pub hold-right : Hold-right
 unfolding Hold-right hold-reply hold-pair

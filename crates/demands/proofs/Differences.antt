@@ -8,8 +8,9 @@ use native.Mathlib.Nat.{zero-add}
 use native.Mathlib.Omega.{arith}
 use lib.Dec.{eqb}
 use lib.ListN.{length, getD, length-append}
-use Rattle.store_types.specs.declared.InsertReply.the-variants.{Inserted}
-use Rattle.store_types.specs.declared.MarkReply.the-variants.{Marked}
+use Rattle.store_types.specs.declared.InsertReply.the-variants as inserting
+use Rattle.store_types.specs.declared.MarkReply.the-variants as marking
+use Rattle.store_types.specs.declared.TagId.{TagId}
 use Rattle.lists.proofs.Tests.{by-test}
 use Rattle.store_types.specs.Layout.{label-at}
 use Rattle.lists.specs.Lists.{numbers}
@@ -21,7 +22,7 @@ use Rattle.calls.specs.Nesting.{new-facts}
 use Rattle.calls.specs.Insert.{insert-kinds, position, up-at, book-after, insert-store, insert-moved, insert-refusal}
 use Rattle.calls.specs.Mark.{within, mark-store, new-marks, mark-count, section-refusal}
 use Rattle.calls.specs.Words.{Says}
-use Rattle.calls.specs.Replies.{said, refusal-over, written, insert-outcome, insert-refused, insert-reply, insert-words, mark-outcome, mark-reply, mark-words}
+use Rattle.calls.specs.Replies.{said, refusal-over, replied, written, insert-refused, insert-reply, insert-words, mark-reply, mark-words}
 use Rattle.calls.specs.Calls.{insert, mark, refusal, changed}
 use Rattle.calls_laws.proofs.Reader.{kind-back}
 use Rattle.calls_laws.proofs.Sections.{distinct-row, row-below}
@@ -29,6 +30,7 @@ use Rattle.calls_laws.proofs.Inserts.{row-degrees}
 use Rattle.calls_laws.proofs.Marks.{length-marked, mark-of}
 use Rattle.calls_laws.proofs.Steps.{changed-sound}
 use Rattle.calls_laws.proofs.WordSteps.{refusal-passed, header-said, says-in-front}
+use Rattle.calls_laws.proofs.Replies.{replied-accepted}
 use Rattle.walk_model.proofs.Passes.{total}
 use Rattle.walk_model.proofs.Counts.{total-same}
 use Rattle.demands.specs.Words.{is-marked, count-below, labels-changed, became-marked}
@@ -66,10 +68,9 @@ moved-total w k m (x ∷ xs) =
     by-test (eqb (label-of w k x) (label-of w m x)) (λ e. rw e (omega (arith, moved-total w k m xs))) (λ e. rw e (omega (arith, moved-total w k m xs)))
 
 -- a reply that says so is that of an accepted insertion
-inserted-said : (k x m h x′ m′ h′ : ℕ) → insert-outcome k x m h ≡ Inserted (record { 0 = x′ }) m′ h′ → (k ≡ 0) × (m ≡ m′)
-unfolding insert-outcome
-inserted-said zero x m h x′ m′ h′ e = (refl, cc)
-inserted-said (suc k) x m h x′ m′ h′ e = let z : _≡_ {A = ℕ} 0 1 = cc in absurd (omega arith)
+inserted-said : (k : ℕ) (x y : TagId) (m h m′ h′ : ℕ) → replied inserting.Refused k (inserting.Inserted x m h) ≡ inserting.Inserted y m′ h′ → (k ≡ 0) × (m ≡ m′)
+inserted-said k x y m h m′ h′ e =
+    let (z, same) = replied-accepted inserting.Refused k (inserting.Inserted x m h) (inserting.Inserted y m′ h′) (λ i f. let n : _≡_ {A = ℕ} 0 1 = cc in omega arith) e in (z, cc)
 
 module _ (c y : ℕ) (ws : List ℕ) (z : insert-refused c y ws ≡ 0) where
   abbrev st : Store
@@ -83,7 +84,7 @@ module _ (c y : ℕ) (ws : List ℕ) (z : insert-refused c y ws ≡ 0) where
   says = refusal-passed ws (insert-refusal (length ws) c y) z .0
 
   says-after : Says (insert-words c y ws) su
-  unfolding insert-words written refusal changed Says insert-refused
+  unfolding insert-words written replied refusal changed Says insert-refused
   says-after =
       let fine = refusal-passed ws (insert-refusal (length ws) c y) z .1 in
       rw z (says-in-front ws su (changed-sound (length ws) (insert c y) st (says .0) fine))
@@ -114,13 +115,12 @@ module _ (c y : ℕ) (ws : List ℕ) (z : insert-refused c y ws ≡ 0) where
 pub moved-right : Moved-right
 unfolding Moved-right insert-reply
 moved-right c y x m h ws e =
-    let (z, same) = inserted-said (insert-refused c y ws) _ _ _ x m h e in sym same ∙ moved-words c y ws z
+    let (z, same) = inserted-said (insert-refused c y ws) _ (record { 0 = x }) _ _ m h e in sym same ∙ moved-words c y ws z
 
 -- MARKED
-marked-said : (k n n′ : ℕ) → mark-outcome k n ≡ Marked n′ → (k ≡ 0) × (n ≡ n′)
-unfolding mark-outcome
-marked-said zero n n′ e = (refl, cc)
-marked-said (suc k) n n′ e = let z : _≡_ {A = ℕ} 0 1 = cc in absurd (omega arith)
+marked-said : (k n n′ : ℕ) → replied marking.Refused k (marking.Marked n) ≡ marking.Marked n′ → (k ≡ 0) × (n ≡ n′)
+marked-said k n n′ e =
+    let (z, same) = replied-accepted marking.Refused k (marking.Marked n) (marking.Marked n′) (λ i f. let n : _≡_ {A = ℕ} 0 1 = cc in omega arith) e in (z, cc)
 
 new-total : (st : Store) (x d : ℕ) (ts : List Fact) (g : ℕ → ℕ) →
     ((i : ℕ) → i < length ts → g (d + i) ≡ cond (not (getD ts i no-fact .marked) && within st x (d + i)) 1 0) → new-marks st x d ts ≡ total g (numbers d (length ts))
@@ -146,7 +146,7 @@ module _ (x : ℕ) (ws : List ℕ) (z : refusal-over ws (section-refusal x) ≡ 
   said-before = refusal-passed ws (section-refusal x) z .0
 
   said-after : Says (mark-words x ws) after
-  unfolding mark-words written refusal changed Says
+  unfolding mark-words written replied refusal changed Says
   said-after =
       let fine = refusal-passed ws (section-refusal x) z .1 in
       rw z (says-in-front ws after (changed-sound (length ws) (mark x) before (said-before .0) fine))

@@ -9,6 +9,7 @@ use lib.Dec.{ltb, leb, eqb, eqb·suc-zero}
 use lib.ListN.{length, drop, length-map}
 use lib.Seq.{take-append-seam, drop-append-seam}
 use Rattle.store_types.specs.Limits.{no-tag}
+use Rattle.store_types.specs.declared.ListReply.the-variants.{Listed, Refused}
 use Rattle.lists.proofs.Tests.{by-test, or-left-false, or-right-false}
 use Rattle.calls.specs.Kind.{is-begin}
 use Rattle.calls.specs.Store.{Store, fact, count, label}
@@ -18,12 +19,13 @@ use Rattle.calls.specs.Insert.{insert-kinds, insert-refusal, insert-store}
 use Rattle.calls.specs.Mark.{section-refusal, mark-store}
 use Rattle.calls.specs.Listing.{listed-tags, listed-labels, list-refusal}
 use Rattle.calls.specs.Words.{words-of, Says, in-front}
-use Rattle.calls.specs.Replies.{said, refusal-over, written, load-reply, load-words, insert-refused, insert-reply, insert-words, mark-reply, mark-words, list-outcome, list-refused, list-reply, list-tags, list-labels}
+use Rattle.calls.specs.Replies.{said, refusal-over, replied, written, load-reply, load-words, insert-refused, insert-reply, insert-words, mark-reply, mark-words, list-refused, list-reply, list-tags, list-labels}
 use Rattle.calls.specs.Calls.{Call, insert, mark, refusal, changed, loads, inserts, marks, holds, asks, lists, Happens, load-accepted, insert-accepted, mark-accepted}
 use Rattle.calls.specs.Promise.{Load-sound}
 use Rattle.calls_laws.proofs.Tests.{passes}
 use Rattle.calls_laws.proofs.Steps.{load-sound, changed-sound}
 use Rattle.calls_laws.proofs.WordSteps.{words-fit, refusal-passed, length-in-front}
+use Rattle.calls_laws.proofs.Replies.{replied-told}
 use Rattle.calls_laws.proofs.RunsKeep.{load-fits, changed-fits, load-told, insert-told, mark-told}
 use Rattle.demands.specs.Words.{Fronted}
 use Rattle.demands.specs.Promise.{listed, accepted, changes, Lists-stay, Lists-hold, Every-call}
@@ -41,7 +43,7 @@ fronted new old l =
 -- what is written by a call with refusal k that `yes` tells of
 module _ (k : ℕ) (yes : Bool) (told : yes ≡ eqb k 0) (new old : List ℕ) where
   written-stays : yes ≡ false → written k new old ≡ old
-  unfolding written
+  unfolding written replied
   written-stays e = go k (sym told ∙ e)
     where
       go : (j : ℕ) → eqb j 0 ≡ false → written j new old ≡ old
@@ -56,7 +58,7 @@ module _ (k : ℕ) (yes : Bool) (told : yes ≡ eqb k 0) (new old : List ℕ) wh
       go (suc j) f = absurd (true≢false (sym f ∙ eqb·suc-zero j))
 
   written-fronted : (k ≡ 0 → length new ≤ length old) → yes ≡ true → Fronted new old (written k new old)
-  unfolding written
+  unfolding written replied
   written-fronted fits e = let z = zero-told e in rw z (fronted new old (fits z))
 
 -- THE CALLS THAT CHANGE
@@ -74,10 +76,9 @@ change-right c ws z =
     (good, changed-fits (length ws) c (said ws) (says .0) (words-fit ws (said ws) says) fine good)
 
 -- LIST
-list-told : (k n : ℕ) → listed (list-outcome k n) ≡ eqb k 0
-unfolding listed list-outcome
-list-told zero n = refl
-list-told (suc k) n = sym (eqb·suc-zero k)
+list-told : (k n : ℕ) → listed (replied Refused k (Listed n)) ≡ eqb k 0
+unfolding listed
+list-told k n = replied-told Refused listed k (Listed n) refl (λ i. refl)
 
 -- an accepted list fits both lent lists
 list-fits : (t l x : ℕ) (st : Store) → list-refusal t l x st ≡ 0 → (length (listed-tags x st) ≤ t) × (length (listed-tags x st) ≤ l)

@@ -10,7 +10,7 @@ use borrow.Author.Tests.{lt-ltb, le-ltb, leb-false, not-false, eqb-true, eqb-fal
 use lib.Dec.{leb, eqb}
 use lib.ListN.{length, take, drop, length-append}
 use Rattle.store_types.specs.Limits.{no-tag}
-use Rattle.store_types.specs.declared.ListReply.the-variants.{Listed}
+use Rattle.store_types.specs.declared.ListReply.the-variants.{Listed, Refused}
 use Rattle.lists.proofs.Tests.{by-test}
 use Rattle.store_types.specs.Layout.{label-at}
 use Rattle.tree.specs.Row.{member, place}
@@ -20,12 +20,13 @@ use Rattle.calls.specs.Store.{Store, fact, count, row, place-of, label}
 use Rattle.calls.specs.Held.{encloses}
 use Rattle.calls.specs.Listing.{is-listed, listed-of, listed-tags, listed-labels, list-refusal}
 use Rattle.calls.specs.Words.{Says}
-use Rattle.calls.specs.Replies.{said, refusal-over, list-outcome, list-refused, list-reply, list-tags, list-labels}
+use Rattle.calls.specs.Replies.{said, refusal-over, replied, list-refused, list-reply, list-tags, list-labels}
 use Rattle.calls.specs.Calls.{lists, Happens}
 use Rattle.calls_laws.proofs.Tests.{Sound, passes}
 use Rattle.calls_laws.proofs.Nesting.{Step, begins, ends, stands, Closed}
 use Rattle.calls_laws.proofs.Sections.{place-at, place-first-part, place-middle-part, place-last-part, distinct-row, row-below, row-at, At, pass-at, closed-at}
 use Rattle.calls_laws.proofs.WordSteps.{refusal-passed}
+use Rattle.calls_laws.proofs.Replies.{replied-accepted}
 use Rattle.demands.specs.Words.{is-marked, unmarked-of, Inside}
 use Rattle.demands.specs.Promise.{listed, accepted, Lists-hold, Every-call, List-right}
 use Rattle.demands.proofs.Said.{sound-said, tag-said, book-row}
@@ -177,10 +178,9 @@ module _ (ws : List ℕ) (st : Store) (h : Says ws st) where
       let at = pass-at own x l in
       section-found x l e (closes x l (not-false _ (g .0)) at (at .step)))
 
-listed-said : (k m n : ℕ) → list-outcome k m ≡ Listed n → (k ≡ 0) × (m ≡ n)
-unfolding list-outcome
-listed-said zero m n e = (refl, cc)
-listed-said (suc k) m n e = let z : _≡_ {A = ℕ} 0 1 = cc in absurd (omega arith)
+listed-said : (k m n : ℕ) → replied Refused k (Listed m) ≡ Listed n → (k ≡ 0) × (m ≡ n)
+listed-said k m n e =
+    let (z, same) = replied-accepted Refused k (Listed m) (Listed n) (λ i f. let n : _≡_ {A = ℕ} 0 1 = cc in omega arith) e in (z, cc)
 
 -- what an accepted list writes
 pub list-right : List-right

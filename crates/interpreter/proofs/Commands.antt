@@ -17,7 +17,7 @@ use Rattle.lists.specs.Lists.{same}
 use Rattle.calls.specs.Store.{Store, label}
 use Rattle.calls.specs.Listing.{list-refusal, listed-tags, listed-labels}
 use Rattle.calls.specs.Words.{read, in-front}
-use Rattle.calls.specs.Replies.{on-store, refusal-over, store-or, said, written, list-outcome, load-words, list-refused, list-reply, list-tags, list-labels}
+use Rattle.calls.specs.Replies.{on-store, refusal-over, store-or, said, replied, written, load-words, list-refused, list-reply, list-tags, list-labels}
 use Rattle.console.specs.Line.{Parsed, unknown, plain, parsed, fields, number-of, place-of, all-letters, letter-kind, load-of, insert-of, mark-of, command-of, line-limit, load-word, list-word, element-word, text-word, mark-word}
 use Rattle.reply_text.specs.Text.{reply-line, tag-lines, end-line}
 use Rattle.console.specs.Post.{Gives}
@@ -134,19 +134,19 @@ module _ (ws ts ls : List ℕ) (a : length ts ≡ book-tags) (b : length ls ≡ 
   prints = rw (a, b)
 
   list-few : (n : ℕ) → Listed n ≡ list-reply no-tag ws ts ls → n ≤ book-tags
-  unfolding list-reply list-outcome
+  unfolding list-reply replied
   list-few n e = go (list-refused no-tag ws ts ls) refl e
     where
-      go : (k : ℕ) → list-refused no-tag ws ts ls ≡ k → Listed n ≡ list-outcome k (length (listed-tags no-tag (said ws))) → n ≤ book-tags
+      go : (k : ℕ) → list-refused no-tag ws ts ls ≡ k → Listed n ≡ replied Refused k (Listed (length (listed-tags no-tag (said ws)))) → n ≤ book-tags
       go zero q z = let m : n ≡ length (listed-tags no-tag (said ws)) = cc in rw m (few q)
       go (suc k) q z = absurd (let y : _≡_ {A = ℕ} 0 1 = cc in omega arith)
 
   list-listed : (n : ℕ) → Listed n ≡ list-reply no-tag ws ts ls →
       list-text ws ≡ tag-lines (take n (list-tags no-tag ws ts ls)) (take n (list-labels no-tag ws ts ls)) ++ end-line n
-  unfolding list-reply list-outcome list-tags list-labels listed-labels written listing in-front
+  unfolding list-reply replied list-tags list-labels listed-labels written listing in-front
   list-listed n e = prints ∙ go (list-refused no-tag ws ts ls) e
     where
-      go : (k : ℕ) → Listed n ≡ list-outcome k (length (listed-tags no-tag (said ws))) →
+      go : (k : ℕ) → Listed n ≡ replied Refused k (Listed (length (listed-tags no-tag (said ws)))) →
           listing k (listed-tags no-tag (said ws)) (listed-labels no-tag (said ws)) ≡
           tag-lines (take n (written k (listed-tags no-tag (said ws)) ts)) (take n (written k (listed-labels no-tag (said ws)) ls)) ++ end-line n
       go zero z =
@@ -167,9 +167,9 @@ module _ (ws ts ls : List ℕ) (a : length ts ≡ book-tags) (b : length ls ≡ 
   list-yes q n ts' ls' e f k m = rw (k, m) (sym (list-listed n (sym f ∙ e)))
 
   pub list-no : (q : ListReply) (k : ℕ) → q ≡ list-reply no-tag ws ts ls → q ≡ Refused k → reply-line (k ∷ []) ≡ list-text ws
-  unfolding list-reply list-outcome listing
+  unfolding list-reply replied listing
   list-no q k e f = sym (prints ∙ go (list-refused no-tag ws ts ls) (sym f ∙ e))
     where
-      go : (j : ℕ) → Refused k ≡ list-outcome j (length (listed-tags no-tag (said ws))) → listing j (listed-tags no-tag (said ws)) (listed-labels no-tag (said ws)) ≡ reply-line (k ∷ [])
+      go : (j : ℕ) → Refused k ≡ replied Refused j (Listed (length (listed-tags no-tag (said ws)))) → listing j (listed-tags no-tag (said ws)) (listed-labels no-tag (said ws)) ≡ reply-line (k ∷ [])
       go zero z = absurd (let y : _≡_ {A = ℕ} 0 1 = cc in omega arith)
       go (suc j) z = let q : k ≡ suc j = cc in rw q

@@ -3,7 +3,7 @@ use mathlib.Core.Path.{_≡_, refl, sym, _∙_}
 use mathlib.Core.Bool.{Bool, true, false, _&&_, not, cond, true≢false, and-false, or-true}
 use mathlib.Core.List.{List}
 use mathlib.Core.Logic.{_⊎_, inl, inr}
-use Prim.Native.Nat.{ℕ, zero, suc, _%_, _≤_, _<_}
+use Prim.Native.Nat.{ℕ, _%_, _≤_, _<_}
 use borrow.Author.Tests.{eq-eqb, ne-eqb, lt-leb, le-leb, lt-ltb, le-ltb, leb-true, leb-false, eqb-true, not-true, not-false}
 use lib.Dec.{ltb, leb, eqb}
 use Rattle.store_types.specs.declared.TagId.{TagId}
@@ -11,7 +11,6 @@ use Rattle.store_types.specs.declared.Label.{Label}
 use Rattle.store_types.specs.declared.HeldPair.{HeldPair}
 use Rattle.store_types.specs.declared.Answer.the-variants.{Yes, No, Stale}
 use Rattle.store_types.specs.declared.HoldReply.the-variants as hold
-use Rattle.store_types.specs.declared.QuestionReply.{QuestionReply}
 use Rattle.store_types.specs.declared.QuestionReply.the-variants as asked
 use Rattle.lists.proofs.Tests.{and-left, and-right, by-test}
 use Rattle.store_types.specs.Layout.{at-count, at-book, at-kind, word-at, field, label-at}
@@ -20,11 +19,12 @@ use Rattle.calls.specs.Store.{fact, count, label}
 use Rattle.calls.specs.Mark.{section-refusal}
 use Rattle.calls.specs.Held.{hold-pair, encloses, current, question}
 use Rattle.calls.specs.Words.{Says}
-use Rattle.calls.specs.Replies.{refusal-over, said, hold-outcome, hold-reply, question-outcome, question-reply}
+use Rattle.calls.specs.Replies.{refusal-over, said, replied, hold-reply, question-reply}
 use Rattle.calls.specs.Promise.{Labels-tell}
 use Rattle.calls_laws.proofs.Marks.{accepted-section}
 use Rattle.calls_laws.proofs.Pairs.{labels-tell}
 use Rattle.calls_laws.proofs.WordSteps.{header-said}
+use Rattle.calls_laws.proofs.Replies.{replied-refused}
 use Rattle.store_refuse.specs.Needs.{Tag-said}
 use Rattle.store_held.specs.Needs.{Pair-asked}
 use Rattle.store_refuse.proofs.Laws.{refused-said, accepted-says, accepted-store, words-of-tag, kind-of-tag, mate-of-tag, no-tag-from}
@@ -37,14 +37,9 @@ pub are-same : (a b : ℕ) {t : Bool} → t ≡ eqb a b → not t ≡ false → 
 are-same a b e n = eqb-true a b (sym e ∙ not-false _ n)
 
 -- HOLD
-hold-refuses : (k : ℕ) (p : HeldPair) → (k ≡ 0 → ⊥) → hold.Refused k ≡ hold-outcome k p
-unfolding hold-outcome
-hold-refuses zero p n = absurd (n refl)
-hold-refuses (suc k) p n = refl
-
 pub hold-refused : (ws : List ℕ) (x k : ℕ) → k ≡ refusal-over ws (section-refusal x) → (k ≡ 0 → ⊥) → hold.Refused k ≡ hold-reply x ws
 unfolding hold-reply
-hold-refused ws x k e n = rw (← e) (hold-refuses k (hold-pair x (said ws)) n)
+hold-refused ws x k e n = rw (← e) (replied-refused hold.Refused k _ n)
 
 pub section-tag : (ws : List ℕ) (x : ℕ) → refusal-over ws (section-refusal x) ≡ 0 → Tag-said ws x
 section-tag ws x e =
@@ -55,7 +50,7 @@ section-tag ws x e =
 
 pub hold-held : (ws : List ℕ) (t : TagId) (a b : Label) → refusal-over ws (section-refusal (t .0)) ≡ 0 → a .0 ≡ label-at ws (t .0) →
     b .0 ≡ label (said ws) (fact (said ws) (t .0) .mate) → hold.Held (record { book = word-at ws at-book; tag = t; start = a; end = b }) ≡ hold-reply (t .0) ws
-unfolding hold-reply hold-outcome hold-pair
+unfolding hold-reply replied hold-pair
 hold-held ws t a b e s f =
     let h = section-tag ws (t .0) e in
     let number = header-said ws (said ws) (h .says) .number in
@@ -63,18 +58,13 @@ hold-held ws t a b e s f =
     rw (e, ← number, ← starts, ← f)
 
 -- THE QUESTION
-question-refuses : (k : ℕ) (q : QuestionReply) → (k ≡ 0 → ⊥) → asked.Refused k ≡ question-outcome k q
-unfolding question-outcome
-question-refuses zero q n = absurd (n refl)
-question-refuses (suc k) q n = refl
-
 pub question-refused : (ws : List ℕ) (p : HeldPair) (d k : ℕ) → k ≡ refusal-over ws (λ st. 0) → (k ≡ 0 → ⊥) → asked.Refused k ≡ question-reply p d ws
 unfolding question-reply
-question-refused ws p d k e n = rw (← e) (question-refuses k (question p d (said ws)) n)
+question-refused ws p d k e n = rw (← e) (replied-refused asked.Refused k _ n)
 
 module _ (ws : List ℕ) (p : HeldPair) (d : ℕ) where
   replies : Says ws (said ws) → question-reply p d ws ≡ question p d (said ws)
-  unfolding question-reply question-outcome
+  unfolding question-reply replied
   replies says = rw (refused-said ws (λ st. 0) says)
 
   pub other-book : Says ws (said ws) → (p .book ≡ word-at ws at-book → ⊥) → asked.Answered Stale ≡ question-reply p d ws

@@ -13,10 +13,11 @@ use Rattle.store_types.specs.Layout.{at-count, at-stamp, header-words, word-at}
 use Rattle.lists.proofs.Tests.{by-test}
 use Rattle.calls.specs.Insert.{insert-kinds, insert-store}
 use Rattle.calls.specs.Words.{words-of, Says, in-front}
-use Rattle.calls.specs.Replies.{said, written, insert-outcome, insert-refused, insert-reply, insert-words}
+use Rattle.calls.specs.Replies.{said, replied, written, insert-refused, insert-reply, insert-words}
 use Rattle.calls_laws.proofs.Fields.{header-says}
 use Rattle.calls_laws.proofs.Marks.{marked-few}
 use Rattle.calls_laws.proofs.WordSteps.{header-said}
+use Rattle.calls_laws.proofs.Replies.{replied-refused}
 use Rattle.edit_model.specs.Insert.{stamped}
 use Rattle.edit_model.proofs.Inserted.{Edit-right, text-right}
 use Rattle.edit_model.proofs.Elements.{element-right}
@@ -26,19 +27,9 @@ use Rattle.store_insert.specs.Needs.{Edits}
 use Rattle.store_insert.proofs.Accepted.{says-accepted, store-accepted, kind-accepted}
 
 -- REFUSED: k is the refusal
-refused-outcome : (k x m s : ℕ) → (k ≡ 0 → ⊥) → Refused k ≡ insert-outcome k x m s
-unfolding insert-outcome
-refused-outcome zero x m s n = absurd (n refl)
-refused-outcome (suc k) x m s n = refl
-
-unwritten : (k : ℕ) (new old : List ℕ) → (k ≡ 0 → ⊥) → old ≡ written k new old
-unfolding written
-unwritten zero new old n = absurd (n refl)
-unwritten (suc k) new old n = refl
-
 pub refused-all : (ws : List ℕ) (c y : ℕ) {k : ℕ} → k ≡ insert-refused c y ws → (k ≡ 0 → ⊥) → (Refused k ≡ insert-reply c y ws) × (ws ≡ insert-words c y ws)
-unfolding insert-reply insert-words
-refused-all ws c y {k} e n = (rw (← e) (refused-outcome k _ _ _ n), rw (← e) (unwritten k _ ws n))
+unfolding insert-reply insert-words written
+refused-all ws c y {k} e n = rw (← e) (replied-refused Refused k _ n, replied-refused (λ _. ws) k _ n)
 
 -- ACCEPTED
 module _ (ws : List ℕ) (c y : ℕ) (z : insert-refused c y ws ≡ 0) where
@@ -67,6 +58,6 @@ module _ (ws : List ℕ) (c y : ℕ) (z : insert-refused c y ws ≡ 0) where
         omega (arith, there, said-there, own .stamp-fits, own .few, marked-few (said ws .facts))
 
     pub accepted-all : (Inserted (record { 0 = word-at ws at-count }) m s ≡ insert-reply c y ws) × (set vs 7 (word-at vs at-stamp + 1) ≡ insert-words c y ws)
-    unfolding insert-reply insert-words insert-outcome written stamped
+    unfolding insert-reply insert-words written replied stamped
     accepted-all =
         (rw (z, header-said ws (said ws) (says-accepted ws c y z) .issued, e .moved-is, e .split-is, right .moved-is, right .split-is), rw (z, add-one) stamped-are)

@@ -12,8 +12,9 @@ use Rattle.store_types.specs.declared.ListReply.the-variants.{Listed, Refused}
 use Rattle.calls.specs.Store.{label}
 use Rattle.calls.specs.Listing.{listed-tags, listed-labels, list-refusal}
 use Rattle.calls.specs.Words.{in-front}
-use Rattle.calls.specs.Replies.{refusal-over, said, written, list-outcome, list-refused, list-reply, list-tags, list-labels}
+use Rattle.calls.specs.Replies.{refusal-over, said, replied, written, list-refused, list-reply, list-tags, list-labels}
 use Rattle.store_list.specs.Needs.{unmarked-between, inside-refusal, first-inside, stop-of, short}
+use Rattle.calls_laws.proofs.Replies.{replied-refused}
 use Rattle.store_refuse.proofs.Laws.{refused-first, refused-said, accepted-says, accepted-store}
 use Rattle.store_list.proofs.ListRefusals.{list-refused-first, list-refused-last}
 use Rattle.store_list.proofs.Listed.{listed-is}
@@ -46,15 +47,10 @@ module _ (n a b : ℕ) where
   short-fits e t = let both = neither (ltb a n) (ltb b n) (sym e ∙ t) in (ltb-false a n (both .0), ltb-false b n (both .1))
 
 -- REFUSED, before 11 and with 11
-refuses : (k n : ℕ) (us vs ts ls : List ℕ) → (k ≡ 0 → ⊥) → (Refused k ≡ list-outcome k n) × ((ts ≡ written k us ts) × (ls ≡ written k vs ls))
-unfolding list-outcome written
-refuses zero n us vs ts ls m = absurd (m refl)
-refuses (suc k) n us vs ts ls m = (refl, (refl, refl))
-
 module _ (ws : List ℕ) (x : ℕ) (ts ls : List ℕ) where
   refused-by : (k : ℕ) → k ≡ list-refused x ws ts ls → (k ≡ 0 → ⊥) → Replied (Refused k) x ws ts ls ts ls
-  unfolding list-reply list-tags list-labels
-  refused-by k e n = rw (← e) (refuses k (length (listed-tags x (said ws))) (listed-tags x (said ws)) (listed-labels x (said ws)) ts ls n)
+  unfolding list-reply list-tags list-labels written
+  refused-by k e n = rw (← e) (replied-refused Refused k _ n, (replied-refused (λ _. ts) k _ n, replied-refused (λ _. ls) k _ n))
 
   pub list-refuses : (k : ℕ) → k ≡ refusal-over ws (inside-refusal x) → (k ≡ 0 → ⊥) → Replied (Refused k) x ws ts ls ts ls
   unfolding list-refused
@@ -80,6 +76,6 @@ module _ (ws : List ℕ) (x : ℕ) (ts ls : List ℕ) where
 
     pub list-lists : (n : ℕ) → n ≡ length (unmarked-between (said ws) a b) → n ≤ length ts → n ≤ length ls →
         Replied (Listed n) x ws ts ls (in-front (unmarked-between (said ws) a b) ts) (in-front (map (label (said ws)) (unmarked-between (said ws) a b)) ls)
-    unfolding list-reply list-tags list-labels list-outcome written listed-labels
+    unfolding list-reply list-tags list-labels replied written listed-labels
     list-lists n m t l =
         rw (or-short, ← m, le-ltb (length ts) n t, le-ltb (length ls) n l, tags-are) (rw m, (refl, refl))

@@ -19,11 +19,12 @@ use Rattle.calls.specs.Nesting.{nests}
 use Rattle.calls.specs.Sound.{degrees-fit}
 use Rattle.calls.specs.Load.{all-kinds, load-refusal, load-store}
 use Rattle.calls.specs.Words.{words-of, in-front}
-use Rattle.calls.specs.Replies.{written, load-outcome, load-reply, load-words}
+use Rattle.calls.specs.Replies.{replied, written, load-reply, load-words}
 use Rattle.calls_laws.proofs.Tests.{passes, Degrees, degrees-of}
 use Rattle.calls_laws.proofs.Fields.{length-words}
 use Rattle.calls_laws.proofs.Steps.{Load-accepted, accepted-load}
 use Rattle.calls_laws.proofs.WordSteps.{length-in-front}
+use Rattle.calls_laws.proofs.Replies.{replied-refused}
 use Rattle.shape.specs.Needs.{power-fits}
 use Rattle.edit_model.specs.Image.{image-words}
 use Rattle.edit_model.proofs.Image.{length-image}
@@ -95,9 +96,8 @@ module _ (w s r : ℕ) (cs : List ℕ) where
 -- REFUSED: the reply is the refusal, and the words are as they were
 pub refused-with : (s r b : ℕ) (cs ws : List ℕ) (q : ℕ) → load-refusal (length ws) s r cs ≡ q → (q ≡ 0 → ⊥) →
     (load.Refused q ≡ load-reply s r b cs ws) × (ws ≡ load-words s r b cs ws)
-unfolding load-reply load-words load-outcome written
-refused-with s r b cs ws zero e some = absurd (some refl)
-refused-with s r b cs ws (suc k) e some = (rw e, rw e)
+unfolding load-reply load-words written
+refused-with s r b cs ws q e some = rw e (replied-refused load.Refused q _ some, replied-refused (λ _. ws) q _ some)
 
 -- the header has room, and behind it the tags
 pub header-room : {w s r : ℕ} {cs : List ℕ} → Passed w s r cs → header-words ≤ w
@@ -114,12 +114,12 @@ tags-fit s r u b cs ws hs h e =
 
 -- ACCEPTED, where u is the height of the root's children
 module _ (s r b : ℕ) (cs ws : List ℕ) (u : ℕ) (height : u ≡ load-under r (length cs)) (none : load-refusal (length ws) s r cs ≡ 0) where
-  pub replied : load.Loaded (length cs) (u + 1) ≡ load-reply s r b cs ws
-  unfolding load-reply load-outcome loaded
-  replied = rw (none, height, add-one)
+  pub accepted-reply : load.Loaded (length cs) (u + 1) ≡ load-reply s r b cs ws
+  unfolding load-reply replied loaded
+  accepted-reply = rw (none, height, add-one)
 
   new-words : words-of (load-store s r b cs) ++ drop (words-for header-words (length cs)) ws ≡ load-words s r b cs ws
-  unfolding load-words written in-front load-store
+  unfolding load-words written replied in-front load-store
   new-words = rw none (ap (λ (k : ℕ). words-of (load-store s r b cs) ++ drop k ws) (sym (length-words (load-store s r b cs) ∙ ap (words-for header-words) (count-new cs))))
 
   accepted : Load-accepted (length ws) s r cs

@@ -11,12 +11,13 @@ use Rattle.words.proofs.Fields.{header-fits}
 use Rattle.calls.specs.Store.{Store, count}
 use Rattle.calls.specs.Mark.{section-refusal, mark-store, mark-count}
 use Rattle.calls.specs.Words.{words-of, Says, in-front}
-use Rattle.calls.specs.Replies.{refusal-over, said, written, mark-outcome, mark-reply, mark-words}
+use Rattle.calls.specs.Replies.{refusal-over, said, replied, written, mark-reply, mark-words}
 use Rattle.calls_laws.proofs.Tests.{Sound, facts-of}
 use Rattle.calls_laws.proofs.Fields.{header-says}
 use Rattle.calls_laws.proofs.Sections.{Section, section}
 use Rattle.calls_laws.proofs.Marks.{marked-few, accepted-section}
 use Rattle.calls_laws.proofs.WordSteps.{refusal-passed, words-fit, header-said}
+use Rattle.calls_laws.proofs.Replies.{replied-refused}
 use Rattle.store_mark.specs.Run.{mark-each, count-new, tags-of}
 use Rattle.store_mark.proofs.Each.{length-each, each-header}
 use Rattle.store_mark.proofs.Own.{own-tags}
@@ -26,9 +27,9 @@ use Rattle.store_mark.proofs.Counted.{counted}
 -- REFUSED: the words stay
 pub refused : (x : ℕ) (ws : List ℕ) (k : ℕ) → k ≡ refusal-over ws (section-refusal x) → 0 < k →
     (reply.Refused k ≡ mark-reply x ws) × (ws ≡ mark-words x ws)
-unfolding mark-reply mark-words mark-outcome written
-refused x ws zero e some-refusal = absurd (omega arith)
-refused x ws (suc k) e some-refusal = rw (← e) (refl, refl)
+unfolding mark-reply mark-words written
+refused x ws k e some =
+    let n : k ≡ 0 → ⊥ = λ z. omega arith in rw (← e) (replied-refused reply.Refused k _ n, replied-refused (λ _. ws) k _ n)
 
 -- THE SECTION of an unmarked begin or text x: its tags are those that mark goes along, and so mark counts those that
 -- become marked and writes the words of the marked store
@@ -85,7 +86,7 @@ pub record Done (x : ℕ) (ws : List ℕ) (n : ℕ) (vs : List ℕ) : Type 0 whe
 
 pub done : (x : ℕ) (ws : List ℕ) {k n : ℕ} {vs : List ℕ} → k ≡ refusal-over ws (section-refusal x) → k ≡ 0 →
     n ≡ count-new ws (tags-of (word-at ws at-count) ws x) → vs ≡ mark-each ws (tags-of (word-at ws at-count) ws x) → Done x ws n vs
-unfolding mark-reply mark-words mark-outcome written
+unfolding mark-reply mark-words written replied
 done x ws {vs = vs} told none new put =
     let before = accepted x ws told none in
     let tags = tags-of (word-at ws at-count) ws x in

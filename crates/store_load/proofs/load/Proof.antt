@@ -6,7 +6,7 @@ use lib.ListN.{length}
 use Rattle.calls.specs.Load.{load-refusal}
 use Rattle.shape.proofs.HeaderLaws.{degrees-product}
 use Rattle.load_refuse.proofs.Height.{height-most}
-use Rattle.store_load.proofs.Outcome.{Passed, passed, early, too-wide, none-refused, refused-with, header-room, tags-fit, replied, labels-fit, all-written}
+use Rattle.store_load.proofs.Outcome.{Passed, passed, early, too-wide, none-refused, refused-with, header-room, tags-fit, accepted-reply, labels-fit, all-written}
 use borrow.Author.Needs.{needs}
 use native.Mathlib.Omega.{arith}
 use Rattle.store_load.proofs.load.Statement.{statement}
@@ -85,7 +85,7 @@ returns-3 : tie.Need-returns-3
 returns-3 c =
     let height = c .before .before .before .before .before .before .before .before .before .before .before .before .before .before .load-under .ensures in
     let free = none (c .before .before .before .before .before .before .before .before .before .before .before .before) in (
-      replied _ _ _ _ _ _ height free,
+      accepted-reply _ _ _ _ _ _ height free,
       c .before .before .write-labels .ensures ∙ all-written _ _ _ _ _ _ height free _ _ (c .before .before .before .before .before .before .before .before .before .before .write-header .ensures) (c .before .before .before .before .before .before .write-tags .ensures),
     )
 

@@ -1,0 +1,30 @@
+-- Replies by their refusal, for every call: what is accepted where it is 0, else the refusal. Assumes nothing.
+use mathlib.Core.Path.{_≡_, refl, sym}
+use mathlib.Core.Bool.{Bool, true, false, cond}
+use Prim.Native.Nat.{ℕ, zero, suc}
+use lib.Dec.{eqb, eqb·suc-zero}
+use Rattle.calls.specs.Replies.{replied}
+
+module _ {A : Type 0} (f : ℕ → A) where
+  pub replied-refused : (k : ℕ) (a : A) → (k ≡ 0 → ⊥) → f k ≡ replied f k a
+  unfolding replied
+  replied-refused zero a n = absurd (n refl)
+  replied-refused (suc k) a n = refl
+
+  -- a reply that is no refusal is the accepted one's
+  pub replied-accepted : (k : ℕ) (a b : A) → ((i : ℕ) → f i ≡ b → ⊥) → replied f k a ≡ b → (k ≡ 0) × (a ≡ b)
+  unfolding replied
+  replied-accepted zero a b other e = (refl, e)
+  replied-accepted (suc k) a b other e = absurd (other (suc k) e)
+
+  -- what is read from a reply
+  pub read-replied : {B : Type 0} (g : A → B) (k : ℕ) (a : A) → g (replied f k a) ≡ cond (eqb k 0) (g a) (g (f k))
+  unfolding replied
+  read-replied g zero a = refl
+  read-replied g (suc k) a = rw (eqb·suc-zero k)
+
+  -- a test that accepted replies pass and refusals do not tells whether the refusal is 0
+  pub replied-told : (g : A → Bool) (k : ℕ) (a : A) → g a ≡ true → ((i : ℕ) → g (f i) ≡ false) → g (replied f k a) ≡ eqb k 0
+  unfolding replied
+  replied-told g zero a passes fails = passes
+  replied-told g (suc k) a passes fails = rw (eqb·suc-zero k) (fails (suc k))
