@@ -1,7 +1,9 @@
 -- Held pairs and the question (document 01, "Calls and their replies"). Assumes nothing: these are definitions.
 use mathlib.Core.Bool.{Bool, _&&_, _||_, not, cond}
+use mathlib.Core.List.{List, [], _∷_}
 use Prim.Native.Nat.{ℕ}
 use lib.Dec.{leb, ltb, eqb}
+use Rattle.lists.specs.Lists.{first}
 use Rattle.store_types.specs.declared.HeldPair.{HeldPair}
 use Rattle.store_types.specs.declared.Answer.the-variants.{Yes, No, Stale}
 use Rattle.store_types.specs.declared.QuestionReply.{QuestionReply}
@@ -25,11 +27,14 @@ current st p =
 
 -- stale if the book number differs, 8 (pair, then d), 10, stale if a label differs or the section is marked, 9 for d,
 -- then yes or no (1 and 2 are the words')
+unfoldable pub question-tests : HeldPair → (d : ℕ) → Store → List (Bool × QuestionReply)
+question-tests p d st =
+    (not (eqb (p .book) (st .number)), asked.Answered Stale)
+    ∷ (leb (count st) (p .tag .0) || leb (count st) d, asked.Refused 8)
+    ∷ (not (is-begin (fact st (p .tag .0) .kind)), asked.Refused 10)
+    ∷ (not (current st p), asked.Answered Stale)
+    ∷ (fact st d .marked, asked.Refused 9)
+    ∷ []
+
 unfoldable pub question : HeldPair → (d : ℕ) → Store → QuestionReply
-question p d st =
-    cond (not (eqb (p .book) (st .number))) (asked.Answered Stale)
-    (cond (leb (count st) (p .tag .0) || leb (count st) d) (asked.Refused 8)
-    (cond (not (is-begin (fact st (p .tag .0) .kind))) (asked.Refused 10)
-    (cond (not (current st p)) (asked.Answered Stale)
-    (cond (fact st d .marked) (asked.Refused 9)
-    (asked.Answered (cond (encloses st (p .tag .0) d) Yes No))))))
+question p d st = first (question-tests p d st) (asked.Answered (cond (encloses st (p .tag .0) d) Yes No))

@@ -5,6 +5,7 @@ use mathlib.Core.List.{List, [], _∷_, _++_}
 use Prim.Native.Nat.{ℕ, zero, suc, _+_, _*_, _^_}
 use lib.Dec.{ltb, leb, eqb}
 use lib.ListN.{length}
+use Rattle.lists.specs.Lists.{first}
 use Rattle.store_types.specs.Limits.{no-tag, label-limit, most-tags}
 use Rattle.store_types.specs.Layout.{header-words, words-for}
 use Rattle.tree.specs.Book.{Book, height, inserted-row, split-of-row, moved, power-width}
@@ -60,24 +61,30 @@ labels-run-out s r zero n h = false
 labels-run-out s r (suc k) n h =
     (leb (s * r ^ h) (suc n) && ltb label-limit (power-width s r (suc h))) || labels-run-out s r k (suc n) (raised s r (suc n) h)
 
--- 8, 9, 6, 7 of k tags, 0 where accepted; w is how many words are lent, and `end` is whether labels do not suffice
-unfoldable pub tags-refused : (w k place : ℕ) → (end : Bool) → Store → ℕ
-tags-refused w k y e st =
-    let n = count st in
-    cond (not (eqb y no-tag) && leb n y) 8
-    (cond (not (eqb y no-tag) && fact st y .marked) 9
-    (cond (ltb most-tags (n + k) || ltb w (words-for header-words (n + k))) 6
-    (cond e 7 0)))
+-- REFUSALS, each with its test, in order; 0 where none is met (1 and 2 are the words'). Of the place; the front is allowed
+unfoldable pub place-tests : (place : ℕ) → Store → List (Bool × ℕ)
+place-tests y st =
+    (not (eqb y no-tag) && leb (count st) y, 8)
+    ∷ (not (eqb y no-tag) && fact st y .marked, 9)
+    ∷ []
 
--- 4, 8, 9, 6, 7 of the call (1 and 2 are the words')
+-- of room for k tags; w is how many words are lent, and `no-labels` is whether labels do not suffice
+unfoldable pub room-tests : (w k : ℕ) → (no-labels : Bool) → Store → List (Bool × ℕ)
+room-tests w k e st =
+    (ltb most-tags (count st + k) || ltb w (words-for header-words (count st + k)), 6)
+    ∷ (e, 7)
+    ∷ []
+
+-- of the call
 unfoldable pub insert-refusal : (w kind place : ℕ) → Store → ℕ
 insert-refusal w c y st =
     let k = length (insert-kinds c) in
-    cond (not (eqb c 1 || eqb c 3)) 4
-    (tags-refused w k y (labels-end (st .book .s) (st .book .r) k (count st) (height (st .book))) st)
+    let no-labels = labels-end (st .book .s) (st .book .r) k (count st) (height (st .book)) in
+    first ((not (eqb c 1 || eqb c 3), 4) ∷ place-tests y st ++ room-tests w k no-labels st) 0
 
--- 8, 9, 6, 7 of a row of kinds of any length
+-- of a row of kinds of any length
 unfoldable pub row-refusal : (w : ℕ) → (kinds : List Kind) → (place : ℕ) → Store → ℕ
 row-refusal w ks y st =
     let k = length ks in
-    tags-refused w k y (labels-run-out (st .book .s) (st .book .r) k (count st) (height (st .book))) st
+    let no-labels = labels-run-out (st .book .s) (st .book .r) k (count st) (height (st .book)) in
+    first (place-tests y st ++ room-tests w k no-labels st) 0

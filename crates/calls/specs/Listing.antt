@@ -1,10 +1,11 @@
 -- List (document 01, "Calls and their replies"): the unmarked tags strictly inside a section or, from the front, of the
 -- whole book. Assumes nothing: these are definitions.
 use mathlib.Core.Bool.{Bool, _&&_, _||_, not, cond}
-use mathlib.Core.List.{List, [], _∷_, map}
+use mathlib.Core.List.{List, [], _∷_, _++_, map}
 use Prim.Native.Nat.{ℕ}
 use lib.Dec.{leb, ltb, eqb}
 use lib.ListN.{length}
+use Rattle.lists.specs.Lists.{first}
 use Rattle.store_types.specs.Limits.{no-tag}
 use Rattle.calls.specs.Kind.{is-begin}
 use Rattle.calls.specs.Store.{Store, fact, count, row, label}
@@ -25,11 +26,15 @@ listed-tags x st = listed-of st x (row st)
 unfoldable pub listed-labels : (section : ℕ) → Store → List ℕ
 listed-labels x st = map (label st) (listed-tags x st)
 
--- 8, 9, 10, 11 in this order, 0 where accepted (1 and 2 are the words'); the front is allowed; t and l are the lengths
--- of the lent lists
+-- REFUSALS, each with its test, in order; 0 where none is met (1 and 2 are the words'). Of the section; the front is allowed
+unfoldable pub inside-tests : (section : ℕ) → Store → List (Bool × ℕ)
+inside-tests x st =
+    (not (eqb x no-tag) && leb (count st) x, 8)
+    ∷ (not (eqb x no-tag) && fact st x .marked, 9)
+    ∷ (not (eqb x no-tag) && not (is-begin (fact st x .kind)), 10)
+    ∷ []
+
+-- and then of the two lent lists, whose lengths are t and l
 unfoldable pub list-refusal : (t l section : ℕ) → Store → ℕ
 list-refusal t l x st =
-    let n = length (listed-tags x st) in
-    let short : ℕ = cond (ltb t n || ltb l n) 11 0 in
-    let inner : ℕ = cond (leb (count st) x) 8 (cond (fact st x .marked) 9 (cond (not (is-begin (fact st x .kind))) 10 short)) in
-    cond (eqb x no-tag) short inner
+    let n = length (listed-tags x st) in first (inside-tests x st ++ (ltb t n || ltb l n, 11) ∷ []) 0

@@ -1,9 +1,10 @@
 -- Load (document 01, "Calls and their replies"). Assumes nothing: these are definitions.
-use mathlib.Core.Bool.{Bool, true, _&&_, not, cond}
-use mathlib.Core.List.{List, [], _∷_, map}
+use mathlib.Core.Bool.{Bool, true, _&&_, not}
+use mathlib.Core.List.{List, [], _∷_, _++_, map}
 use Prim.Native.Nat.{ℕ, suc}
 use lib.Dec.{ltb}
 use lib.ListN.{length}
+use Rattle.lists.specs.Lists.{first}
 use Rattle.store_types.specs.Limits.{no-tag, label-limit, most-tags}
 use Rattle.store_types.specs.Layout.{header-words, words-for}
 use Rattle.tree.specs.Book.{loaded, load-under, power-width}
@@ -16,15 +17,25 @@ unfoldable pub all-kinds : List ℕ → Bool
 all-kinds [] = true
 all-kinds (c ∷ cs) = is-kind c && all-kinds cs
 
--- 3, 6, 1, 4, 5, 7 in this order, 0 where accepted; w is how many words are lent
+-- REFUSALS, each with its test, in order; 0 where none is met. Of the kinds that are left where so many begins are open
+unfoldable pub kinds-tests : (open-begins : ℕ) → (kinds : List ℕ) → List (Bool × ℕ)
+kinds-tests d cs =
+    (not (all-kinds cs), 4)
+    ∷ (not (nests d (map kind-of cs)), 5)
+    ∷ []
+
+-- all but the last; w is how many words are lent
+unfoldable pub early-tests : (w s r : ℕ) → (kinds : List ℕ) → List (Bool × ℕ)
+early-tests w s r cs =
+    let n = length cs in
+    (not (degrees-fit s r), 3)
+    ∷ (ltb most-tags n, 6)
+    ∷ (ltb w (words-for header-words n), 1)
+    ∷ kinds-tests 0 cs
+
 unfoldable pub load-refusal : (w s r : ℕ) → (kinds : List ℕ) → ℕ
 load-refusal w s r cs =
-    let n = length cs in
-    cond (not (degrees-fit s r)) 3
-    (cond (ltb most-tags n) 6
-    (cond (ltb w (words-for header-words n)) 1
-    (cond (not (all-kinds cs)) 4
-    (cond (not (nests 0 (map kind-of cs))) 5 (cond (ltb label-limit (power-width s r (suc (load-under r n)))) 7 0)))))
+    first (early-tests w s r cs ++ (ltb label-limit (power-width s r (suc (load-under r (length cs)))), 7) ∷ []) 0
 
 -- tag numbers run in book order; stamp 0
 unfoldable pub load-store : (s r number : ℕ) → (kinds : List ℕ) → Store

@@ -4,6 +4,7 @@ use mathlib.Core.Bool.{Bool, _&&_, _||_, not, cond}
 use mathlib.Core.List.{List, [], _∷_}
 use Prim.Native.Nat.{ℕ, suc, _+_}
 use lib.Dec.{leb}
+use Rattle.lists.specs.Lists.{first}
 use Rattle.calls.specs.Kind.{is-end}
 use Rattle.calls.specs.Store.{Store, Fact, fact, count, place-of}
 
@@ -28,6 +29,13 @@ new-marks st x d (t ∷ ts) = cond (not (t .marked) && within st x d) 1 0 + new-
 unfoldable pub mark-count : (section : ℕ) → Store → ℕ
 mark-count x st = new-marks st x 0 (st .facts)
 
--- 8, 9, 10 in this order, 0 where accepted (1 and 2 are the words'); hold has the same
+-- the refusals, each with its test, in order; 0 where none is met (1 and 2 are the words'); hold has the same
+unfoldable pub section-tests : (section : ℕ) → Store → List (Bool × ℕ)
+section-tests x st =
+    (leb (count st) x, 8)
+    ∷ (fact st x .marked, 9)
+    ∷ (is-end (fact st x .kind), 10)
+    ∷ []
+
 unfoldable pub section-refusal : (section : ℕ) → Store → ℕ
-section-refusal x st = cond (leb (count st) x) 8 (cond (fact st x .marked) 9 (cond (is-end (fact st x .kind)) 10 0))
+section-refusal x st = first (section-tests x st) 0

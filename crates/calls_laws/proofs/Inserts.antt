@@ -13,7 +13,7 @@ use lib.Seq.{take-suc}
 use Rattle.store_types.specs.Limits.{no-tag, label-limit, most-tags}
 use Rattle.lists.proofs.Tests.{by-test, fails, or-left-false, or-right-false}
 use Rattle.store_types.specs.Layout.{header-words, words-for}
-use Rattle.lists.specs.Lists.{numbers}
+use Rattle.lists.specs.Lists.{first, numbers}
 use Rattle.tree.specs.Row.{member, insert-at, all-below}
 use Rattle.tree.specs.Forest.{size}
 use Rattle.tree.specs.Book.{Book, height, power-width, root-full, inserted, inserted-row}
@@ -23,7 +23,7 @@ use Rattle.tree_laws.proofs.Insertion.{inserted-s, inserted-r, inserted-under, 
 use Rattle.calls.specs.Kind.{Kind, is-begin}
 use Rattle.calls.specs.Store.{Store, Fact, no-fact, fact, count, row, place-of, marked-count}
 use Rattle.calls.specs.Nesting.{nests, new-facts}
-use Rattle.calls.specs.Insert.{position, up-at, book-after, insert-store, raised, labels-end, labels-run-out, tags-refused, row-refusal}
+use Rattle.calls.specs.Insert.{position, up-at, book-after, insert-store, raised, labels-end, labels-run-out, place-tests, room-tests, row-refusal}
 use Rattle.calls.specs.Promise.{Insert-sound, Rows-end}
 use Rattle.calls_laws.proofs.Tests.{passes, Sound, sane, root-limits, facts-of, sound-of}
 use Rattle.calls_laws.proofs.Nesting.{Step, begins, ends, stands, Pass, pass-join, pass-around, nested-of, chain-mark, Same, same-of, no-tag-fact, no-tag-same}
@@ -129,7 +129,7 @@ pub record Row-accepted (w : ℕ) (ks : List Kind) (y : ℕ) (st : Store) : Type
   pub labels : labels-run-out (st .book .s) (st .book .r) (length ks) (count st) (height (st .book)) ≡ false
 
 pub accepted-row : (w : ℕ) (ks : List Kind) (y : ℕ) (st : Store) → row-refusal w ks y st ≡ 0 → Row-accepted w ks y st
-unfolding row-refusal tags-refused
+unfolding row-refusal place-tests room-tests first
 accepted-row w ks y st r =
     let n = count st in
     let a = passes (not (eqb y no-tag) && leb n y) 7 _ r in

@@ -8,13 +8,14 @@ use native.Mathlib.Nat.{zero-add, add-zero, add-suc, suc-add, not-suc-le-zero, l
 use borrow.Author.Tests.{le-leb, lt-leb, leb-false}
 use lib.Dec.{leb}
 use lib.ListN.{length}
+use Rattle.lists.specs.Lists.{first}
 use Rattle.store_types.specs.Limits.{no-tag}
 use Rattle.lists.proofs.Tests.{and-both, by-test}
 use Rattle.tree.specs.Row.{member}
 use Rattle.tree_laws.proofs.Rows.{member-append}
 use Rattle.calls.specs.Kind.{end, is-end}
 use Rattle.calls.specs.Store.{Store, Fact, fact-in, fact, count, row, place-of, marked-count}
-use Rattle.calls.specs.Mark.{within, mark-facts, mark-store, new-marks, section-refusal}
+use Rattle.calls.specs.Mark.{within, mark-facts, mark-store, new-marks, section-tests, section-refusal}
 use Rattle.calls.specs.Promise.{Mark-sound}
 use Rattle.calls_laws.proofs.Tests.{passes, Sound, facts-of, sound-of}
 use Rattle.calls_laws.proofs.Nesting.{Pass, pass-around, nested-of, Alike, Same, no-tag-same, Marked}
@@ -131,7 +132,7 @@ pub record Section-accepted (x : ℕ) (st : Store) : Type 0 where
   pub begins : fact st x .kind ≡ end → ⊥
 
 pub accepted-section : (x : ℕ) (st : Store) → section-refusal x st ≡ 0 → Section-accepted x st
-unfolding section-refusal is-end
+unfolding section-refusal section-tests first is-end
 accepted-section x st r =
     let a = passes (leb (count st) x) 7 _ r in
     let b = passes (fact st x .marked) 8 _ (a .1) in

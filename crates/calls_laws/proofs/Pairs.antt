@@ -8,6 +8,7 @@ use native.Mathlib.Omega.{arith}
 use borrow.Author.Tests.{lt-ltb, lt-leb, eq-eqb, ne-eqb, ltb-true, leb-false, eqb-true, eqb-false, not-true, not-false}
 use lib.Dec.{ltb, leb, eqb}
 use lib.ListN.{length}
+use Rattle.lists.specs.Lists.{first}
 use Rattle.store_types.specs.declared.HeldPair.{HeldPair}
 use Rattle.store_types.specs.declared.Answer.{Answer}
 use Rattle.store_types.specs.declared.Answer.the-variants.{Yes, No, Stale}
@@ -21,7 +22,7 @@ use Rattle.tree_laws.proofs.Labels.{length-labels, rising-of, rising-compare, l
 use Rattle.calls.specs.Kind.{begin, end, is-begin}
 use Rattle.calls.specs.Store.{Store, fact, count, row, place-of, width, label}
 use Rattle.calls.specs.Sound.{sound}
-use Rattle.calls.specs.Held.{encloses, current, question}
+use Rattle.calls.specs.Held.{encloses, current, question-tests, question}
 use Rattle.calls.specs.Promise.{Labels-tell, Encloses, Current, Asked, Pairs-right, Pair-labels-tell}
 use Rattle.calls_laws.proofs.Sections.{mate-fits}
 use Rattle.calls_laws.proofs.Tests.{Sound, sane, facts-of}
@@ -97,14 +98,14 @@ if-current p d st = cond (fact st d .marked) (Refused 9) (Answered (cond (enclos
 
 asked-question : (p : HeldPair) (d : ℕ) (st : Store) → p .book ≡ st .number → Asked p d st →
     question p d st ≡ cond (not (current st p)) (Answered Stale) (if-current p d st)
-unfolding question
+unfolding question question-tests first
 asked-question p d st b h =
     rw (eq-eqb (p .book) (st .number) b, lt-leb (count st) (p .tag .0) (h .tag), lt-leb (count st) d (h .other), h .begin)
 
 -- and back: the pair may be asked where the question is answered, and it is of this book
 question-asked : (p : HeldPair) (d : ℕ) (st : Store) (a : Answer) → eqb (p .book) (st .number) ≡ true → question p d st ≡ Answered a →
     Asked p d st × (cond (not (current st p)) (Answered Stale) (if-current p d st) ≡ Answered a)
-unfolding question
+unfolding question question-tests first
 question-asked p d st a b e =
     let tags = passed (leb (count st) (p .tag .0) || leb (count st) d) (Refused 8) _ (Answered a) (refused-not 8 a) (rw b at e) in
     let kind = passed (not (is-begin (fact st (p .tag .0) .kind))) (Refused 10) _ (Answered a) (refused-not 10 a) (tags .1) in
@@ -117,7 +118,7 @@ answers p d st h c m = asked-question p d st (c .book) h ∙ rw (current-test p 
 
 answered : (p : HeldPair) (d : ℕ) (st : Store) (a : Answer) → (Answered Stale ≡ Answered a → ⊥) → question p d st ≡ Answered a →
     Asked p d st × Current p st × (fact st d .marked ≡ false) × (Answered (cond (encloses st (p .tag .0) d) Yes No) ≡ Answered a)
-unfolding question
+unfolding question question-tests first
 answered p d st a fresh e =
     let book = not-false _ (passed (not (eqb (p .book) (st .number))) (Answered Stale) _ (Answered a) fresh e .0) in
     let asked = question-asked p d st a book e in
@@ -152,7 +153,7 @@ stale-of p d st e =
 
 stale-test : (p : HeldPair) (d : ℕ) (st : Store) →
     (p .book ≡ st .number → ⊥) ⊎ ((p .book ≡ st .number) × Asked p d st × (Current p st → ⊥)) → question p d st ≡ Answered Stale
-unfolding question
+unfolding question question-tests first
 stale-test p d st (inl other) = rw (ne-eqb (p .book) (st .number) other)
 stale-test p d st (inr h) =
     asked-question p d st (h .0) (h .1)

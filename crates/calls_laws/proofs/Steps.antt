@@ -7,6 +7,7 @@ use native.Mathlib.Omega.{arith}
 use borrow.Author.Tests.{ltb-false, not-false, eqb-true}
 use lib.Dec.{ltb, eqb}
 use lib.ListN.{length, length-map}
+use Rattle.lists.specs.Lists.{first}
 use Rattle.store_types.specs.Limits.{no-tag, label-limit, word-limit, most-tags}
 use Rattle.lists.proofs.Tests.{by-test, and-left}
 use Rattle.store_types.specs.Layout.{header-words, words-for}
@@ -17,7 +18,7 @@ use Rattle.calls.specs.Kind.{begin, end, text, kind-of}
 use Rattle.calls.specs.Store.{Store, Fact, fact-in}
 use Rattle.calls.specs.Nesting.{nests, new-facts}
 use Rattle.calls.specs.Sound.{degrees-fit, tree-sound, row-sound, sound}
-use Rattle.calls.specs.Load.{all-kinds, load-refusal, load-store}
+use Rattle.calls.specs.Load.{all-kinds, kinds-tests, early-tests, load-refusal, load-store}
 use Rattle.calls.specs.Insert.{insert-kinds, insert-store, insert-refusal, row-refusal}
 use Rattle.calls.specs.Mark.{mark-store}
 use Rattle.calls.specs.Calls.{Call, load, insert, mark, refusal, changed, accepts, after-one, after, Fits, All-fit}
@@ -38,7 +39,7 @@ pub record Load-accepted (w s r : ℕ) (cs : List ℕ) : Type 0 where
   pub labels : power-width s r (suc (load-under r (length cs))) ≤ label-limit
 
 pub accepted-load : (w s r : ℕ) (cs : List ℕ) → load-refusal w s r cs ≡ 0 → Load-accepted w s r cs
-unfolding load-refusal
+unfolding load-refusal early-tests kinds-tests first
 accepted-load w s r cs e =
     let n = length cs in
     let a = passes (not (degrees-fit s r)) 2 _ e in
@@ -91,7 +92,7 @@ kinds-nest c = go (eqb c 1)
 
 -- and it inserts one of them
 pub insert-passed : (w c y : ℕ) (st : Store) → sound st ≡ true → insert-refusal w c y st ≡ 0 → row-refusal w (insert-kinds c) y st ≡ 0
-unfolding insert-refusal row-refusal Rows-end
+unfolding insert-refusal row-refusal first Rows-end
 insert-passed w c y st e z =
     let k = kinds-nest c in
     rw (rows-end st (length (insert-kinds c)) e (k .1) (k .2)) (passes (not (eqb c 1 || eqb c 3)) 3 _ z .1)

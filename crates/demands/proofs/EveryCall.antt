@@ -1,6 +1,6 @@
 -- Demand 1 over any words: what each of the six calls leaves. Assumes nothing.
 use mathlib.Core.Path.{_≡_, refl, ap, sym, _∙_}
-use mathlib.Core.Bool.{Bool, true, false, _||_, not, cond, true≢false}
+use mathlib.Core.Bool.{Bool, true, false, _&&_, _||_, not, true≢false}
 use mathlib.Core.List.{List}
 use Prim.Native.Nat.{ℕ, zero, suc, _≤_}
 use native.Mathlib.Omega.{arith}
@@ -8,16 +8,17 @@ use borrow.Author.Tests.{ltb-false}
 use lib.Dec.{ltb, leb, eqb, eqb·suc-zero}
 use lib.ListN.{length, drop, length-map}
 use lib.Seq.{take-append-seam, drop-append-seam}
+use Rattle.lists.specs.Lists.{first}
 use Rattle.store_types.specs.Limits.{no-tag}
 use Rattle.store_types.specs.declared.ListReply.the-variants.{Listed, Refused}
-use Rattle.lists.proofs.Tests.{by-test, or-left-false, or-right-false}
+use Rattle.lists.proofs.Tests.{or-left-false, or-right-false}
 use Rattle.calls.specs.Kind.{is-begin}
 use Rattle.calls.specs.Store.{Store, fact, count, label}
 use Rattle.calls.specs.Sound.{sound}
 use Rattle.calls.specs.Load.{load-refusal, load-store}
 use Rattle.calls.specs.Insert.{insert-kinds, insert-refusal, insert-store}
 use Rattle.calls.specs.Mark.{section-refusal, mark-store}
-use Rattle.calls.specs.Listing.{listed-tags, listed-labels, list-refusal}
+use Rattle.calls.specs.Listing.{listed-tags, listed-labels, inside-tests, list-refusal}
 use Rattle.calls.specs.Words.{words-of, Says, in-front}
 use Rattle.calls.specs.Replies.{said, refusal-over, replied, written, load-reply, load-words, insert-refused, insert-reply, insert-words, mark-reply, mark-words, list-refused, list-reply, list-tags, list-labels}
 use Rattle.calls.specs.Calls.{Call, insert, mark, refusal, changed, loads, inserts, marks, holds, asks, lists, Happens, load-accepted, insert-accepted, mark-accepted}
@@ -82,28 +83,14 @@ list-told k n = replied-told Refused listed k (Listed n) refl (λ i. refl)
 
 -- an accepted list fits both lent lists
 list-fits : (t l x : ℕ) (st : Store) → list-refusal t l x st ≡ 0 → (length (listed-tags x st) ≤ t) × (length (listed-tags x st) ≤ l)
-unfolding list-refusal
-list-fits t l x st z = by-test (eqb x no-tag) (λ e. lengths (rw e at z)) (λ e. lengths (inner (rw e at z)))
-  where
-    n : ℕ
-    n = length (listed-tags x st)
-
-    short : ℕ
-    short = cond (ltb t n || ltb l n) 11 0
-
-    refused : ℕ
-    refused = cond (leb (count st) x) 8 (cond (fact st x .marked) 9 (cond (not (is-begin (fact st x .kind))) 10 short))
-
-    inner : refused ≡ 0 → short ≡ 0
-    inner e =
-        let a = passes (leb (count st) x) 7 _ e in
-        let b = passes (fact st x .marked) 8 _ (a .1) in
-        passes (not (is-begin (fact st x .kind))) 9 _ (b .1) .1
-
-    lengths : short ≡ 0 → (n ≤ t) × (n ≤ l)
-    lengths e =
-        let f = passes (ltb t n || ltb l n) 10 0 e .0 in
-        (ltb-false t n (or-left-false (ltb t n) (ltb l n) f), ltb-false l n (or-right-false (ltb t n) (ltb l n) f))
+unfolding list-refusal inside-tests first
+list-fits t l x st z =
+    let n = length (listed-tags x st) in
+    let a = passes (not (eqb x no-tag) && leb (count st) x) 7 _ z in
+    let b = passes (not (eqb x no-tag) && fact st x .marked) 8 _ (a .1) in
+    let c = passes (not (eqb x no-tag) && not (is-begin (fact st x .kind))) 9 _ (b .1) in
+    let f = passes (ltb t n || ltb l n) 10 0 (c .1) .0 in
+    (ltb-false t n (or-left-false (ltb t n) (ltb l n) f), ltb-false l n (or-right-false (ltb t n) (ltb l n) f))
 
 -- EVERY CALL
 pub every-call : Every-call

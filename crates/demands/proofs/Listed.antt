@@ -4,11 +4,12 @@ use mathlib.Core.Path.{_≡_, refl, ap, sym, _∙_}
 use mathlib.Core.Bool.{true, false, not, false≢true, and-false}
 use mathlib.Core.List.{List, [], _∷_, _++_, map, append-assoc, append-nil}
 use mathlib.Core.Logic.{inl, inr}
-use Prim.Native.Nat.{ℕ, zero, suc, _+_, _<_}
+use Prim.Native.Nat.{ℕ, suc, _+_, _<_}
 use native.Mathlib.Omega.{arith}
 use borrow.Author.Tests.{lt-ltb, le-ltb, leb-false, not-false, eqb-true, eqb-false}
 use lib.Dec.{leb, eqb}
 use lib.ListN.{length, take, drop, length-append}
+use Rattle.lists.specs.Lists.{first}
 use Rattle.store_types.specs.Limits.{no-tag}
 use Rattle.store_types.specs.declared.ListReply.the-variants.{Listed, Refused}
 use Rattle.lists.proofs.Tests.{by-test}
@@ -18,7 +19,7 @@ use Rattle.tree_laws.proofs.Rows.{member-first, member-later, member-append, me
 use Rattle.calls.specs.Kind.{is-begin}
 use Rattle.calls.specs.Store.{Store, fact, count, row, place-of, label}
 use Rattle.calls.specs.Held.{encloses}
-use Rattle.calls.specs.Listing.{is-listed, listed-of, listed-tags, listed-labels, list-refusal}
+use Rattle.calls.specs.Listing.{is-listed, listed-of, listed-tags, listed-labels, inside-tests, list-refusal}
 use Rattle.calls.specs.Words.{Says}
 use Rattle.calls.specs.Replies.{said, refusal-over, replied, list-refused, list-reply, list-tags, list-labels}
 use Rattle.calls.specs.Calls.{lists, Happens}
@@ -168,7 +169,7 @@ module _ (ws : List ℕ) (st : Store) (h : Says ws st) where
   closes x l e a (stands s) = absurd (false≢true (rw (s .kind) at e))
 
   found : (t u x : ℕ) → list-refusal t u x st ≡ 0 → Found ws st x
-  unfolding list-refusal
+  unfolding list-refusal inside-tests first
   found t u x z =
       by-test (eqb x no-tag) (all-found x)
       (λ e. let a = passes (leb (count st) x) 7 _ (rw e at z) in

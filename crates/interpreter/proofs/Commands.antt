@@ -13,9 +13,9 @@ use Rattle.store_types.specs.Limits.{no-tag}
 use Rattle.store_types.specs.declared.ListReply.{ListReply}
 use Rattle.store_types.specs.declared.ListReply.the-variants.{Listed, Refused}
 use Rattle.store_types.specs.Layout.{header-words}
-use Rattle.lists.specs.Lists.{same}
+use Rattle.lists.specs.Lists.{first, same}
 use Rattle.calls.specs.Store.{Store, label}
-use Rattle.calls.specs.Listing.{list-refusal, listed-tags, listed-labels}
+use Rattle.calls.specs.Listing.{inside-tests, list-refusal, listed-tags, listed-labels}
 use Rattle.calls.specs.Words.{read, in-front}
 use Rattle.calls.specs.Replies.{on-store, refusal-over, store-or, said, replied, written, load-words, list-refused, list-reply, list-tags, list-labels}
 use Rattle.console.specs.Line.{Parsed, unknown, plain, parsed, fields, number-of, place-of, all-letters, letter-kind, load-of, insert-of, mark-of, command-of, line-limit, load-word, list-word, element-word, text-word, mark-word}
@@ -117,7 +117,7 @@ module _ (l : List ℕ) {ks : List ℕ} {c : Command} {s r b n : ℕ} (g : Gives
 -- LIST, into lists for as many tags as the store is for
 module _ (ws ts ls : List ℕ) (a : length ts ≡ book-tags) (b : length ls ≡ book-tags) where
   few : list-refused no-tag ws ts ls ≡ 0 → length (listed-tags no-tag (said ws)) ≤ book-tags
-  unfolding list-refused refusal-over on-store said store-or list-refusal
+  unfolding list-refused refusal-over on-store said store-or list-refusal inside-tests first
   few e = go (ltb (length ws) header-words) (read ws) (rw (a, b) at e)
     where
       short : (n : ℕ) (t : Bool) → ltb book-tags n ≡ t → _≡_ {A = ℕ} (cond (t || t) 11 0) 0 → n ≤ book-tags

@@ -1,5 +1,5 @@
 -- Lists that definitions of several crates need. Assumes nothing: these are definitions.
-use mathlib.Core.Bool.{Bool, true, false, _&&_}
+use mathlib.Core.Bool.{Bool, true, false, _&&_, cond}
 use mathlib.Core.List.{List, [], _∷_}
 use Prim.Native.Nat.{ℕ, zero, suc}
 use lib.Dec.{eqb}
@@ -23,3 +23,8 @@ all-hold h (e ∷ es) = h e && all-hold h es
 unfoldable pub with-first : (element : ℕ) → List (List ℕ) → List (List ℕ)
 with-first c [] = (c ∷ []) ∷ []
 with-first c (f ∷ fs) = (c ∷ f) ∷ fs
+
+-- a table of tests and what each gives: the first that holds decides, else the default
+unfoldable pub first : {A : Type 0} → (table : List (Bool × A)) → (default : A) → A
+first [] d = d
+first ((t, a) ∷ xs) d = cond t a (first xs d)

@@ -9,10 +9,11 @@ use borrow.Author.Tests.{eqb-true}
 use lib.Dec.{eqb}
 use lib.ListN.{length, getD, drop, drop-of-length-le}
 use lib.Seq.{drop-cons}
+use Rattle.lists.specs.Lists.{first}
 use Rattle.lists.proofs.Tests.{by-test}
 use Rattle.calls.specs.Kind.{Kind, end, is-kind, kind-of}
 use Rattle.calls.specs.Nesting.{nests}
-use Rattle.calls.specs.Load.{all-kinds}
+use Rattle.calls.specs.Load.{all-kinds, kinds-tests}
 use Rattle.load_refuse.specs.Refusals.{kinds-refusal, rest-refusal, depth-behind}
 
 -- ONE KIND
@@ -49,16 +50,16 @@ module _ (cs : List ℕ) (i : ℕ) (inside : i < length cs) where
 
   -- where d begins are open
   pub kinds-stop : (d : ℕ) → is-kind (getD cs i 0) ≡ false → kinds-refusal d (drop i cs) ≡ 4
-  unfolding kinds-refusal all-kinds
+  unfolding kinds-refusal kinds-tests first all-kinds
   kinds-stop d e = rw (next-kind cs i inside, e)
 
   pub kinds-break : getD cs i 0 ≡ 2 → kinds-refusal 0 (drop i cs) ≡ rest-refusal (drop (i + 1) cs)
-  unfolding kinds-refusal rest-refusal all-kinds is-kind
+  unfolding kinds-refusal kinds-tests first rest-refusal all-kinds is-kind
   kinds-break e = rw (next-kind cs i inside, e, end-closes-none)
 
   pub kinds-go : (d : ℕ) → is-kind (getD cs i 0) ≡ true → (getD cs i 0 ≡ 2 → 1 ≤ d) →
       kinds-refusal d (drop i cs) ≡ kinds-refusal (depth-behind d (getD cs i 0)) (drop (i + 1) cs)
-  unfolding kinds-refusal all-kinds
+  unfolding kinds-refusal kinds-tests first all-kinds
   kinds-go d e some = rw (next-kind cs i inside, e, nests-goes d (getD cs i 0) (map kind-of (drop (i + 1) cs)) some)
 
 pub rest-ends : (cs : List ℕ) (i : ℕ) → length cs ≤ i → rest-refusal (drop i cs) ≡ 5
@@ -66,7 +67,7 @@ unfolding rest-refusal all-kinds
 rest-ends cs i l = rw (none-left cs i l)
 
 pub kinds-end : (d : ℕ) (cs : List ℕ) (i : ℕ) → length cs ≤ i → kinds-refusal d (drop i cs) ≡ cond (not (eqb d 0)) 5 0
-unfolding kinds-refusal all-kinds nests
+unfolding kinds-refusal kinds-tests first all-kinds nests
 kinds-end d cs i l = rw (none-left cs i l)
 
 -- at most one begin more is open

@@ -1,19 +1,15 @@
 -- The refusals of load that come before a word is written, but for the last (7). Assumes nothing: these are definitions.
 use mathlib.Core.Bool.{not, cond}
-use mathlib.Core.List.{List, map}
+use mathlib.Core.List.{List}
 use Prim.Native.Nat.{ℕ, _+_, _-_, _≤_}
-use lib.Dec.{ltb, eqb}
-use lib.ListN.{length}
+use lib.Dec.{eqb}
+use Rattle.lists.specs.Lists.{first}
 use Rattle.store_types.specs.Limits.{most-tags}
-use Rattle.store_types.specs.Layout.{header-words, words-for}
-use Rattle.calls.specs.Kind.{kind-of}
-use Rattle.calls.specs.Nesting.{nests}
-use Rattle.calls.specs.Sound.{degrees-fit}
-use Rattle.calls.specs.Load.{all-kinds}
+use Rattle.calls.specs.Load.{all-kinds, kinds-tests, early-tests}
 
 -- 4 and 5 of the kinds that are left where so many begins are open; 0 where there is neither
 unfoldable pub kinds-refusal : (open-begins : ℕ) → List ℕ → ℕ
-kinds-refusal d cs = cond (not (all-kinds cs)) 4 (cond (not (nests d (map kind-of cs))) 5 0)
+kinds-refusal d cs = first (kinds-tests d cs) 0
 
 -- the same where an end before them closes none
 unfoldable pub rest-refusal : List ℕ → ℕ
@@ -25,8 +21,7 @@ depth-behind d c = cond (eqb c 1) (d + 1) (cond (eqb c 2) (d - 1) d)
 
 -- 3, 6, 1, 4 and 5 in this order, 0 where there is none
 unfoldable pub refusal-before : (w s r : ℕ) → (kinds : List ℕ) → ℕ
-refusal-before w s r cs =
-    cond (not (degrees-fit s r)) 3 (cond (ltb most-tags (length cs)) 6 (cond (ltb w (words-for header-words (length cs))) 1 (kinds-refusal 0 cs)))
+refusal-before w s r cs = first (early-tests w s r cs) 0
 
 -- what the search for the height is asked of
 pub record Height-fits (n r : ℕ) : Type 0 where

@@ -1,11 +1,12 @@
 -- Hold and the held-pair question, by what the words say. Assumes nothing.
-use mathlib.Core.Path.{_≡_, refl, sym, _∙_}
+use mathlib.Core.Path.{_≡_, sym, _∙_}
 use mathlib.Core.Bool.{Bool, true, false, _&&_, not, cond, true≢false, and-false, or-true}
 use mathlib.Core.List.{List}
 use mathlib.Core.Logic.{_⊎_, inl, inr}
 use Prim.Native.Nat.{ℕ, _%_, _≤_, _<_}
 use borrow.Author.Tests.{eq-eqb, ne-eqb, lt-leb, le-leb, lt-ltb, le-ltb, leb-true, leb-false, eqb-true, not-true, not-false}
 use lib.Dec.{ltb, leb, eqb}
+use Rattle.lists.specs.Lists.{first}
 use Rattle.store_types.specs.declared.TagId.{TagId}
 use Rattle.store_types.specs.declared.Label.{Label}
 use Rattle.store_types.specs.declared.HeldPair.{HeldPair}
@@ -17,7 +18,7 @@ use Rattle.store_types.specs.Layout.{at-count, at-book, at-kind, word-at, field
 use Rattle.calls.specs.Kind.{is-begin}
 use Rattle.calls.specs.Store.{fact, count, label}
 use Rattle.calls.specs.Mark.{section-refusal}
-use Rattle.calls.specs.Held.{hold-pair, encloses, current, question}
+use Rattle.calls.specs.Held.{hold-pair, encloses, current, question-tests, question}
 use Rattle.calls.specs.Words.{Says}
 use Rattle.calls.specs.Replies.{refusal-over, said, replied, hold-reply, question-reply}
 use Rattle.calls.specs.Promise.{Labels-tell}
@@ -68,7 +69,7 @@ module _ (ws : List ℕ) (p : HeldPair) (d : ℕ) where
   replies says = rw (refused-said ws (λ st. 0) says)
 
   pub other-book : Says ws (said ws) → (p .book ≡ word-at ws at-book → ⊥) → asked.Answered Stale ≡ question-reply p d ws
-  unfolding question
+  unfolding question question-tests first
   other-book says n = sym (replies says ∙ rw (ne-eqb (p .book) (said ws .number) (λ e. n (e ∙ sym (header-said ws (said ws) says .number)))))
 
   -- the book, then 8 and 10
@@ -76,14 +77,14 @@ module _ (ws : List ℕ) (p : HeldPair) (d : ℕ) where
   this-book says e = e ∙ header-said ws (said ws) says .number
 
   pub no-such-tag : Says ws (said ws) → p .book ≡ word-at ws at-book → (word-at ws at-count ≤ p .tag .0) ⊎ (word-at ws at-count ≤ d) → asked.Refused 8 ≡ question-reply p d ws
-  unfolding question
+  unfolding question question-tests first
   no-such-tag says e (inl l) = sym (replies says ∙ rw (eq-eqb (p .book) (said ws .number) (this-book says e), no-tag-from ws says (p .tag .0) l))
   no-such-tag says e (inr l) =
       sym (replies says ∙ rw (eq-eqb (p .book) (said ws .number) (this-book says e), no-tag-from ws says d l, or-true (leb (count (said ws)) (p .tag .0))))
 
   pub not-begin : Tag-said ws (p .tag .0) → Tag-said ws d → p .book ≡ word-at ws at-book → (field ws (p .tag .0) at-kind % 16 ≡ 1 → ⊥) →
       asked.Refused 10 ≡ question-reply p d ws
-  unfolding question
+  unfolding question question-tests first
   not-begin x y e n =
       let begins : is-begin (fact (said ws) (p .tag .0) .kind) ≡ false = sym (kind-of-tag x .begins) ∙ ne-eqb _ _ n in
       sym (replies (x .says) ∙ rw (
@@ -101,7 +102,7 @@ module _ (ws : List ℕ) (p : HeldPair) (d : ℕ) where
   module _ (h : Pair-asked ws p d) where
     if-asked : question-reply p d ws ≡ cond (not (current (said ws) p)) (asked.Answered Stale)
         (cond (leb 16 (field ws d at-kind)) (asked.Refused 9) (asked.Answered (cond (encloses (said ws) (p .tag .0) d) Yes No)))
-    unfolding question
+    unfolding question question-tests first
     if-asked =
         replies (h .other .says)
         ∙ rw (

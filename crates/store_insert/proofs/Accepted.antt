@@ -10,6 +10,7 @@ use native.Mathlib.Omega.{arith}
 use borrow.Author.Tests.{ne-eqb, eqb-true}
 use lib.Dec.{eqb}
 use lib.ListN.{length, getD, replicate}
+use Rattle.lists.specs.Lists.{first}
 use Rattle.store_types.specs.Limits.{no-tag, label-limit, most-tags}
 use Rattle.lists.proofs.Tests.{by-test}
 use Rattle.store_types.specs.Layout.{at-s, at-r, at-height, at-count, word-at}
@@ -178,7 +179,7 @@ module _ (ws : List ℕ) (c y : ℕ) (z : insert-refused c y ws ≡ 0) where
 
   -- its kind is 1 or 3
   pub kind-accepted : (c ≡ 1 → ⊥) → c ≡ 3
-  unfolding insert-refusal
+  unfolding insert-refusal first
   kind-accepted other =
       by-test (eqb c 3) (eqb-true c 3)
       (λ t. let refused : _≡_ {A = ℕ} 4 0 = rw (ne-eqb c 1 other, t) at store-accepted in absurd (omega arith))

@@ -1,14 +1,15 @@
 -- What a listing needs of words, and what it finds there. Assumes nothing: these are definitions.
 use mathlib.Core.Path.{_≡_}
-use mathlib.Core.Bool.{Bool, _||_, not, cond}
+use mathlib.Core.Bool.{Bool, _||_, cond}
 use mathlib.Core.List.{List, [], _∷_}
 use Prim.Native.Nat.{ℕ, _≤_}
-use lib.Dec.{ltb, leb, eqb}
+use lib.Dec.{ltb, eqb}
 use lib.ListN.{getD}
 use lib.Seq.{slice}
+use Rattle.lists.specs.Lists.{first}
 use Rattle.store_types.specs.Limits.{no-tag}
-use Rattle.calls.specs.Kind.{is-begin}
-use Rattle.calls.specs.Store.{Store, fact, count, row, place-of, next-in}
+use Rattle.calls.specs.Store.{Store, fact, row, place-of, next-in}
+use Rattle.calls.specs.Listing.{inside-tests}
 use Rattle.calls.specs.Words.{Says}
 use Rattle.calls.specs.Replies.{said}
 
@@ -31,13 +32,9 @@ unmarked st (d ∷ ds) = let rest = unmarked st ds in cond (fact st d .marked) r
 unfoldable pub unmarked-between : Store → (x y : ℕ) → List ℕ
 unmarked-between st x y = unmarked st (slice (place-of st x) (place-of st y) (row st))
 
--- 8, 9 and 10 of list, else a number (1 and 2 are the words', 11 the lent lists'); the front is allowed
-unfoldable pub inside-else : (section : ℕ) → Store → (number : ℕ) → ℕ
-inside-else x st k =
-    cond (eqb x no-tag) k (cond (leb (count st) x) 8 (cond (fact st x .marked) 9 (cond (not (is-begin (fact st x .kind))) 10 k)))
-
+-- 8, 9 and 10 of list, 0 where there is none (1 and 2 are the words', 11 the lent lists')
 unfoldable pub inside-refusal : (section : ℕ) → Store → ℕ
-inside-refusal x st = inside-else x st 0
+inside-refusal x st = first (inside-tests x st) 0
 
 -- where a listing starts: the first tag of the book, or the tag behind a begin; where it stops: behind the last tag, or at
 -- the begin's mate

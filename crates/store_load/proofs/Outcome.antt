@@ -1,8 +1,8 @@
 -- What load replies and leaves: where a test refuses, and where none does. Assumes nothing.
-use mathlib.Core.Path.{_≡_, refl, ap, sym, _∙_}
-use mathlib.Core.Bool.{Bool, true, false, not, cond}
+use mathlib.Core.Path.{_≡_, ap, sym, _∙_}
+use mathlib.Core.Bool.{true, false, not, cond}
 use mathlib.Core.List.{List, map, _++_}
-use Prim.Native.Nat.{ℕ, zero, suc, _+_, _*_, _-_, _^_, _≤_}
+use Prim.Native.Nat.{ℕ, suc, _+_, _*_, _-_, _^_, _≤_}
 use native.Mathlib.Numerals.{add-one}
 use native.Mathlib.Omega.{arith}
 use borrow.Author.Tests.{ltb-false, not-false, lt-ltb, le-ltb, leb-true, leb-false}
@@ -14,10 +14,12 @@ use Rattle.store_types.specs.Layout.{header-words, words-for}
 use Rattle.words.proofs.Fields.{header-fits}
 use Rattle.tree.specs.Book.{base, power-width, load-under, loaded}
 use Rattle.tree_laws.proofs.Load.{load-least}
+use Rattle.lists.specs.Lists.{first}
+use Rattle.lists.proofs.First.{refused-before}
 use Rattle.calls.specs.Kind.{kind-of}
 use Rattle.calls.specs.Nesting.{nests}
 use Rattle.calls.specs.Sound.{degrees-fit}
-use Rattle.calls.specs.Load.{all-kinds, load-refusal, load-store}
+use Rattle.calls.specs.Load.{all-kinds, kinds-tests, early-tests, load-refusal, load-store}
 use Rattle.calls.specs.Words.{words-of, in-front}
 use Rattle.calls.specs.Replies.{replied, written, load-reply, load-words}
 use Rattle.calls_laws.proofs.Tests.{passes, Degrees, degrees-of}
@@ -28,7 +30,7 @@ use Rattle.calls_laws.proofs.Replies.{replied-refused}
 use Rattle.shape.specs.Needs.{power-fits}
 use Rattle.edit_model.specs.Image.{image-words}
 use Rattle.edit_model.proofs.Image.{length-image}
-use Rattle.load_refuse.specs.Refusals.{kinds-refusal, refusal-before}
+use Rattle.load_refuse.specs.Refusals.{refusal-before}
 use Rattle.load_tags.specs.Tags.{Tags-fit, Tags-written}
 use Rattle.store_load.specs.Labels.{header-new, Labels-fit, labels-written}
 use Rattle.load_refuse.proofs.Height.{leaves-enough}
@@ -47,7 +49,7 @@ pub record Passed (w s r : ℕ) (cs : List ℕ) : Type 0 where
 
 module _ (w s r : ℕ) (cs : List ℕ) where
   pub passed : refusal-before w s r cs ≡ 0 → Passed w s r cs
-  unfolding refusal-before kinds-refusal load-refusal
+  unfolding refusal-before early-tests kinds-tests load-refusal first
   passed e =
       let n = length cs in
       let a = passes (not (degrees-fit s r)) 2 _ e in
@@ -66,18 +68,8 @@ module _ (w s r : ℕ) (cs : List ℕ) where
 
   -- one of them, failed, is the refusal
   pub early : (q : ℕ) → refusal-before w s r cs ≡ q → (q ≡ 0 → ⊥) → load-refusal w s r cs ≡ q
-  unfolding refusal-before kinds-refusal load-refusal
-  early q e some =
-      go (not (degrees-fit s r)) (ltb most-tags (length cs)) (ltb w (words-for header-words (length cs))) (not (all-kinds cs)) (not (nests 0 (map kind-of cs))) _ e
-    where
-      go : (a b c d f : Bool) (last : ℕ) → cond a 3 (cond b 6 (cond c 1 (cond d 4 (cond f 5 0)))) ≡ q →
-          cond a 3 (cond b 6 (cond c 1 (cond d 4 (cond f 5 last)))) ≡ q
-      go true b c d f last e = e
-      go false true c d f last e = e
-      go false false true d f last e = e
-      go false false false true f last e = e
-      go false false false false true last e = e
-      go false false false false false last e = absurd (some (sym e))
+  unfolding refusal-before load-refusal
+  early q e some = refused-before (early-tests w s r cs) _ (λ z. some (sym e ∙ z)) ∙ e
 
   -- the last test, as the code makes it
   module _ (h : Passed w s r cs) (u : ℕ) (height : u ≡ load-under r (length cs)) where

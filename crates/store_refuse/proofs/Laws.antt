@@ -9,12 +9,13 @@ use native.Mathlib.Omega.{arith}
 use borrow.Author.Tests.{lt-ltb, le-ltb, le-leb, lt-leb, ne-eqb}
 use lib.Dec.{ltb, leb, eqb}
 use lib.ListN.{length}
+use Rattle.lists.specs.Lists.{first}
 use Rattle.store_types.specs.Layout.{at-count, header-words, at-kind, word-at, field, Room}
 use Rattle.lists.proofs.Tests.{by-test}
 use Rattle.words.proofs.Fields.{header-fits, record-room}
 use Rattle.calls.specs.Kind.{Kind, begin, end, text, code, kind-word, is-begin, is-end}
 use Rattle.calls.specs.Store.{Store, fact, count}
-use Rattle.calls.specs.Mark.{section-refusal}
+use Rattle.calls.specs.Mark.{section-tests, section-refusal}
 use Rattle.calls.specs.Words.{Says, read}
 use Rattle.calls.specs.Replies.{on-store, refusal-over, said}
 use Rattle.calls_laws.proofs.Tests.{Sound, facts-of}
@@ -115,11 +116,11 @@ module _ (ws : List ℕ) (says : Says ws (said ws)) where
 -- THE REFUSALS of mark and hold
 module _ (ws : List ℕ) (x : ℕ) where
   pub section-unknown : Says ws (said ws) → word-at ws at-count ≤ x → refusal-over ws (section-refusal x) ≡ 8
-  unfolding section-refusal
+  unfolding section-refusal section-tests first
   section-unknown says l = refused-said ws (section-refusal x) says ∙ rw (no-tag-from ws says x l)
 
   tag-refused : Tag-said ws x → refusal-over ws (section-refusal x) ≡ cond (leb 16 (field ws x at-kind)) 9 (cond (eqb (field ws x at-kind % 16) 2) 10 0)
-  unfolding section-refusal
+  unfolding section-refusal section-tests first
   tag-refused h =
       refused-said ws (section-refusal x) (h .says)
       ∙ rw (lt-leb (count (said ws)) x (h .tag), kind-of-tag h .marks, kind-of-tag h .ends)

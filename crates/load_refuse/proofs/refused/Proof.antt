@@ -3,10 +3,12 @@ use mathlib.Core.Path.{_≡_, sym, _∙_}
 use mathlib.Core.Bool.{true, _&&_}
 use borrow.Author.Tests.{lt-ltb, le-ltb, not-true, not-false}
 use lib.Dec.{leb}
+use Rattle.lists.specs.Lists.{first}
 use Rattle.store_types.specs.Layout.{words-for}
 use Rattle.calls.specs.Sound.{degrees-fit}
+use Rattle.calls.specs.Load.{early-tests}
 use Rattle.shape.specs.Needs.{degree-fits}
-use Rattle.load_refuse.specs.Refusals.{refusal-before}
+use Rattle.load_refuse.specs.Refusals.{kinds-refusal, refusal-before}
 use borrow.Author.Needs.{needs}
 use Rattle.load_refuse.proofs.refused.Statement.{statement}
 use Rattle.load_refuse.proofs.refused.Tie as tie
@@ -15,7 +17,7 @@ degree-fits-requires : tie.Need-degree-fits-requires
 degree-fits-requires c κs = search needs
 
 returns : tie.Need-returns
-unfolding refusal-before degrees-fit degree-fits words-for
+unfolding refusal-before early-tests first degrees-fit degree-fits words-for
 returns c = rw (sym (c .before .degree-fits .ensures) ∙ not-true _ (c .if1 .taken))
 
 degree-fits-requires-2 : tie.Need-degree-fits-requires-2
@@ -32,11 +34,11 @@ unfolding degree-fits
 r-fits c = sym (c .before .degree-fits2 .ensures) ∙ not-false _ (c .if2 .left)
 
 returns-2 : tie.Need-returns-2
-unfolding refusal-before degrees-fit degree-fits words-for
+unfolding refusal-before early-tests first degrees-fit degree-fits words-for
 returns-2 c = rw (s-fits (c .before .before), sym (c .before .degree-fits2 .ensures) ∙ not-true _ (c .if2 .taken))
 
 returns-3 : tie.Need-returns-3
-unfolding refusal-before degrees-fit degree-fits words-for
+unfolding refusal-before early-tests first degrees-fit degree-fits words-for
 returns-3 c = rw (s-fits (c .before .before .before), r-fits (c .before), lt-ltb 200000 _ (c .if3 .taken))
 
 mul-if4 : tie.Need-mul-if4
@@ -46,7 +48,7 @@ add-if4 : tie.Need-add-if4
 add-if4 c = search needs
 
 returns-4 : tie.Need-returns-4
-unfolding refusal-before degrees-fit degree-fits words-for
+unfolding refusal-before early-tests first degrees-fit degree-fits words-for
 returns-4 c =
     rw (s-fits (c .before .before .before .before), r-fits (c .before .before), le-ltb _ _ (c .before .if3 .left), lt-ltb _ _ (c .if4 .taken))
 
@@ -54,7 +56,7 @@ kinds-refused-requires : tie.Need-kinds-refused-requires
 kinds-refused-requires c κs = search needs
 
 returns-5 : tie.Need-returns-5
-unfolding refusal-before degrees-fit degree-fits words-for
+unfolding refusal-before kinds-refusal early-tests first degrees-fit degree-fits words-for
 returns-5 c =
     rw (s-fits (c .before .before .before .before .before), r-fits (c .before .before .before), le-ltb _ _ (c .before .before .if3 .left), le-ltb _ _ (c .before .if4 .left)) (c .kinds-refused .ensures)
 
