@@ -83,7 +83,7 @@ tables-right {ws} {s} {r} {u} {n} h =
     let low : suc u < 24 = omega (arith, height-range (s * r - 1) (suc u) least (h .labels-fit)) in
     rw (h .degree-s, h .degree-r, h .levels) (record {
       top-fits = low;
-      long = length-table 1 (s * r - 1) (suc u) low;
+      long = length-table 1 _ (suc u) low;
       widths = λ j l. table-at 1 (s * r - 1) (suc u) j l ∙ one-mul ((s * r - 1) ^ j);
       lows = λ j l. table-at 1 r (suc u) j l ∙ one-mul (r ^ j);
       highs = table-at s r (suc u);
