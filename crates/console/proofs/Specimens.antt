@@ -3,9 +3,9 @@ use mathlib.Core.Path.{_≡_, refl}
 use mathlib.Core.List.{map}
 use Rattle.lists.specs.Lists.{same, with-first}
 use Rattle.reply_text.specs.Specimens.{bytes}
-use Rattle.console.specs.Line.{fields, is-digit, all-digits, value-from, well-begun, number-of, place-of, is-letter, all-letters, letter-kind, load-of, insert-of, mark-of, command-of, parsed}
+use Rattle.console.specs.Line.{fields, is-digit, all-digits, value-from, well-begun, number-of, number-or-front, is-letter, all-letters, letter-kind, load-of, insert-of, mark-of, command-of, parsed}
 use Rattle.console.specs.Specimens.{lines}
 
 pub line-specimens : map (λ e. parsed (e .line)) lines ≡ map (λ e. e .says) lines
-unfolding same with-first fields is-digit all-digits value-from well-begun number-of place-of is-letter all-letters letter-kind load-of insert-of mark-of command-of parsed bytes
+unfolding same with-first fields is-digit all-digits value-from well-begun number-of number-or-front is-letter all-letters letter-kind load-of insert-of mark-of command-of parsed bytes
 line-specimens = refl

@@ -9,7 +9,7 @@ use borrow.Author.Tests.{lt-ltb, le-ltb}
 use lib.ListN.{length, take}
 use Rattle.store_types.specs.Limits.{no-tag}
 use Rattle.lists.specs.Lists.{same}
-use Rattle.console.specs.Line.{Parsed, fields, parsed, line-limit, load-word, number-of, place-of, insert-of, mark-of, command-of, unknown, plain, list-word, element-word, text-word, mark-word, front-word}
+use Rattle.console.specs.Line.{Parsed, fields, parsed, line-limit, load-word, number-of, number-or-front, insert-of, mark-of, command-of, unknown, plain, list-word, element-word, text-word, mark-word, front-word}
 use Rattle.console.specs.Scan.{number-reply}
 use Rattle.console.specs.Post.{Gives}
 use Rattle.console.specs.declared.Command.{Command}
@@ -35,12 +35,12 @@ reply-none none e = refl
 reply-none (some w) e = absurd (let z : _≡_ {A = ℕ} 0 1 = cc in omega arith)
 
 -- PLACES
-pub place-front : (cs : List ℕ) → same cs front-word ≡ true → Value no-tag ≡ number-reply (place-of cs)
-unfolding place-of number-reply
+pub place-front : (cs : List ℕ) → same cs front-word ≡ true → Value no-tag ≡ number-reply (number-or-front cs)
+unfolding number-or-front number-reply
 place-front cs e = rw e
 
-pub place-number : (cs : List ℕ) → same cs front-word ≡ false → number-reply (number-of cs) ≡ number-reply (place-of cs)
-unfolding place-of
+pub place-number : (cs : List ℕ) → same cs front-word ≡ false → number-reply (number-of cs) ≡ number-reply (number-or-front cs)
+unfolding number-or-front
 place-number cs e = rw e
 
 -- ONE FIELD
@@ -61,7 +61,7 @@ one-kinds w = go (same w list-word)
     go false = refl
 
 -- TWO FIELDS
-pub two-none : (w a : List ℕ) → place-of a ≡ none → Unknown ≡ command-of (w ∷ a ∷ []) .command
+pub two-none : (w a : List ℕ) → number-or-front a ≡ none → Unknown ≡ command-of (w ∷ a ∷ []) .command
 unfolding command-of insert-of mark-of
 two-none w a e = rw e (go (same w element-word) (same w text-word) (same w mark-word))
   where
@@ -71,7 +71,7 @@ two-none w a e = rw e (go (same w element-word) (same w text-word) (same w mark-
     go false false true = refl
     go false false false = refl
 
-module _ (w a : List ℕ) (y : ℕ) (p : place-of a ≡ some y) where
+module _ (w a : List ℕ) (y : ℕ) (p : number-or-front a ≡ some y) where
   pub two-element : same w element-word ≡ true → Insert 1 (record { 0 = y }) ≡ command-of (w ∷ a ∷ []) .command
   unfolding command-of insert-of
   two-element e = rw (p, e)
@@ -100,7 +100,7 @@ mark-kinds (some y) = refl
 
 pub two-kinds : (w a : List ℕ) → command-of (w ∷ a ∷ []) .kinds ≡ []
 unfolding command-of
-two-kinds w a = go (same w element-word) (same w text-word) (same w mark-word) (place-of a)
+two-kinds w a = go (same w element-word) (same w text-word) (same w mark-word) (number-or-front a)
   where
     go : (t u v : Bool) (o : Option ℕ) → cond t (insert-of 1 o) (cond u (insert-of 3 o) (cond v (mark-of o) unknown)) .kinds ≡ []
     go true u v o = insert-kinds 1 o

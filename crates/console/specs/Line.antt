@@ -58,8 +58,8 @@ abbrev pub front-word : List ℕ
 front-word = 102 ∷ 114 ∷ 111 ∷ 110 ∷ 116 ∷ []
 
 -- A PLACE is a number or `front`, which is no tag
-unfoldable pub place-of : List ℕ → Option ℕ
-place-of cs = cond (same cs front-word) (some no-tag) (number-of cs)
+unfoldable pub number-or-front : List ℕ → Option ℕ
+number-or-front cs = cond (same cs front-word) (some no-tag) (number-of cs)
 
 -- KINDS are letters B, E, T
 unfoldable pub is-letter : (byte : ℕ) → Bool
@@ -103,9 +103,9 @@ unfoldable pub command-of : (fields : List (List ℕ)) → Parsed
 command-of [] = unknown
 command-of (w ∷ []) = cond (same w list-word) (plain List-all) unknown
 command-of (w ∷ a ∷ []) =
-    cond (same w element-word) (insert-of 1 (place-of a))
-    (cond (same w text-word) (insert-of 3 (place-of a))
-    (cond (same w mark-word) (mark-of (place-of a)) unknown))
+    cond (same w element-word) (insert-of 1 (number-or-front a))
+    (cond (same w text-word) (insert-of 3 (number-or-front a))
+    (cond (same w mark-word) (mark-of (number-or-front a)) unknown))
 command-of (w ∷ a ∷ b ∷ []) = unknown
 command-of (w ∷ a ∷ b ∷ c ∷ []) =
     cond (same w load-word) (load-of (number-of a) (number-of b) (number-of c) []) unknown

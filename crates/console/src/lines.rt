@@ -10,13 +10,13 @@ ghost use mathlib.Core.Path.{_≡_};
 ghost use mathlib.Core.List.{[], _∷_};
 ghost use Prim.Native.Nat.{_≤_};
 ghost use lib.ListN.{length};
-ghost use Rattle.console.specs.Line.{parsed, fields, command-of, place-of, load-word};
+ghost use Rattle.console.specs.Line.{parsed, fields, command-of, number-or-front, load-word};
 ghost use Rattle.console.specs.Scan.{number-reply};
 ghost use Rattle.console.specs.Post.{Gives};
 
 // A number, or `front`, which is no tag.
 fn read_place(field: &[u8]) -> Number
-    ensures { λ q. ⌜ q ≡ number-reply (place-of (now (field .entry))) ⌝ }
+    ensures { λ q. ⌜ q ≡ number-reply (number-or-front (now (field .entry))) ⌝ }
 {
     if same_bytes(field, b"front") {
         let none = TagId::NONE;

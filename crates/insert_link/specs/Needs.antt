@@ -16,7 +16,7 @@ pub record Place-there (ws : List ℕ) (n y : ℕ) : Type 0 where
   pub place : Tag-or-none n y
 
 -- there is room for tag n, and the tag behind its place is one of n or none
-pub record Tag-fits (ws : List ℕ) (n y : ℕ) : Type 0 where
+pub record New-tag-fits (ws : List ℕ) (n y : ℕ) : Type 0 where
   pub records : Records ws (suc n)
   pub place : Tag-or-none n y
   pub next : Tag-or-none n (behind ws y)

@@ -4,7 +4,7 @@ ghost use Prim.Native.Nat.{_+_, _≤_, _<_};
 ghost use lib.ListN.{length};
 ghost use Rattle.store_types.specs.Layout.{at-height, header-words, word-at, Room};
 ghost use Rattle.edit_model.specs.Insert.{behind as tag-behind, with-record, linked-place, linked-next, added, up-word, raised-words};
-ghost use Rattle.insert_link.specs.Needs.{Place-there, Tag-fits};
+ghost use Rattle.insert_link.specs.Needs.{Place-there, New-tag-fits};
 use store_types::Label;
 use store_types::TagId;
 
@@ -77,7 +77,7 @@ fn link_next(words: &mut [u32], n: u32, next: TagId)
 
 // Tag n goes in behind a place.
 pub fn add_tag(words: &mut [u32], n: u32, place: TagId, mate: TagId, up: TagId, kind: u32)
-    requires { ⌜ Tag-fits (now words) n (place .0) ⌝ }
+    requires { ⌜ New-tag-fits (now words) n (place .0) ⌝ }
     ensures { λ _. ⌜ now (words .exit) ≡ added (now (words .entry)) n (place .0) (mate .0) (up .0) kind ⌝ }
 {
     let next = behind(words, n, place);

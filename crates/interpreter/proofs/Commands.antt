@@ -18,7 +18,7 @@ use Rattle.calls.specs.Store.{Store, label}
 use Rattle.calls.specs.Listing.{inside-tests, list-refusal, listed-tags, listed-labels}
 use Rattle.calls.specs.Words.{read, in-front}
 use Rattle.calls.specs.Replies.{on-store, refusal-over, store-or, said, replied, written, load-words, list-refused, list-reply, list-tags, list-labels}
-use Rattle.console.specs.Line.{Parsed, unknown, plain, parsed, fields, number-of, place-of, all-letters, letter-kind, load-of, insert-of, mark-of, command-of, line-limit, load-word, list-word, element-word, text-word, mark-word}
+use Rattle.console.specs.Line.{Parsed, unknown, plain, parsed, fields, number-of, number-or-front, all-letters, letter-kind, load-of, insert-of, mark-of, command-of, line-limit, load-word, list-word, element-word, text-word, mark-word}
 use Rattle.reply_text.specs.Text.{reply-line, tag-lines, end-line}
 use Rattle.console.specs.Post.{Gives}
 use Rattle.reply_text.specs.Post.{Written}
@@ -70,9 +70,9 @@ unfolding command-of
 command-counted [] = unknown-counted
 command-counted (w ∷ []) = either-counted (same w list-word) _ _ list-counted unknown-counted
 command-counted (w ∷ a ∷ []) =
-    either-counted (same w element-word) _ _ (insert-counted 1 (place-of a))
-    (either-counted (same w text-word) _ _ (insert-counted 3 (place-of a))
-    (either-counted (same w mark-word) _ _ (mark-counted (place-of a)) unknown-counted))
+    either-counted (same w element-word) _ _ (insert-counted 1 (number-or-front a))
+    (either-counted (same w text-word) _ _ (insert-counted 3 (number-or-front a))
+    (either-counted (same w mark-word) _ _ (mark-counted (number-or-front a)) unknown-counted))
 command-counted (w ∷ a ∷ b ∷ []) = unknown-counted
 command-counted (w ∷ a ∷ b ∷ c ∷ []) = either-counted (same w load-word) _ _ (load-counted (number-of a) (number-of b) (number-of c) []) unknown-counted
 command-counted (w ∷ a ∷ b ∷ c ∷ d ∷ []) = either-counted (same w load-word) _ _ (load-counted (number-of a) (number-of b) (number-of c) d) unknown-counted

@@ -36,7 +36,7 @@ use Rattle.edit_model.proofs.Inserted.{place-said, position-said, few-said, roo
 use Rattle.renumber.proofs.Rows.{cut-small}
 use Rattle.store_refuse.proofs.Laws.{accepted-says, accepted-store}
 use Rattle.store_insert.specs.Parts.{lows-of}
-use Rattle.insert_link.specs.Needs.{Tag-or-none, Place-there, Tag-fits}
+use Rattle.insert_link.specs.Needs.{Tag-or-none, Place-there, New-tag-fits}
 use Rattle.insert_plan.specs.Needs.{Plan-reads, Applicable}
 use Rattle.insert_refuse.proofs.Headers.{Ranges, ranges}
 use Rattle.insert_plan.proofs.Plans.{Plan-fits, plan-fits}
@@ -133,7 +133,7 @@ module _ (ws : List ℕ) (says : Says ws (said ws)) (c : Kind) (ks : List Kind) 
   count-is : word-at ws at-count ≡ count (said ws)
   count-is = issued ws says (c ∷ ks) y a
 
-  pub tag-fits : Tag-fits ws (word-at ws at-count) y
+  pub tag-fits : New-tag-fits ws (word-at ws at-count) y
   unfolding image-of words-said
   tag-fits =
       let p = position y (said ws) in

@@ -7,7 +7,7 @@ use native.Mathlib.Omega.{arith}
 use Rattle.store_types.specs.Layout.{at-height, word-at}
 use Rattle.words.proofs.Fields.{records-fewer}
 use Rattle.edit_model.specs.Insert.{Plan, added, raised-words, applied, put-words, plain-plan, end-edit}
-use Rattle.insert_link.specs.Needs.{Tag-fits}
+use Rattle.insert_link.specs.Needs.{New-tag-fits}
 use Rattle.insert_plan.specs.Needs.{Plain-reads, Applicable}
 use Rattle.store_insert.specs.Needs.{Edits, End-fits}
 use Rattle.store_insert.proofs.Keeps.{plain-applicable}
@@ -34,7 +34,7 @@ module _ {ws w l : List ℕ} {n r : ℕ} (h : End-fits ws n r w l) where
         widths = h .widths;
       })
 
-  pub end-tag : Tag-fits ws (n + 1) n
+  pub end-tag : New-tag-fits ws (n + 1) n
   end-tag = rw (add-one n) (h .tag)
 
   module _ (u : ℕ) {p : Plan} {vs : List ℕ} (plan : p ≡ plain-plan ws w (word-at ws at-height - 1) n) (put : vs ≡ added ws (n + 1) n n u 2) where

@@ -28,7 +28,7 @@ use Rattle.edit_model.proofs.Single.{grown, book-with, proper-grown}
 use Rattle.edit_model.proofs.Renumbered.{Words-in, Row-in}
 use Rattle.edit_model.proofs.Inserted.{position-said, few-said, room-said, labels-said, begin-fact, begin-words}
 use Rattle.edit_model.proofs.Elements.{element-row}
-use Rattle.insert_link.specs.Needs.{Tag-fits}
+use Rattle.insert_link.specs.Needs.{New-tag-fits}
 use Rattle.store_insert.specs.Needs.{Put-fits, End-fits, Ready, Edits}
 use Rattle.shape.proofs.Fits.{height-range}
 use Rattle.insert_refuse.proofs.Headers.{ranges}
@@ -53,7 +53,7 @@ module _ {k : ℕ} {ws w l : List ℕ} {n y u r : ℕ} {p : Plan} (h : Ready 1 k
   abbrev first : Fact
   first = record { kind = begin; marked = false; mate = suc (word-at ws at-count); up = u }
 
-  pub begin-tag : Tag-fits ws n y
+  pub begin-tag : New-tag-fits ws n y
   begin-tag = rw (h .tags) (tag-fits ws said-now begin (end ∷ []) y both-row)
 
   pub room-for-two : Records ws (suc (suc n))
@@ -74,7 +74,7 @@ module _ {k : ℕ} {ws w l : List ℕ} {n y u r : ℕ} {p : Plan} (h : Ready 1 k
         rw (with-begin, added-header 3 (omega arith) ws (word-at ws at-count) y (suc (word-at ws at-count)) u 1 (λ e. omega arith) (λ e. omega arith)) low-there
 
     -- its end can go in behind it
-    pub end-next : Tag-fits vs (n + 1) n
+    pub end-next : New-tag-fits vs (n + 1) n
     unfolding kind-word code
     end-next =
         let room = room-for-two in

@@ -18,7 +18,7 @@ use Rattle.words.proofs.Fields.{header-fits, room, room-same, records-kept, fie
 use Rattle.edit_model.specs.Relabel.{relabel, along, cut, shift}
 use Rattle.edit_model.specs.Insert.{Plan, behind, with-record, linked-place, linked-next, added, plain-plan, applied}
 use Rattle.renumber.proofs.Rows.{cut-small}
-use Rattle.insert_link.specs.Needs.{Tag-fits}
+use Rattle.insert_link.specs.Needs.{New-tag-fits}
 use Rattle.insert_plan.specs.Needs.{Applicable}
 use Rattle.insert_link.proofs.Links.{behind-front, behind-tag, linked-front, linked-tag}
 
@@ -83,7 +83,7 @@ module _ (i : ℕ) (low : i < header-words) where
       getD-set-other (linked-next placed next n) at-count i (suc n) 0 count ∙ next-header placed next n ∙ place-header recorded y n first ∙ record-header ws n next y mate up kind
 
 -- THE NEW TAG n stands behind its place
-module _ (ws : List ℕ) (n y mate up kind : ℕ) (h : Tag-fits ws n y) where
+module _ (ws : List ℕ) (n y mate up kind : ℕ) (h : New-tag-fits ws n y) where
   abbrev recorded : List ℕ
   recorded = with-record ws n (behind ws y) y mate up kind
 

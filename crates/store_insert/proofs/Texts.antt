@@ -13,7 +13,7 @@ use Rattle.calls.specs.Words.{Says}
 use Rattle.calls.specs.Replies.{said}
 use Rattle.calls_laws.proofs.Inserts.{Row-accepted}
 use Rattle.edit_model.specs.Insert.{Plan, added, plan, put-words, text-edit}
-use Rattle.insert_link.specs.Needs.{Tag-fits}
+use Rattle.insert_link.specs.Needs.{New-tag-fits}
 use Rattle.store_insert.specs.Needs.{Put-fits, Ready, Edits}
 use Rattle.insert_refuse.proofs.Headers.{ranges}
 use Rattle.store_insert.proofs.Keeps.{added-header}
@@ -28,7 +28,7 @@ module _ {ws w l : List ℕ} {n y u r : ℕ} {p : Plan} (h : Ready 3 1 ws n y u 
   unfolding insert-kinds
   text-row = row-accepted ws 3 y (h .accepted)
 
-  pub text-tag : Tag-fits ws n y
+  pub text-tag : New-tag-fits ws n y
   text-tag = rw (h .tags) (tag-fits ws text-said text [] y text-row)
 
   module _ {vs : List ℕ} (put : vs ≡ added ws n y n u 3) where

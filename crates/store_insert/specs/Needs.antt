@@ -8,7 +8,7 @@ use Rattle.calls.specs.Replies.{insert-refused}
 use Rattle.edit_model.specs.Insert.{Plan, Edited, up-word, widths-of, plan-of}
 use Rattle.walk_levels.specs.Needs.{Ancestors-fit}
 use Rattle.store_insert.specs.Parts.{lows-of}
-use Rattle.insert_link.specs.Needs.{Tag-fits}
+use Rattle.insert_link.specs.Needs.{New-tag-fits}
 use Rattle.insert_plan.specs.Needs.{Applicable}
 
 -- EDITS: what the code leaves is what the mirror says
@@ -37,7 +37,7 @@ Both-ready ws n y u r p w l = Ready 1 2 ws n y u r p w l × (plan-of ws 1 y .hei
 
 -- an end goes in behind its begin n, in words that hold the begin
 pub record End-fits (ws : List ℕ) (n r : ℕ) (w l : List ℕ) : Type 0 where
-  pub tag : Tag-fits ws (suc n) n
+  pub tag : New-tag-fits ws (suc n) n
   pub levels : 1 ≤ word-at ws at-height
   pub ancestors : Ancestors-fit (pred (word-at ws at-height)) w
   pub widths : (h : ℕ) → entry w h ≤ entry-limit

@@ -14,11 +14,11 @@ use Rattle.words.proofs.Fields.{room-same, with-own-field, label-past-field, fi
 use Rattle.tree.specs.Row.{member}
 use Rattle.tree_laws.proofs.Rows.{Distinct, member-first, member-later, differs}
 use Rattle.walk_model.proofs.Passes.{total}
-use Rattle.store_mark.specs.Run.{marked-word, new-mark, mark-one, mark-each, count-new}
+use Rattle.store_mark.specs.Run.{with-mark, new-mark, mark-one, mark-each, count-new}
 
 -- KIND WORDS: a marked one stays
-marked-twice : (c : ℕ) → marked-word (marked-word c) ≡ marked-word c
-unfolding marked-word
+marked-twice : (c : ℕ) → with-mark (with-mark c) ≡ with-mark c
+unfolding with-mark
 marked-twice c =
     by-test (leb 16 c) (λ e. rw (e, e)) (λ e. rw (e, le-leb 16 (c + 16) (omega arith)))
 
@@ -29,11 +29,11 @@ new-mark-few c = by-test (leb 16 c) (λ e. rw e (omega arith)) (λ e. rw e (omeg
 -- ONE TAG, marked before or not: what was there, written again, changes nothing
 module _ (ws : List ℕ) (x : ℕ) where
   pub mark-again : (c : ℕ) → c ≡ field ws x at-kind → 16 ≤ c → (0 ≡ new-mark (field ws x at-kind)) × (ws ≡ mark-one ws x)
-  unfolding mark-one marked-word new-mark
+  unfolding mark-one with-mark new-mark
   mark-again c e l = rw (← e, le-leb 16 c l, e) (refl, sym (with-own-field ws x at-kind))
 
   pub mark-first : (c : ℕ) (vs : List ℕ) → c ≡ field ws x at-kind → c < 16 → vs ≡ with-field ws x at-kind (c + 16) → (1 ≡ new-mark (field ws x at-kind)) × (vs ≡ mark-one ws x)
-  unfolding mark-one marked-word new-mark
+  unfolding mark-one with-mark new-mark
   mark-first c vs e l put = rw (← e, lt-leb 16 c l) (refl, put)
 
   pub length-one : length (mark-one ws x) ≡ length ws
@@ -57,7 +57,7 @@ module _ (ws : List ℕ) (x : ℕ) where
   unfolding mark-one
   one-label y = label-past-field ws x y at-kind _ (omega arith) (omega arith)
 
-  one-own : Room ws x → field (mark-one ws x) x at-kind ≡ marked-word (field ws x at-kind)
+  one-own : Room ws x → field (mark-one ws x) x at-kind ≡ with-mark (field ws x at-kind)
   unfolding mark-one
   one-own room = field-same ws x at-kind _ room (omega arith)
 
@@ -88,15 +88,15 @@ each-label ws (x ∷ xs) y = each-label (mark-one ws x) xs y ∙ one-label ws x 
 
 -- each tag's own kind word is marked, and no other's
 pub each-kind : (ws xs : List ℕ) (y : ℕ) → Room ws y →
-    field (mark-each ws xs) y at-kind ≡ cond (member y xs) (marked-word (field ws y at-kind)) (field ws y at-kind)
+    field (mark-each ws xs) y at-kind ≡ cond (member y xs) (with-mark (field ws y at-kind)) (field ws y at-kind)
 unfolding mark-each member
 each-kind ws [] y room = refl
 each-kind ws (x ∷ xs) y room =
     let later = each-kind (mark-one ws x) xs y (room-same room (length-one ws x)) in
     by-test (eqb y x)
     (λ e. let same = eqb-true y x e in
-    let own : field (mark-one ws x) y at-kind ≡ marked-word (field ws y at-kind) = rw same (one-own ws x (rw same at room)) in
-    rw e (later ∙ rw (own, marked-twice (field ws y at-kind)) (either (member y xs) (marked-word (field ws y at-kind)))))
+    let own : field (mark-one ws x) y at-kind ≡ with-mark (field ws y at-kind) = rw same (one-own ws x (rw same at room)) in
+    rw e (later ∙ rw (own, marked-twice (field ws y at-kind)) (either (member y xs) (with-mark (field ws y at-kind)))))
     (λ e. rw (e, ← one-other-tag ws x y e) later)
   where
     either : (t : Bool) (c : ℕ) → cond t c c ≡ c

@@ -22,12 +22,12 @@ use Rattle.calls_laws.proofs.Tests.{Sound}
 use Rattle.calls_laws.proofs.Fields.{length-words, first-word, field-word, header-says}
 use Rattle.calls_laws.proofs.Sections.{Section}
 use Rattle.calls_laws.proofs.Marks.{length-marked, alike-marked, mark-of, own-below, within-own}
-use Rattle.store_mark.specs.Run.{marked-word, mark-each}
+use Rattle.store_mark.specs.Run.{with-mark, mark-each}
 use Rattle.store_mark.proofs.Each.{length-each, each-header, each-label, each-other-word, each-kind, each-front}
 
 -- a kind word that is marked where its tag is the section's
-kind-marked : (k : Kind) (m w : Bool) → cond w (marked-word (kind-word k m)) (kind-word k m) ≡ kind-word k (m || w)
-unfolding marked-word kind-word code
+kind-marked : (k : Kind) (m w : Bool) → cond w (with-mark (kind-word k m)) (kind-word k m) ≡ kind-word k (m || w)
+unfolding with-mark kind-word code
 kind-marked begin true true = refl
 kind-marked begin true false = refl
 kind-marked begin false true = refl

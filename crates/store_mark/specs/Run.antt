@@ -7,15 +7,15 @@ use lib.Dec.{leb, ltb, eqb}
 use Rattle.store_types.specs.Layout.{at-next, at-mate, at-kind, field, with-field}
 
 -- a kind word when its tag is marked, and 1 where it was not before
-unfoldable pub marked-word : ℕ → ℕ
-marked-word c = cond (leb 16 c) c (c + 16)
+unfoldable pub with-mark : ℕ → ℕ
+with-mark c = cond (leb 16 c) c (c + 16)
 
 unfoldable pub new-mark : ℕ → ℕ
 new-mark c = cond (leb 16 c) 0 1
 
 -- words after one tag is marked, and after a row of tags
 unfoldable pub mark-one : List ℕ → (tag : ℕ) → List ℕ
-mark-one ws x = with-field ws x at-kind (marked-word (field ws x at-kind))
+mark-one ws x = with-field ws x at-kind (with-mark (field ws x at-kind))
 
 unfoldable pub mark-each : List ℕ → (tags : List ℕ) → List ℕ
 mark-each ws [] = ws
