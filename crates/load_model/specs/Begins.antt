@@ -1,0 +1,35 @@
+-- Where the nodes of a load begin (document 01, "The tree"), place by place. Follows the code of crate load_tags. Assumes nothing:
+-- these are definitions.
+use mathlib.Core.Path.{_≡_}
+use mathlib.Core.Bool.{cond}
+use mathlib.Core.List.{List}
+use Prim.Native.Nat.{ℕ, zero, suc, _+_, _*_, _≤_, _<_}
+use lib.Dec.{leb, eqb}
+use lib.ListN.{length, set}
+use Rattle.shape.specs.Tables.{entry}
+use Rattle.edit_model.specs.Relabel.{cut}
+
+-- behind a node over e leaves that begins at place i of n, the place where the next one of its height begins: n where there is
+-- none, since the last takes all that remain
+unfoldable pub next-begin : (i n e : ℕ) → ℕ
+next-begin i n e = cond (leb (i + 2 * e) n) (i + e) n
+
+-- a label, and the places where the next nodes begin: the j-th is that of height j + 1
+pub record Front : Type 0 where
+  pub label : ℕ
+  pub begins : List ℕ
+
+-- at place i the nodes that begin there, from height j + 1 on: each takes the label a gap further. Where none of a height begins,
+-- none above it does
+unfoldable pub begun : (most j : ℕ) → (gaps lows : List ℕ) → (n i label : ℕ) → (begins : List ℕ) → Front
+begun zero j g l n i a bs = record { label = a; begins = bs }
+begun (suc k) j g l n i a bs =
+    let stays : Front = record { label = a; begins = bs } in
+    let goes = begun k (suc j) g l n i (cut (a + entry g j)) (set bs j (next-begin i n (entry l j))) in
+    cond (eqb (entry bs j) i) goes stays
+
+-- before any tag is written: behind the first node of each of u heights the next one
+pub record First-begins (n u : ℕ) (lows begins : List ℕ) : Type 0 where
+  pub size : length begins ≡ 24
+  pub next : (h : ℕ) → h < u → entry begins h ≡ next-begin 0 n (entry lows h)
+  pub none : (h : ℕ) → u ≤ h → h < 24 → entry begins h ≡ n
