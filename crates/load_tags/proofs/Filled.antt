@@ -9,7 +9,7 @@ use native.Mathlib.Nat.{add-zero}
 use native.Mathlib.Omega.{arith}
 use borrow.Author.Tests.{eqb-true, eqb-false}
 use lib.Dec.{eqb}
-use lib.ListN.{length}
+use lib.ListN.{length, getD}
 use Rattle.store_types.specs.Limits.{no-tag, most-tags}
 use Rattle.lists.proofs.Tests.{by-test}
 use Rattle.store_types.specs.Layout.{header-words, at-next, at-prior, at-mate, at-up, at-kind, words-for, field}
@@ -33,10 +33,10 @@ further-out fs o y other (here tag s) = absurd (other s)
 further-out fs o y other (out tag h) = h
 
 -- the first x tags of n are written, u is the innermost open begin
-pub record Filled (n : ℕ) (fs : List Fact) (before : List ℕ) (x : ℕ) (ws : List ℕ) (u : ℕ) : Type 0 where
+pub record Filled (n : ℕ) (fs : List Fact) (ls before : List ℕ) (x : ℕ) (ws : List ℕ) (u : ℕ) : Type 0 where
   pub around : Around before ws n
   pub below : (y : ℕ) → Open fs u y → y < x
-  pub places : (y : ℕ) → y < x → Placed ws n y (fact-in fs y)
+  pub places : (y : ℕ) → y < x → Placed ws n y (getD ls y 0) (fact-in fs y)
   pub mates : (y : ℕ) → y < x → (field ws y at-mate ≡ fact-in fs y .mate) ⊎ Open fs u y
 
 -- below x + 1: x itself, or below x
@@ -44,9 +44,9 @@ up-to : {P : ℕ → Type 0} (x : ℕ) → P x → ((y : ℕ) → (y ≡ x → �
 up-to {P} x own before y l =
     by-test (eqb y x) (λ e. rw (eqb-true y x e) own) (λ e. let other = eqb-false y x e in before y other (omega arith))
 
--- ONE TAG MORE, of kind number c
-module _ (n : ℕ) (fs : List Fact) (before : List ℕ) (few : n ≤ most-tags) (x : ℕ) (ws : List ℕ) (u : ℕ) (f : Filled n fs before x ws u)
-    (own : x < n) (c : ℕ) (long : words-for header-words n ≤ length before) (number : c ≡ code (fact-in fs x .kind)) (unmarked : fact-in fs x .marked ≡ false) where
+-- ONE TAG MORE, of kind number c, with label a
+module _ (n : ℕ) (fs : List Fact) (ls before : List ℕ) (few : n ≤ most-tags) (x : ℕ) (ws : List ℕ) (u : ℕ) (f : Filled n fs ls before x ws u)
+    (own : x < n) (c a : ℕ) (labelled : a ≡ getD ls x 0) (long : words-for header-words n ≤ length before) (number : c ≡ code (fact-in fs x .kind)) (unmarked : fact-in fs x .marked ≡ false) where
   tag : x ≡ no-tag → ⊥
   tag e = omega arith
 
@@ -58,10 +58,10 @@ module _ (n : ℕ) (fs : List Fact) (before : List ℕ) (few : n ≤ most-tags) 
   still-long = rw (f .around .size) long
 
   -- all but mates
-  places-more : (mate up begun : ℕ) (vs : List ℕ) → One-more n x c mate up begun ws vs → up ≡ fact-in fs x .up → (y : ℕ) → y < suc x →
-      Placed vs n y (fact-in fs y)
+  places-more : (mate up begun : ℕ) (vs : List ℕ) → One-more n x c a mate up begun ws vs → up ≡ fact-in fs x .up → (y : ℕ) → y < suc x →
+      Placed vs n y (getD ls y 0) (fact-in fs y)
   places-more mate up begun vs t is-up = up-to x
-      (record { label-word = t .label-word; next-word = t .next-word; prior-word = t .prior-word; up-word = t .up-word ∙ is-up; kind-is = t .kind-is ∙ is-word })
+      (record { label-word = t .label-word ∙ labelled; next-word = t .next-word; prior-word = t .prior-word; up-word = t .up-word ∙ is-up; kind-is = t .kind-is ∙ is-word })
       (λ y other l.
       let p = f .places y l in
       record {
@@ -73,13 +73,13 @@ module _ (n : ℕ) (fs : List Fact) (before : List ℕ) (few : n ≤ most-tags) 
       })
 
   -- a begin or text, under u: the mates that were right are, and those that were open may be so still
-  module _ (vs : List ℕ) (t : One-more n x c x u x ws vs) (is-up : u ≡ fact-in fs x .up) where
+  module _ (vs : List ℕ) (t : One-more n x c a x u x ws vs) (is-up : u ≡ fact-in fs x .up) where
     inner-mates : {m : ℕ} → ((y : ℕ) → Open fs u y → Open fs m y) → (y : ℕ) → (y ≡ x → ⊥) → y < x →
         (field vs y at-mate ≡ fact-in fs y .mate) ⊎ Open fs m y
     inner-mates still y other l =
         ⊎-elim (λ e. inl (t .kept y at-mate (omega arith) (omega arith) other (λ s i. other s) ∙ e)) (λ o. inr (still y o)) (f .mates y l)
 
-    turned-begin : Filled n fs before (suc x) vs x
+    turned-begin : Filled n fs ls before (suc x) vs x
     turned-begin =
         record {
           around = around-both before ws vs n (f .around) (t .around);
@@ -92,7 +92,7 @@ module _ (n : ℕ) (fs : List Fact) (before : List ℕ) (few : n ≤ most-tags) 
         open-below y (here t s) = omega arith
         open-below y (out t h) = omega (arith, f .below y (rw is-up h))
 
-    turned-text : x ≡ fact-in fs x .mate → Filled n fs before (suc x) vs u
+    turned-text : x ≡ fact-in fs x .mate → Filled n fs ls before (suc x) vs u
     turned-text is-mate =
         record {
           around = around-both before ws vs n (f .around) (t .around);
@@ -102,8 +102,8 @@ module _ (n : ℕ) (fs : List Fact) (before : List ℕ) (few : n ≤ most-tags) 
         }
 
   -- an end of u, whose mate is right now
-  turned-end : (m : ℕ) (vs : List ℕ) → (u ≡ no-tag → ⊥) → One-more n x c u (field ws u at-up) u ws vs → field vs u at-mate ≡ x → Ends fs u x m →
-      Filled n fs before (suc x) vs (fact-in fs u .up)
+  turned-end : (m : ℕ) (vs : List ℕ) → (u ≡ no-tag → ⊥) → One-more n x c a u (field ws u at-up) u ws vs → field vs u at-mate ≡ x → Ends fs u x m →
+      Filled n fs ls before (suc x) vs (fact-in fs u .up)
   turned-end m vs shut t back h =
       let up-is : field ws u at-up ≡ fact-in fs u .up = f .places u (f .below u (here shut refl)) .up-word in
       record {
@@ -128,13 +128,13 @@ module _ (n : ℕ) (fs : List Fact) (before : List ℕ) (few : n ≤ most-tags) 
   begun m (ends shut h) e = omega (arith, f .below u (here shut refl))
   begun m (stands h) e = absurd (omega (arith, numbered text (h .kind)))
 
-  pub turned : (m : ℕ) → Step fs no-tag u x m → Filled n fs before (suc x) (tag-written x n c u ws) m × (open-behind x n c u ws ≡ m)
+  pub turned : (m : ℕ) → Step fs no-tag u x m → Filled n fs ls before (suc x) (tag-written x n c a u ws) m × (open-behind x n c a u ws ≡ m)
   unfolding code
   turned m (begins h) =
       let is-one : c ≡ 1 = numbered begin (h .kind) in
       rw (h .next) (
-        turned-begin _ (inner-more ws x n c u own still-long (λ e. omega arith)) (sym (h .up)),
-        begin-opens x n c u ws is-one,
+        turned-begin _ (inner-more ws x n c a u own still-long (λ e. omega arith)) (sym (h .up)),
+        begin-opens x n c a u ws is-one,
       )
   turned m (ends shut h) =
       let is-two : c ≡ 2 = numbered end (h .kind) in
@@ -142,12 +142,12 @@ module _ (n : ℕ) (fs : List Fact) (before : List ℕ) (few : n ≤ most-tags) 
       let fits : u < n = omega arith in
       let apart : x ≡ u → ⊥ = λ e. omega arith in
       rw (h .next) (
-        turned-end m _ shut (end-more ws x n c u own still-long is-two fits apart) (end-mates ws x n c u own still-long is-two fits apart) h,
-        end-opens ws x n c u own still-long is-two fits apart ∙ f .places u inside .up-word,
+        turned-end m _ shut (end-more ws x n c a u own still-long is-two fits apart) (end-mates ws x n c a u own still-long is-two fits apart) h,
+        end-opens ws x n c a u own still-long is-two fits apart ∙ f .places u inside .up-word,
       )
   turned m (stands h) =
       let is-three : c ≡ 3 = numbered text (h .kind) in
       rw (h .next) (
-        turned-text _ (inner-more ws x n c u own still-long (λ e. omega arith)) (sym (h .up)) (sym (h .mate)),
-        text-opens x n c u ws is-three,
+        turned-text _ (inner-more ws x n c a u own still-long (λ e. omega arith)) (sym (h .up)) (sym (h .mate)),
+        text-opens x n c a u ws is-three,
       )

@@ -1,3 +1,5 @@
 pub mod OneTag
 pub mod Filled
 pub mod Row
+pub mod Nodes
+pub mod Labelled

@@ -74,10 +74,10 @@ module _ (x n : ℕ) (below : x < n) where
   puts-around ((k, v) ∷ ps) ws all =
       around-both ws (with-field ws x k v) _ n (around-one ws x k v n below (all .1)) (puts-around ps (with-field ws x k v) (all .2))
 
--- TAG x of kind number c behind the tags before it; `begun` gets its mate too
-pub record One-more (n x c mate up begun : ℕ) (ws vs : List ℕ) : Type 0 where
+-- TAG x of kind number c with label a behind the tags before it; `begun` gets its mate too
+pub record One-more (n x c a mate up begun : ℕ) (ws vs : List ℕ) : Type 0 where
   pub around : Around ws vs n
-  pub label-word : label-at vs x ≡ 0
+  pub label-word : label-at vs x ≡ a
   pub next-word : field vs x at-next ≡ next-number x n
   pub prior-word : field vs x at-prior ≡ prior-number x
   pub mate-word : field vs x at-mate ≡ mate
@@ -86,37 +86,37 @@ pub record One-more (n x c mate up begun : ℕ) (ws vs : List ℕ) : Type 0 wher
   pub kept : (y j : ℕ) → label-words ≤ j → j < tag-words → (y ≡ x → ⊥) → (y ≡ begun → j ≡ at-mate → ⊥) → field vs y j ≡ field ws y j
   pub label-kept : (y : ℕ) → (y ≡ x → ⊥) → label-at vs y ≡ label-at ws y
 
-module _ (ws : List ℕ) (x n c o : ℕ) (below : x < n) (long : words-for header-words n ≤ length ws) where
-  -- label 0, and what every tag's record has, with this mate
+module _ (ws : List ℕ) (x n c a o : ℕ) (below : x < n) (long : words-for header-words n ≤ length ws) where
+  -- its label, and what every tag's record has, with this mate
   abbrev labelled : List ℕ
-  labelled = with-label ws x 0
+  labelled = with-label ws x a
 
   labelled-long : words-for header-words n ≤ length labelled
   labelled-long = rw length-with-label long
 
-  own-label : label-at labelled x ≡ 0
-  own-label = label-same ws x 0 (record-room n x ws long below)
+  own-label : label-at labelled x ≡ a
+  own-label = label-same ws x a (record-room n x ws long below)
 
   abbrev common : (mate : ℕ) → (rest : List (ℕ × ℕ)) → List (ℕ × ℕ)
   common m ps = (at-kind, c) ∷ (at-next, next-number x n) ∷ (at-prior, prior-number x) ∷ (at-mate, m) ∷ ps
 
   -- a begin or text is its own mate so far, and stands under o
-  pub inner-more : (c ≡ 2 → ⊥) → One-more n x c x o x ws (tag-written x n c o ws)
+  pub inner-more : (c ≡ 2 → ⊥) → One-more n x c a x o x ws (tag-written x n c a o ws)
   unfolding tag-written place-written inner-written puts
   inner-more inner =
       let ps = common x ((at-up, o) ∷ []) in
       let all : Places ps = omega arith in
       let own = puts-own x n below ps labelled all labelled-long in
       rw (ne-eqb c 2 inner) (record {
-        around = around-both ws labelled _ n (around-label ws x 0 n below) (puts-around x n below ps labelled all);
+        around = around-both ws labelled _ n (around-label ws x a n below) (puts-around x n below ps labelled all);
         label-word = puts-label x n below ps labelled all x ∙ own-label;
         next-word = own at-next (omega arith);
         prior-word = own at-prior (omega arith);
         mate-word = own at-mate (omega arith);
         up-word = own at-up (omega arith);
         kind-is = own at-kind (omega arith);
-        kept = λ y j past f other back. puts-other x n below ps labelled all y j f other ∙ field-past-label ws x y 0 j past f;
-        label-kept = λ y other. puts-label x n below ps labelled all y ∙ label-other-tag ws x y 0 other;
+        kept = λ y j past f other back. puts-other x n below ps labelled all y j f other ∙ field-past-label ws x y a j past f;
+        label-kept = λ y other. puts-label x n below ps labelled all y ∙ label-other-tag ws x y a other;
       })
 
   -- an end and its begin o are each other's mates, under what o stands under
@@ -133,24 +133,24 @@ module _ (ws : List ℕ) (x n c o : ℕ) (below : x < n) (long : words-for heade
     all-front : Places front
     all-front = omega arith
 
-    up-kept : field (place-written x n c ws) o at-up ≡ field ws o at-up
+    up-kept : field (place-written x n c a ws) o at-up ≡ field ws o at-up
     unfolding place-written puts
     up-kept =
         puts-other x n below ((at-kind, c) ∷ (at-next, next-number x n) ∷ (at-prior, prior-number x) ∷ []) labelled (omega arith) o at-up (omega arith) (λ e. apart (sym e))
-        ∙ field-past-label ws x o 0 at-up (omega arith) (omega arith)
+        ∙ field-past-label ws x o a at-up (omega arith) (omega arith)
 
-    written : tag-written x n c o ws ≡ with-field second x at-up (field ws o at-up)
+    written : tag-written x n c a o ws ≡ with-field second x at-up (field ws o at-up)
     unfolding tag-written end-written place-written puts
     written = rw (eq-eqb c 2 is-end) (ap (λ (up : ℕ). with-field second x at-up up) up-kept)
 
     first-long : words-for header-words n ≤ length first
     first-long = rw (puts-around x n below front labelled all-front .size) labelled-long
 
-    pub end-more : One-more n x c o (field ws o at-up) o ws (tag-written x n c o ws)
+    pub end-more : One-more n x c a o (field ws o at-up) o ws (tag-written x n c a o ws)
     end-more =
         let up = field ws o at-up in
         rw written (record {
-          around = around-both ws labelled _ n (around-label ws x 0 n below) (
+          around = around-both ws labelled _ n (around-label ws x a n below) (
               around-both labelled first _ n (puts-around x n below front labelled all-front) (
               around-both first second _ n (around-one first o at-mate x n begun (omega arith)) (around-one second x at-up up n below (omega arith))));
           label-word = labels-stay x ∙ own-label;
@@ -164,8 +164,8 @@ module _ (ws : List ℕ) (x n c o : ℕ) (below : x < n) (long : words-for heade
               ∙ by-test (eqb y o)
               (λ e. field-other-word first o y at-mate j x (omega arith) f (back (eqb-true y o e)))
               (λ e. field-other-tag first o y at-mate j x (omega arith) f (eqb-false y o e))
-              ∙ puts-other x n below front labelled all-front y j f other ∙ field-past-label ws x y 0 j past f;
-          label-kept = λ y other. labels-stay y ∙ label-other-tag ws x y 0 other;
+              ∙ puts-other x n below front labelled all-front y j f other ∙ field-past-label ws x y a j past f;
+          label-kept = λ y other. labels-stay y ∙ label-other-tag ws x y a other;
         })
       where
         own : (j : ℕ) → j < tag-words → field (with-field second x at-up (field ws o at-up)) x j ≡ cond (eqb j at-up) (field ws o at-up) (last-put j front (field labelled x j))
@@ -179,20 +179,20 @@ module _ (ws : List ℕ) (x n c o : ℕ) (below : x < n) (long : words-for heade
             label-past-field second x y at-up (field ws o at-up) (omega arith) (omega arith)
             ∙ label-past-field first o y at-mate x (omega arith) (omega arith) ∙ puts-label x n below front labelled all-front y
 
-    pub end-mates : field (tag-written x n c o ws) o at-mate ≡ x
+    pub end-mates : field (tag-written x n c a o ws) o at-mate ≡ x
     end-mates =
         rw written (field-other-tag second x o at-up at-mate (field ws o at-up) (omega arith) (omega arith) (λ e. apart (sym e))
         ∙ field-same first o at-mate x (record-room n o first first-long begun) (omega arith))
 
-    pub end-opens : open-behind x n c o ws ≡ field ws o at-up
+    pub end-opens : open-behind x n c a o ws ≡ field ws o at-up
     unfolding open-behind
     end-opens = rw (eq-eqb c 2 is-end) up-kept
 
 -- the innermost open begin behind a begin is itself, behind a text what it was
-pub begin-opens : (x n c o : ℕ) (ws : List ℕ) → c ≡ 1 → open-behind x n c o ws ≡ x
+pub begin-opens : (x n c a o : ℕ) (ws : List ℕ) → c ≡ 1 → open-behind x n c a o ws ≡ x
 unfolding open-behind
-begin-opens x n c o ws e = rw e
+begin-opens x n c a o ws e = rw e
 
-pub text-opens : (x n c o : ℕ) (ws : List ℕ) → c ≡ 3 → open-behind x n c o ws ≡ o
+pub text-opens : (x n c a o : ℕ) (ws : List ℕ) → c ≡ 3 → open-behind x n c a o ws ≡ o
 unfolding open-behind
-text-opens x n c o ws e = rw e
+text-opens x n c a o ws e = rw e

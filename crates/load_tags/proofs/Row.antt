@@ -55,12 +55,12 @@ pub count-new : (cs : List ℕ) → length (facts-new cs) ≡ length cs
 count-new cs = length-new-facts no-tag [] 0 (map kind-of cs) ∙ length-map cs kind-of
 
 -- so many are written, and what is left of the pass along the row begins at the innermost open begin
-pub record Filling (cs before : List ℕ) (x : ℕ) (ws : List ℕ) (u : ℕ) : Type 0 where
-  pub filled : Filled (length cs) (facts-new cs) before x ws u
+pub record Filling (cs ls before : List ℕ) (x : ℕ) (ws : List ℕ) (u : ℕ) : Type 0 where
+  pub filled : Filled (length cs) (facts-new cs) ls before x ws u
   pub rest : Pass (facts-new cs) no-tag u (numbers x (length cs - x)) no-tag
 
-module _ (cs before : List ℕ) (h : Tags-fit before cs) where
-  pub row-starts : Filling cs before 0 before no-tag
+module _ (cs ls before : List ℕ) (h : Tags-fit before cs) where
+  pub row-starts : Filling cs ls before 0 before no-tag
   row-starts =
       let fs = facts-new cs in
       let few : length fs ≤ no-tag = omega (arith, count-new cs, h .records .few) in
@@ -75,7 +75,7 @@ module _ (cs before : List ℕ) (h : Tags-fit before cs) where
         rest = rw (sub-zero, ← length-map cs kind-of) (pass-new fs few no-tag free 0 no-tag [] 0 (map kind-of cs) [] refl refl (h .nesting) refl);
       }
 
-  module _ (x : ℕ) (ws : List ℕ) (u : ℕ) (f : Filling cs before x ws u) (own : x < length cs) where
+  module _ (x : ℕ) (ws : List ℕ) (u : ℕ) (f : Filling cs ls before x ws u) (own : x < length cs) where
     -- the tag's step in the pass, and its kind
     step : (m : ℕ) × Step (facts-new cs) no-tag u x m × Pass (facts-new cs) no-tag m (numbers (x + 1) (length cs - (x + 1))) no-tag
     unfolding numbers
@@ -93,15 +93,15 @@ module _ (cs before : List ℕ) (h : Tags-fit before cs) where
         record {
           records = records-kept (h .records) (f .filled .around .size);
           below = own;
-          begun = begun (length cs) (facts-new cs) before (h .records .few) x ws u (f .filled) own (getD cs x 0) (h .records .long) number (fact-is .unmarked) (step .0) (step .1);
+          begun = begun (length cs) (facts-new cs) ls before (h .records .few) x ws u (f .filled) own (getD cs x 0) (getD ls x 0) refl (h .records .long) number (fact-is .unmarked) (step .0) (step .1);
         }
 
-    pub row-turns : Filling cs before (x + 1) (tag-written x (length cs) (getD cs x 0) u ws) (open-behind x (length cs) (getD cs x 0) u ws)
-    row-turns =
-        let t = turned (length cs) (facts-new cs) before (h .records .few) x ws u (f .filled) own (getD cs x 0) (h .records .long) number (fact-is .unmarked) (step .0) (step .1) in
+    pub row-turns : (a : ℕ) → a ≡ getD ls x 0 → Filling cs ls before (x + 1) (tag-written x (length cs) (getD cs x 0) a u ws) (open-behind x (length cs) (getD cs x 0) a u ws)
+    row-turns a labelled =
+        let t = turned (length cs) (facts-new cs) ls before (h .records .few) x ws u (f .filled) own (getD cs x 0) a labelled (h .records .long) number (fact-is .unmarked) (step .0) (step .1) in
         rw (t .1) (record { filled = rw add-one (t .0); rest = step .2 })
 
-  pub row-ends : (x : ℕ) (ws : List ℕ) (u : ℕ) → Filling cs before x ws u → x ≡ length cs → Tags-written before ws cs
+  pub row-ends : (x : ℕ) (ws : List ℕ) (u : ℕ) → Filling cs ls before x ws u → x ≡ length cs → Tags-written before ws cs ls
   unfolding numbers
   row-ends x ws u f e =
       let done : length cs - x ≡ 0 = omega arith in

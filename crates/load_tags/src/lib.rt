@@ -1,8 +1,13 @@
-// The records of the tags, with no labels yet. An open begin's own up word serves as the stack.
+// The records of the tags with their labels, in one pass. An open begin's own up word serves as the stack; the label goes from
+// place to place by the nodes that begin there.
 ghost use mathlib.Core.Path.{_≡_};
-ghost use Prim.Native.Nat.{_<_};
+ghost use Prim.Native.Nat.{_<_, _≤_};
+ghost use lib.ListN.{length};
+ghost use Rattle.store_types.specs.Limits.{most-tags, word-limit};
 ghost use Rattle.store_types.specs.Layout.{at-up, field, Room};
-ghost use Rattle.load_tags.specs.Tags.{next-number, prior-number, place-written, inner-written, end-written, tag-written, open-behind, Tag-fits, Tags-fit, Tags-written};
+ghost use Rattle.shape.specs.Tables.{entry-limit};
+ghost use Rattle.load_model.specs.Begins.{next-begin, begun, First-begins};
+ghost use Rattle.load_tags.specs.Tags.{Entries-fit, Trees-fit, labels-new, next-number, prior-number, place-written, inner-written, end-written, tag-written, open-behind, Tag-fits, Tags-fit, Tags-written};
 use store_types::Label;
 use store_types::TagId;
 
@@ -26,13 +31,13 @@ fn prior_tag(i: u32) -> TagId
     TagId::NONE
 }
 
-// Tag i by its place and kind.
-fn write_place(words: &mut [u32], i: u32, n: u32, kind: u8)
+// Tag i by its place, kind and label.
+fn write_place(words: &mut [u32], i: u32, n: u32, kind: u8, label: Label)
     requires { ⌜ (i < n) × Room (now words) i ⌝ }
-    ensures { λ _. ⌜ now (words .exit) ≡ place-written i n kind (now (words .entry)) ⌝ }
+    ensures { λ _. ⌜ now (words .exit) ≡ place-written i n kind (label .0) (now (words .entry)) ⌝ }
 {
     let x = TagId(i);
-    words::set_label(words, x, Label(0));
+    words::set_label(words, x, label);
     words::set_kind(words, x, kind as u32);
     words::set_next(words, x, next_tag(i, n));
     words::set_prior(words, x, prior_tag(i));
@@ -61,12 +66,12 @@ fn write_end(words: &mut [u32], x: TagId, parent: TagId) -> TagId
 }
 
 // Tag i with its record; the innermost open begin behind it.
-fn write_tag(words: &mut [u32], i: u32, n: u32, kind: u8, parent: TagId) -> TagId
+fn write_tag(words: &mut [u32], i: u32, n: u32, kind: u8, label: Label, parent: TagId) -> TagId
     requires { ⌜ Tag-fits (now words) n i kind (parent .0) ⌝ }
-    ensures words { λ _. ⌜ now (words .exit) ≡ tag-written i n kind (parent .0) (now (words .entry)) ⌝ }
-    ensures open { λ o. ⌜ o .0 ≡ open-behind i n kind (parent .0) (now (words .entry)) ⌝ }
+    ensures words { λ _. ⌜ now (words .exit) ≡ tag-written i n kind (label .0) (parent .0) (now (words .entry)) ⌝ }
+    ensures open { λ o. ⌜ o .0 ≡ open-behind i n kind (label .0) (parent .0) (now (words .entry)) ⌝ }
 {
-    write_place(words, i, n, kind);
+    write_place(words, i, n, kind, label);
     let x = TagId(i);
     if kind == 2 {
         return write_end(words, x, parent);
@@ -78,15 +83,70 @@ fn write_tag(words: &mut [u32], i: u32, n: u32, kind: u8, parent: TagId) -> TagI
     parent
 }
 
-pub fn write_tags(words: &mut [u32], kinds: &[u8])
-    requires { ⌜ Tags-fit (now words) (now kinds) ⌝ }
-    ensures { λ _. ⌜ Tags-written (now (words .entry)) (now (words .exit)) (now (kinds .entry)) ⌝ }
+// Behind a node over `each` leaves at place i of n, where the next of its height begins: n where the last takes all that remain.
+fn next_begin(i: u64, n: u64, each: u64) -> u64
+    requires { ⌜ (i ≤ most-tags) × (each ≤ entry-limit) ⌝ }
+    ensures { λ p. ⌜ p ≡ next-begin i n each ⌝ }
+{
+    if i + 2 * each <= n { i + each } else { n }
+}
+
+// The same behind the first node of each of so many heights.
+fn first_begins(n: u64, under: usize, lows: &[u64; 24]) -> [u64; 24]
+    requires { ⌜ (under ≤ 23) × Entries-fit (now lows) ⌝ }
+    ensures { λ bs. ⌜ First-begins n under (now (lows .entry)) bs ⌝ }
+{
+    let mut begins = [n; 24];
+    let mut j: usize = 0;
+    while j < under {
+        begins[j] = next_begin(0, n, lows[j]);
+        j += 1;
+    }
+    begins
+}
+
+// The label of place i, a gap further for each node that begins there; behind them the next ones.
+fn begin_nodes(
+    i: u64,
+    n: u64,
+    label: u64,
+    gaps: &[u64; 24],
+    lows: &[u64; 24],
+    begins: &mut [u64; 24],
+) -> u64
+    requires { ⌜ (i ≤ most-tags) × (label < word-limit) × Entries-fit (now gaps) × Entries-fit (now lows) ⌝ }
+    ensures label { λ a. ⌜ a ≡ begun 24 0 (now (gaps .entry)) (now (lows .entry)) n i label (now (begins .entry)) .label ⌝ }
+    ensures begins { λ _. ⌜ now (begins .exit) ≡ begun 24 0 (now (gaps .entry)) (now (lows .entry)) n i label (now (begins .entry)) .begins ⌝ }
+{
+    let mut at = label;
+    let mut j: usize = 0;
+    while j < 24 {
+        if begins[j] != i {
+            return at;
+        }
+        at = (at + gaps[j]) % 4294967296;
+        begins[j] = next_begin(i, n, lows[j]);
+        j += 1;
+    }
+    at
+}
+
+// All tags, in trees of height `under` that have widths by the powers of b. Gaps and leaves stand by height less one.
+pub fn write_tags(words: &mut [u32], kinds: &[u8], r: u64, b: u64, under: usize)
+    requires { ⌜ Tags-fit (now words) (now kinds) × Trees-fit r b (length (now kinds)) under ⌝ }
+    ensures { λ _. ⌜ Tags-written (now (words .entry)) (now (words .exit)) (now (kinds .entry)) (labels-new r b (length (now (kinds .entry))) under) ⌝ }
 {
     let n = kinds.len() as u32;
+    let gaps = shape::table(b - r, b, under);
+    let lows = shape::table(r, r, under);
+    let mut begins = first_begins(n as u64, under, &lows);
     let mut parent = TagId::NONE;
+    let mut label: u64 = 0;
     let mut i: u32 = 0;
     while i < n {
-        parent = write_tag(words, i, n, kinds[i as usize], parent);
+        label = begin_nodes(i as u64, n as u64, label, &gaps, &lows, &mut begins);
+        parent = write_tag(words, i, n, kinds[i as usize], Label(label as u32), parent);
+        label = (label + 1) % 4294967296;
         i += 1;
     }
 }

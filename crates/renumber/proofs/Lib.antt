@@ -2,4 +2,3 @@ pub mod Rows
 pub mod Parts
 pub mod Shifts
 pub mod Splits
-pub mod StraightRows

@@ -1,18 +1,13 @@
 -- What the functions of this crate ask of their callers, and what they leave. Assumes nothing: these are definitions.
 use mathlib.Core.Path.{_≡_}
 use mathlib.Core.List.{List, map}
-use Prim.Native.Nat.{ℕ, _+_, _*_, _^_, _≤_, _<_}
+use Prim.Native.Nat.{ℕ, _^_, _≤_, _<_}
 use Rattle.store_types.specs.Limits.{most-tags, word-limit}
-use Rattle.store_types.specs.Layout.{at-next, field, Records}
+use Rattle.store_types.specs.Layout.{Records}
 use Rattle.shape.specs.Tables.{entry, entry-limit}
 use Rattle.tree.specs.Forest.{labels, leaf-row, spread}
 use Rattle.calls.specs.Words.{follow}
 use Rattle.edit_model.specs.Relabel.{Relabelled, relabel, along, cut}
-
--- n tags in the order of their numbers
-pub record Straight (ws : List ℕ) (n : ℕ) : Type 0 where
-  pub records : Records ws n
-  pub next : (i : ℕ) → i + 1 < n → field ws i at-next ≡ i + 1
 
 -- so many tags along next are tags of n
 pub record Row-there (ws : List ℕ) (n x count : ℕ) : Type 0 where
@@ -33,11 +28,6 @@ pub record Trees-fit (r j a count : ℕ) (w l : List ℕ) : Type 0 where
 pub record Part-size (parts each left size : ℕ) : Type 0 where
   pub last : parts ≡ 1 → size ≡ left
   pub other : (parts ≡ 1 → ⊥) → size ≡ each
-
--- the same by what is left alone: two parts have room where twice their tags are left
-pub record Next-size (each left size : ℕ) : Type 0 where
-  pub last : left < 2 * each → size ≡ left
-  pub other : 2 * each ≤ left → size ≡ each
 
 -- labels for so many tags along next from x on, by numbers from a on: of leaves a width apart, and of trees of height j
 unfoldable pub leaves-numbered : (ws : List ℕ) → (width a x count : ℕ) → Relabelled

@@ -1,6 +1,5 @@
 // Labels written anew (document 01, "The tree"): trees numbered from their top, and labels shifted to the right.
 pub mod ancestors;
-pub mod straight;
 
 ghost use mathlib.Core.Path.{_≡_};
 ghost use mathlib.Core.Bool.{cond};

@@ -7,7 +7,7 @@ use lib.ListN.{length}
 use lib.Seq.{sets, sets-eq}
 use Rattle.store_types.specs.Layout.{header-words}
 use Rattle.calls.specs.Words.{in-front}
-use Rattle.store_load.specs.Labels.{first-number, header-new}
+use Rattle.store_load.specs.Header.{first-number, header-new}
 
 front-sets : (vs ws : List ℕ) → length vs ≤ length ws → sets ws 0 vs ≡ in-front vs ws
 unfolding in-front

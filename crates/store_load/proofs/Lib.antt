@@ -1,5 +1,4 @@
 pub mod Header
-pub mod Tables
-pub mod Blank
+pub mod Fresh
 pub mod Loaded
 pub mod Outcome

@@ -7,13 +7,12 @@ use native.Mathlib.Numerals.{add-one}
 use native.Mathlib.Omega.{arith}
 use borrow.Author.Tests.{ltb-false, not-false, lt-ltb, le-ltb, leb-true, leb-false}
 use lib.Dec.{ltb}
-use lib.ListN.{length, drop, length-append}
+use lib.ListN.{length, drop}
 use Rattle.store_types.specs.Limits.{most-tags, label-limit}
 use Rattle.store_types.specs.declared.LoadReply.the-variants as load
 use Rattle.store_types.specs.Layout.{header-words, words-for}
 use Rattle.words.proofs.Fields.{header-fits}
 use Rattle.tree.specs.Book.{base, power-width, load-under, loaded}
-use Rattle.tree_laws.proofs.Load.{load-least}
 use Rattle.lists.specs.Lists.{first}
 use Rattle.lists.proofs.First.{refused-before}
 use Rattle.calls.specs.Kind.{kind-of}
@@ -28,15 +27,12 @@ use Rattle.calls_laws.proofs.Steps.{Load-accepted, accepted-load}
 use Rattle.calls_laws.proofs.WordSteps.{length-in-front}
 use Rattle.calls_laws.proofs.Replies.{replied-refused}
 use Rattle.shape.specs.Needs.{power-fits}
-use Rattle.edit_model.specs.Image.{image-words}
-use Rattle.edit_model.proofs.Image.{length-image}
 use Rattle.load_refuse.specs.Refusals.{refusal-before}
-use Rattle.load_tags.specs.Tags.{Tags-fit, Tags-written}
-use Rattle.store_load.specs.Labels.{header-new, Labels-fit, labels-written}
-use Rattle.load_refuse.proofs.Height.{leaves-enough}
+use Rattle.load_tags.specs.Tags.{Tags-fit, Tags-written, Trees-fit, labels-new}
+use Rattle.store_load.specs.Header.{header-new}
 use Rattle.load_tags.proofs.Row.{count-new}
-use Rattle.store_load.proofs.Blank.{blank, blank-words}
-use Rattle.store_load.proofs.Loaded.{row-straight, loaded-words}
+use Rattle.store_load.proofs.Fresh.{fresh-words}
+use Rattle.store_load.proofs.Loaded.{trees-fit, loaded-words}
 
 -- THE TESTS BEFORE THE LAST, passed; the last one is then the refusal
 pub record Passed (w s r : ℕ) (cs : List ℕ) : Type 0 where
@@ -72,18 +68,18 @@ module _ (w s r : ℕ) (cs : List ℕ) where
   early q e some = refused-before (early-tests w s r cs) _ (λ z. some (sym e ∙ z)) ∙ e
 
   -- the last test, as the code makes it
-  module _ (h : Passed w s r cs) (u : ℕ) (height : u ≡ load-under r (length cs)) where
-    code-power : (s * r - 1) ^ (u + 1) ≡ power-width s r (suc (load-under r (length cs)))
-    unfolding power-width base
-    code-power = rw (height, add-one)
+  module _ (h : Passed w s r cs) (u d : ℕ) (height : u ≡ load-under r (length cs)) (is-base : d ≡ base s r) where
+    code-power : d ^ (u + 1) ≡ power-width s r (suc (load-under r (length cs)))
+    unfolding power-width
+    code-power = rw (is-base, height, add-one)
 
-    pub too-wide : power-fits (s * r - 1) (u + 1) ≡ false → load-refusal w s r cs ≡ 7
+    pub too-wide : power-fits d (u + 1) ≡ false → load-refusal w s r cs ≡ 7
     unfolding power-fits
-    too-wide e = h .last ∙ rw (lt-ltb label-limit _ (rw code-power at (leb-false ((s * r - 1) ^ (u + 1)) label-limit e)))
+    too-wide e = h .last ∙ rw (lt-ltb label-limit _ (rw code-power at (leb-false (d ^ (u + 1)) label-limit e)))
 
-    pub none-refused : power-fits (s * r - 1) (u + 1) ≡ true → load-refusal w s r cs ≡ 0
+    pub none-refused : power-fits d (u + 1) ≡ true → load-refusal w s r cs ≡ 0
     unfolding power-fits
-    none-refused e = h .last ∙ rw (le-ltb label-limit _ (rw code-power at (leb-true ((s * r - 1) ^ (u + 1)) label-limit e)))
+    none-refused e = h .last ∙ rw (le-ltb label-limit _ (rw code-power at (leb-true (d ^ (u + 1)) label-limit e)))
 
 -- REFUSED: the reply is the refusal, and the words are as they were
 pub refused-with : (s r b : ℕ) (cs ws : List ℕ) (q : ℕ) → load-refusal (length ws) s r cs ≡ q → (q ≡ 0 → ⊥) →
@@ -104,8 +100,8 @@ tags-fit s r u b cs ws hs h e =
       nesting = h .nesting;
     }
 
--- ACCEPTED, where u is the height of the root's children
-module _ (s r b : ℕ) (cs ws : List ℕ) (u : ℕ) (height : u ≡ load-under r (length cs)) (none : load-refusal (length ws) s r cs ≡ 0) where
+-- ACCEPTED, where u is the height of the root's children, and d is b
+module _ (s r b : ℕ) (cs ws : List ℕ) (u d : ℕ) (height : u ≡ load-under r (length cs)) (is-base : d ≡ base s r) (none : load-refusal (length ws) s r cs ≡ 0) where
   pub accepted-reply : load.Loaded (length cs) (u + 1) ≡ load-reply s r b cs ws
   unfolding load-reply replied loaded
   accepted-reply = rw (none, height, add-one)
@@ -117,27 +113,15 @@ module _ (s r b : ℕ) (cs ws : List ℕ) (u : ℕ) (height : u ≡ load-under r
   accepted : Load-accepted (length ws) s r cs
   accepted = accepted-load (length ws) s r cs none
 
-  -- behind the header and the tags the labels may be written, and then all is
-  module _ (hs vs : List ℕ) (head : hs ≡ in-front (header-new s r (u + 1) (length cs) b) ws) (t : Tags-written hs vs cs) where
-    is-blank : vs ≡ image-words (blank s r (suc (load-under r (length cs))) b cs) ++ drop (words-for header-words (length cs)) ws
-    is-blank = blank-words s r (suc (load-under r (length cs))) b cs ws vs (accepted .room) (rw (head, height, add-one) at t)
+  -- the trees have room, and behind the header and the tags all is written
+  pub room-for-trees : Trees-fit r d (length cs) u
+  room-for-trees = rw (height, is-base) (trees-fit (length ws) s r b cs accepted)
 
-    pub labels-fit : Labels-fit vs s r (length cs) u
-    labels-fit =
-        let a = accepted in
-        let n = length cs in
-        let v = blank s r (suc (load-under r n)) b cs in
-        let rest = drop (words-for header-words n) ws in
-        let size : length (image-words v) ≡ words-for header-words n = length-image v ∙ ap (words-for header-words) (count-new cs) in
-        rw height (record {
-          row = rw is-blank (row-straight s r (suc (load-under r n)) b cs rest (a .few) (omega (arith, length-append (image-words v) rest)));
-          s-least = a .degrees .s-least;
-          s-most = a .degrees .s-most;
-          r-least = a .degrees .r-least;
-          r-most = a .degrees .r-most;
-          powers = a .labels;
-          least = leaves-enough r n (load-under r n) (load-least r n (a .degrees .r-least));
-        })
-
-    pub all-written : labels-written vs s r (length cs) u ≡ load-words s r b cs ws
-    all-written = rw (height, is-blank) (loaded-words ws s r b cs (drop (words-for header-words (length cs)) ws) accepted ∙ new-words)
+  pub all-written : (hs vs : List ℕ) → hs ≡ in-front (header-new s r (u + 1) (length cs) b) ws →
+      Tags-written hs vs cs (labels-new r d (length cs) u) → vs ≡ load-words s r b cs ws
+  all-written hs vs head t =
+      let h = suc (load-under r (length cs)) in
+      let ls = labels-new r (base s r) (length cs) (load-under r (length cs)) in
+      fresh-words s r h b cs ls ws vs (accepted .room) (rw (head, height, is-base, add-one) at t)
+      ∙ ap (λ (us : List ℕ). us ++ drop (words-for header-words (length cs)) ws) (loaded-words (length ws) s r b cs accepted)
+      ∙ new-words

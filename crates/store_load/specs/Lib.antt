@@ -1,1 +1,1 @@
-pub mod Labels
+pub mod Header

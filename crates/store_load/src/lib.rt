@@ -1,13 +1,13 @@
 // Load: validates first, then writes (document 01, "Calls and their replies"). Any old content is accepted.
 
 ghost use mathlib.Core.Path.{_≡_};
-ghost use Prim.Native.Nat.{_≤_};
+ghost use Prim.Native.Nat.{_*_, _≤_};
 ghost use lib.ListN.{length};
 ghost use Rattle.store_types.specs.Layout.{header-words};
+ghost use Rattle.tree.specs.Book.{base as power-base};
 ghost use Rattle.calls.specs.Words.{in-front};
 ghost use Rattle.calls.specs.Replies.{load-reply, load-words};
-ghost use Rattle.store_load.specs.Labels.{first-number, header-new, Labels-fit, labels-written};
-use renumber::straight::Run;
+ghost use Rattle.store_load.specs.Header.{first-number, header-new};
 use store_types::LoadReply;
 use store_types::TagId;
 
@@ -36,19 +36,12 @@ fn write_header(words: &mut [u32], s: u32, r: u32, h: u32, n: u32, book: u32)
     words[words::AT_STAMP] = 0;
 }
 
-// The labels of n tags, which stand in the order of their numbers, where the root's children have height `under`.
-fn write_labels(words: &mut [u32], s: u32, r: u32, n: u32, under: usize)
-    requires { ⌜ Labels-fit (now words) s r n under ⌝ }
-    ensures { λ _. ⌜ now (words .exit) ≡ labels-written (now (words .entry)) s r n under ⌝ }
+// b, one less than f.
+fn base(s: u32, r: u32) -> u64
+    requires { ⌜ (4 ≤ s * r) × (s * r ≤ 256) ⌝ }
+    ensures { λ b. ⌜ b ≡ power-base s r ⌝ }
 {
-    let widths = shape::table(1, (s as u64) * (r as u64) - 1, under);
-    let lows = shape::table(1, r as u64, under);
-    let all = Run {
-        a: 0,
-        x: 0,
-        count: n as u64,
-    };
-    renumber::straight::number_run(words, n, r as u64, under, all, &widths, &lows);
+    (s as u64) * (r as u64) - 1
 }
 
 pub fn load(s: u32, r: u32, book: u32, kinds: &[u8], words: &mut [u32]) -> LoadReply
@@ -63,11 +56,11 @@ pub fn load(s: u32, r: u32, book: u32, kinds: &[u8], words: &mut [u32]) -> LoadR
     let under = load_refuse::load_under(n as u64, r as u64);
     let h = under + 1;
     // The last refusal goes by the height; nothing has been written yet.
-    if !shape::power_fits((s as u64) * (r as u64) - 1, h) {
+    let b = base(s, r);
+    if !shape::power_fits(b, h) {
         return LoadReply::Refused(7);
     }
     write_header(words, s, r, h, n, book);
-    load_tags::write_tags(words, kinds);
-    write_labels(words, s, r, n, under as usize);
+    load_tags::write_tags(words, kinds, r as u64, b, under as usize);
     LoadReply::Loaded { tags: n, height: h }
 }

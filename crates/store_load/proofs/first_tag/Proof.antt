@@ -1,6 +1,6 @@
 -- `store_load::first_tag` meets its contract. Assumes nothing.
 use borrow.Author.Tests.{eq-eqb, ne-eqb}
-use Rattle.store_load.specs.Labels.{first-number}
+use Rattle.store_load.specs.Header.{first-number}
 use Rattle.store_load.proofs.first_tag.Statement.{statement}
 use Rattle.store_load.proofs.first_tag.Tie as tie
 

@@ -3,10 +3,11 @@ use mathlib.Core.Path.{_≡_, sym, _∙_}
 use Prim.Native.Nat.{_*_, _≤_}
 use borrow.Author.Tests.{not-true, not-false}
 use lib.ListN.{length}
+use Rattle.tree.specs.Book.{base}
 use Rattle.calls.specs.Load.{load-refusal}
 use Rattle.shape.proofs.HeaderLaws.{degrees-product}
 use Rattle.load_refuse.proofs.Height.{height-most}
-use Rattle.store_load.proofs.Outcome.{Passed, passed, early, too-wide, none-refused, refused-with, header-room, tags-fit, accepted-reply, labels-fit, all-written}
+use Rattle.store_load.proofs.Outcome.{Passed, passed, early, too-wide, none-refused, refused-with, header-room, tags-fit, accepted-reply, room-for-trees, all-written}
 use borrow.Author.Needs.{needs}
 use native.Mathlib.Omega.{arith}
 use Rattle.store_load.proofs.load.Statement.{statement}
@@ -26,9 +27,9 @@ f-range : (c : tie.Else1) → let a = c .before .before .before .before .args in
 f-range c = let d = ok c .degrees in degrees-product (d .s-least) (d .s-most) (d .r-least) (d .r-most)
 
 -- and so has the last
-none : (c : tie.Else2) → let a = c .before .before .before .before .before .before .before .args in load-refusal (length (a .words .now)) (a .s) (a .r) (a .kinds .now) ≡ 0
+none : (c : tie.Else2) → let a = c .before .before .before .before .before .before .before .before .args in load-refusal (length (a .words .now)) (a .s) (a .r) (a .kinds .now) ≡ 0
 none c =
-    none-refused _ _ _ _ (ok (c .before .before .before)) _ (c .before .before .load-under .ensures) (sym (c .before .power-fits .ensures) ∙ not-false _ (c .if2 .left))
+    none-refused _ _ _ _ (ok (c .before .before .before .before)) _ _ (c .before .before .before .load-under .ensures) (c .before .before .base .ensures) (sym (c .before .power-fits .ensures) ∙ not-false _ (c .if2 .left))
 
 cast-n : tie.Need-cast-n
 cast-n c = omega (arith, ok c .few)
@@ -49,44 +50,42 @@ height-few c =
 add-h : tie.Need-add-h
 add-h c = omega (arith, height-few c)
 
-mul-power-fits : tie.Need-mul-power-fits
-mul-power-fits c = omega (arith, f-range (c .before))
-
-sub-power-fits : tie.Need-sub-power-fits
-sub-power-fits c = omega (arith, f-range (c .before))
+base-requires : tie.Need-base-requires
+base-requires c κs = f-range (c .before)
 
 power-fits-requires : tie.Need-power-fits-requires
-power-fits-requires c κs = omega (arith, f-range (c .before))
+unfolding base
+power-fits-requires c κs = omega (arith, c .base .ensures, f-range (c .before .before))
 
 returns-2 : tie.Need-returns-2
 returns-2 c =
     refused-with _ _ _ _ _ _
-    (too-wide _ _ _ _ (ok (c .before .before .before)) _ (c .before .before .load-under .ensures) (sym (c .before .power-fits .ensures) ∙ not-true _ (c .if2 .taken)))
+    (too-wide _ _ _ _ (ok (c .before .before .before .before)) _ _ (c .before .before .before .load-under .ensures) (c .before .before .base .ensures) (sym (c .before .power-fits .ensures) ∙ not-true _ (c .if2 .taken)))
     (λ e. omega arith)
 
 write-header-requires : tie.Need-write-header-requires
-write-header-requires c κs = header-room (ok (c .before .before .before .before))
+write-header-requires c κs = header-room (ok (c .before .before .before .before .before))
+
+cast-write-tags : tie.Need-cast-write-tags
+cast-write-tags c = search needs
 
 write-tags-requires : tie.Need-write-tags-requires
 write-tags-requires c κs =
-    tags-fit _ _ _ _ _ _ _ (ok (c .before .before .before .before .before .before .before .before)) (c .before .before .before .write-header .ensures)
-
-cast-write-labels : tie.Need-cast-write-labels
-cast-write-labels c = search needs
-
-write-labels-requires : tie.Need-write-labels-requires
-write-labels-requires c κs =
-    labels-fit _ _ _ _ _ _ (c .before .before .before .before .before .before .before .before .before .before .before .load-under .ensures) (none (c .before .before .before .before .before .before .before .before .before)) _ _ (c .before .before .before .before .before .before .before .write-header .ensures) (c .before .before .before .write-tags .ensures)
+    let a = c .before .before .before .before .before .before .before .before .before .before .before .before .before .args in (
+      tags-fit _ _ _ _ _ _ _ (ok (c .before .before .before .before .before .before .before .before .before)) (c .before .before .before .write-header .ensures),
+      room-for-trees _ _ (a .book) (a .kinds .now) (a .words .now) _ _ (c .before .before .before .before .before .before .before .before .load-under .ensures) (c .before .before .before .before .before .before .before .base .ensures) (none (c .before .before .before .before .before)),
+    )
 
 same-length : tie.Need-same-length
 same-length c = search needs
 
 returns-3 : tie.Need-returns-3
 returns-3 c =
-    let height = c .before .before .before .before .before .before .before .before .before .before .before .before .before .before .load-under .ensures in
-    let free = none (c .before .before .before .before .before .before .before .before .before .before .before .before) in (
-      accepted-reply _ _ _ _ _ _ height free,
-      c .before .before .write-labels .ensures ∙ all-written _ _ _ _ _ _ height free _ _ (c .before .before .before .before .before .before .before .before .before .before .write-header .ensures) (c .before .before .before .before .before .before .write-tags .ensures),
+    let height = c .before .before .before .before .before .before .before .before .before .before .before .load-under .ensures in
+    let of-base = c .before .before .before .before .before .before .before .before .before .before .base .ensures in
+    let free = none (c .before .before .before .before .before .before .before .before) in (
+      accepted-reply _ _ _ _ _ _ _ height of-base free,
+      all-written _ _ _ _ _ _ _ height of-base free _ _ (c .before .before .before .before .before .before .write-header .ensures) (c .before .before .write-tags .ensures),
     )
 
 pub load-spec : {M : Type 1} → statement M
@@ -99,13 +98,11 @@ load-spec =
     cast-load-under
     load-under-requires
     add-h
-    mul-power-fits
-    sub-power-fits
+    base-requires
     power-fits-requires
     returns-2
     write-header-requires
+    cast-write-tags
     write-tags-requires
-    cast-write-labels
-    write-labels-requires
     same-length
     returns-3)

@@ -1,6 +1,6 @@
--- The words of new tags with no labels yet are an image (crate edit_model): header, records, and what stood behind them.
+-- The words of new tags are an image (crate edit_model): header, records, and what stood behind them.
 -- Assumes nothing.
-use mathlib.Core.Path.{_≡_, refl, sym, _∙_}
+use mathlib.Core.Path.{_≡_, refl, ap, sym, _∙_}
 use mathlib.Core.List.{List, [], _∷_, _++_, append-nil}
 use Prim.Native.Nat.{ℕ, zero, suc, _+_, _*_, _≤_, _<_}
 use native.Mathlib.Nat.{zero-add}
@@ -8,7 +8,7 @@ use native.Mathlib.Numerals.{add-one, sub-one}
 use native.Mathlib.Omega.{arith}
 use borrow.Author.Tests.{lt-ltb, ltb-true, ltb-false}
 use lib.Dec.{ltb, eqb·suc-zero}
-use lib.ListN.{length, getD, take, drop, replicate, length-replicate, getD-replicate, take-append-drop, List·getD-append, List·getD-eq-default}
+use lib.ListN.{length, getD, take, drop, take-append-drop, List·getD-append, List·getD-eq-default}
 use lib.Seq.{length-take-le, drop-append-add, drop-drop}
 use Rattle.store_types.specs.Limits.{no-tag}
 use Rattle.store_types.specs.Layout.{header-words, label-words, tag-words, word-at, words-for, field, label-at}
@@ -17,18 +17,18 @@ use Rattle.lists.specs.Lists.{numbers}
 use Rattle.lists.proofs.Numbers.{length-numbers, getD-numbers}
 use Rattle.words.proofs.Fields.{header-fits, word-take, field-take, label-take, fields-tell, by-field}
 use Rattle.tree.specs.Row.{place}
-use Rattle.tree_laws.proofs.Rows.{distinct-numbers, place-getD, all-below-numbers}
+use Rattle.tree_laws.proofs.Rows.{distinct-numbers, place-getD}
 use Rattle.calls.specs.Store.{next-in, prior-in}
 use Rattle.calls.specs.Words.{in-front}
 use Rattle.calls_laws.proofs.WordSteps.{length-in-front}
 use Rattle.edit_model.specs.Image.{Image, image-header, image-record, image-words}
-use Rattle.edit_model.proofs.Image.{Proper, length-image, own-label, own-field, image-header-word}
+use Rattle.edit_model.proofs.Image.{length-image, own-label, own-field, image-header-word}
 use Rattle.load_tags.specs.Tags.{next-number, prior-number, facts-new, Tags-written}
-use Rattle.store_load.specs.Labels.{first-number, header-new}
+use Rattle.store_load.specs.Header.{first-number, header-new}
 use Rattle.load_tags.proofs.Row.{count-new}
 
-abbrev pub blank : (s r h number : ℕ) → (kinds : List ℕ) → Image
-blank s r h b cs =
+abbrev pub fresh : (s r h number : ℕ) → (kinds labels : List ℕ) → Image
+fresh s r h b cs ls =
     record {
       s = s;
       r = r;
@@ -36,7 +36,7 @@ blank s r h b cs =
       number = b;
       stamp = 0;
       tags = numbers 0 (length cs);
-      labels = replicate (length cs) 0;
+      labels = ls;
       facts = facts-new cs;
     }
 
@@ -66,48 +66,39 @@ prior-is n x l = rw (place-is n x l) (go x l)
     go zero l = refl
     go (suc x) l = rw (lt-ltb 0 (suc x) (omega arith), sub-one) (getD-numbers 0 n x no-tag (omega arith) ∙ zero-add x)
 
-module _ (s r h b : ℕ) (cs : List ℕ) where
-  pub proper-blank : Proper (blank s r h b cs)
-  proper-blank =
-      let n = length cs in
-      record {
-        as-many = length-numbers 0 n ∙ sym (count-new cs);
-        each = rw (count-new cs) (all-below-numbers n);
-        labelled = length-replicate n 0 ∙ sym (length-numbers 0 n);
-      }
-
-  header-is : image-header (blank s r h b cs) ≡ header-new s r h (length cs) b
+module _ (s r h b : ℕ) (cs ls : List ℕ) where
+  header-is : image-header (fresh s r h b cs ls) ≡ header-new s r h (length cs) b
   unfolding image-header header-new
   header-is = rw (count-new cs, first-is (length cs))
 
   -- what the header and the tags leave over words ws
-  module _ (ws vs : List ℕ) (room : words-for header-words (length cs) ≤ length ws) (t : Tags-written (in-front (header-new s r h (length cs) b) ws) vs cs) where
-    header-word : (i : ℕ) → i < header-words → word-at vs i ≡ word-at (image-header (blank s r h b cs)) i
+  module _ (ws vs : List ℕ) (room : words-for header-words (length cs) ≤ length ws) (t : Tags-written (in-front (header-new s r h (length cs) b) ws) vs cs ls) where
+    header-word : (i : ℕ) → i < header-words → word-at vs i ≡ word-at (image-header (fresh s r h b cs ls)) i
     unfolding in-front header-new
     header-word i l = t .around .header i l ∙ List·getD-append (header-new s r h (length cs) b) (drop header-words ws) 0 i l ∙ rw header-is
 
-    first-label : (x : ℕ) → x < length cs → label-at vs x ≡ getD (blank s r h b cs .labels) (place x (blank s r h b cs .tags)) 0
-    first-label x l = t .places x l .label-word ∙ sym (getD-replicate (length cs) _ 0 0 (rw (place-is (length cs) x l) l))
+    own-label-word : (x : ℕ) → x < length cs → label-at vs x ≡ getD (fresh s r h b cs ls .labels) (place x (fresh s r h b cs ls .tags)) 0
+    own-label-word x l = t .places x l .label-word ∙ ap (λ (i : ℕ). getD ls i 0) (sym (place-is (length cs) x l))
 
-    record-word : (x : ℕ) → x < length cs → (k : ℕ) → label-words ≤ k → k < tag-words → field vs x k ≡ getD (image-record (blank s r h b cs) x) k 0
+    record-word : (x : ℕ) → x < length cs → (k : ℕ) → label-words ≤ k → k < tag-words → field vs x k ≡ getD (image-record (fresh s r h b cs ls) x) k 0
     unfolding image-record
     record-word x l =
         let p = t .places x l in
-        by-field (λ k. field vs x k ≡ getD (image-record (blank s r h b cs) x) k 0)
+        by-field (λ k. field vs x k ≡ getD (image-record (fresh s r h b cs ls) x) k 0)
         (p .next-word ∙ sym (next-is (length cs) x l)) (p .prior-word ∙ sym (prior-is (length cs) x l)) (t .mates x l) (p .up-word) (p .kind-is)
 
-    front : take (words-for header-words (length cs)) vs ≡ image-words (blank s r h b cs)
+    front : take (words-for header-words (length cs)) vs ≡ image-words (fresh s r h b cs ls)
     unfolding header-new
     front =
         let n = length cs in
-        let v = blank s r h b cs in
+        let v = fresh s r h b cs ls in
         let own = append-nil (image-words v) in
         let size : length vs ≡ length ws = t .around .size ∙ length-in-front (header-new s r h n b) ws (omega (arith, header-fits n)) in
         let long : words-for header-words n ≤ length vs = omega arith in
         let issued : (x : ℕ) → x < n → x < length (v .facts) = λ x l. rw (count-new cs) l in
         fields-tell n (take (words-for header-words n) vs) (image-words v) (length-take-le (words-for header-words n) vs long) (length-image v ∙ rw (count-new cs))
         (λ i l. word-take n vs long i l ∙ header-word i l ∙ sym (rw own at (image-header-word v [] i l)))
-        (λ x l. label-take n vs long x l ∙ first-label x l ∙ sym (own-label v x (issued x l)))
+        (λ x l. label-take n vs long x l ∙ own-label-word x l ∙ sym (own-label v x (issued x l)))
         (λ x k l past f. field-take n vs long x k l f ∙ record-word x l k past f ∙ sym (own-field v x k (issued x l) f))
 
     behind : drop (words-for header-words (length cs)) vs ≡ drop (words-for header-words (length cs)) ws
@@ -117,5 +108,5 @@ module _ (s r h b : ℕ) (cs : List ℕ) where
         ∙ drop-append-add (header-new s r h (length cs) b) (drop header-words ws) (tag-words * length cs)
         ∙ drop-drop (tag-words * length cs) header-words ws
 
-    pub blank-words : vs ≡ image-words (blank s r h b cs) ++ drop (words-for header-words (length cs)) ws
-    blank-words = sym (take-append-drop (words-for header-words (length cs)) vs) ∙ rw (front, behind)
+    pub fresh-words : vs ≡ image-words (fresh s r h b cs ls) ++ drop (words-for header-words (length cs)) ws
+    fresh-words = sym (take-append-drop (words-for header-words (length cs)) vs) ∙ rw (front, behind)
