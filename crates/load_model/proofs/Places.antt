@@ -1,9 +1,9 @@
 -- The label of a place in the trees that `spread` builds: by the node of each height that holds it. Assumes nothing.
-use mathlib.Core.Path.{_≡_, refl, ap, sym, _∙_}
-use mathlib.Core.List.{List, [], _∷_, _++_, append-nil}
+use mathlib.Core.Path.{_≡_, ap, sym, _∙_}
+use mathlib.Core.List.{List, [], _∷_, append-nil}
 use mathlib.Core.Logic.{_⊎_, inl, inr, ⊎-elim}
 use Prim.Native.Nat.{ℕ, zero, suc, _+_, _*_, _-_, _^_, _≤_, _<_}
-use native.Mathlib.Nat.{suc-mul, one-mul, mul-one, mul-comm, mul-add, add-mul, mul-assoc, zero-add, add-zero, pow-succ', pow-zero, mul-le-mul-right, lt-of-mul-lt-mul-right, not-suc-le-zero, sub-zero}
+use native.Mathlib.Nat.{suc-mul, one-mul, mul-one, mul-comm, mul-add, add-mul, mul-assoc, add-zero, pow-succ', pow-zero, mul-le-mul-right, lt-of-mul-lt-mul-right, not-suc-le-zero, sub-zero}
 use native.Mathlib.Omega.{arith}
 use borrow.Author.Tests.{ltb-true, ltb-false}
 use lib.Dec.{ltb}

@@ -1,10 +1,9 @@
 -- From place to place: which nodes begin there, and the label that the steps have come to is that of the place. Assumes nothing.
 use mathlib.Core.Path.{_≡_, refl, ap, sym, _∙_}
-use mathlib.Core.Bool.{true, false, cond}
+use mathlib.Core.Bool.{cond}
 use mathlib.Core.List.{List}
-use Prim.Native.Nat.{ℕ, zero, suc, _+_, _*_, _-_, _^_, _%_, _≤_, _<_}
-use native.Mathlib.Nat.{suc-mul, mul-assoc, zero-add, add-zero, pow-succ', pow-le-pow-right, mul-le-mul-right, lt-of-mul-lt-mul-right, le-of-mul-le-mul-right, mod-add-mod}
-use native.Mathlib.Numerals.{add-one}
+use Prim.Native.Nat.{ℕ, zero, suc, _+_, _*_, _-_, _^_, _≤_, _<_}
+use native.Mathlib.Nat.{suc-mul, mul-assoc, zero-add, pow-succ', pow-le-pow-right, mul-le-mul-right, lt-of-mul-lt-mul-right, mod-add-mod}
 use native.Mathlib.Omega.{arith}
 use borrow.Author.Tests.{le-leb, lt-leb, leb-true, leb-false, eqb-true, eqb-false, eq-eqb, ne-eqb, ltb-true, ltb-false}
 use lib.Dec.{leb, eqb, ltb}
@@ -16,7 +15,7 @@ use Rattle.shape.specs.Tables.{entry}
 use Rattle.tree.specs.Forest.{labels, spread}
 use Rattle.tree_laws.proofs.Spread.{some-power}
 use Rattle.edit_model.specs.Relabel.{cut}
-use Rattle.load_model.specs.Begins.{next-begin, Front, begun, First-begins}
+use Rattle.load_model.specs.Begins.{next-begin, begun, First-begins}
 use Rattle.load_model.proofs.Places.{Holds, raised, place-label}
 
 -- NODE k over e leaves holds the place before i

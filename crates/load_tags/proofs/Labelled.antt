@@ -1,6 +1,6 @@
 -- The label that the pass over the tags has come to is that of the tag. Assumes nothing.
-use mathlib.Core.Path.{_≡_, refl, ap, sym, _∙_}
-use mathlib.Core.List.{List, map}
+use mathlib.Core.Path.{_≡_, ap, sym, _∙_}
+use mathlib.Core.List.{List}
 use Prim.Native.Nat.{ℕ, zero, suc, _+_, _*_, _-_, _^_, _≤_, _<_}
 use native.Mathlib.Nat.{add-mul, pow-zero, pow-succ', pow-le-pow-left, mul-le-mul, mul-le-mul-right, mod-lt}
 use native.Mathlib.Omega.{arith}
@@ -8,7 +8,7 @@ use lib.ListN.{length, getD}
 use Rattle.store_types.specs.Limits.{word-limit}
 use Rattle.lists.specs.Lists.{numbers}
 use Rattle.lists.proofs.Numbers.{length-numbers}
-use Rattle.shape.specs.Tables.{entry, entry-limit, table, Table-fits}
+use Rattle.shape.specs.Tables.{table, Table-fits}
 use Rattle.shape.proofs.TableLaws.{table-at, table-bound}
 use Rattle.tree.specs.Forest.{labels, leaves, spread}
 use Rattle.tree_laws.proofs.Labels.{length-labels}

@@ -1,6 +1,6 @@
 -- The labels that load writes are those of the loaded book, and with them the words are those of the loaded store.
 -- Assumes nothing.
-use mathlib.Core.Path.{_≡_, refl, ap, sym, _∙_}
+use mathlib.Core.Path.{_≡_, refl, sym}
 use mathlib.Core.List.{List}
 use Prim.Native.Nat.{ℕ, suc, _*_, _-_, _≤_, _<_}
 use native.Mathlib.Nat.{pow-succ', mul-le-mul-right}
