@@ -11,7 +11,7 @@ use lib.Seq.{drop-drop}
 use Rattle.store_types.specs.Limits.{no-tag, label-limit, most-tags}
 use Rattle.store_types.specs.Layout.{header-words, tag-words, words-for}
 use Rattle.lists.proofs.Tests.{fails}
-use Rattle.shape.specs.Tables.{entry}
+use Rattle.shape.specs.Tables.{entry, widths-of}
 use Rattle.words.proofs.Fields.{words-next}
 use Rattle.tree.specs.Book.{height, tags, labels-of, base, power-width, root-full, inserted, split-of, moved}
 use Rattle.tree.specs.Promise.{Widths, Step, Second-tag}
@@ -24,7 +24,7 @@ use Rattle.calls.specs.Words.{words-of, Says}
 use Rattle.calls_laws.proofs.Tests.{Sound, sane}
 use Rattle.shape.proofs.Fits.{height-range}
 use Rattle.edit_model.specs.Image.{image-words, image-of, with-labels}
-use Rattle.edit_model.specs.Insert.{added, applied, plain-plan, widths-of}
+use Rattle.edit_model.specs.Insert.{added, applied, plain-plan}
 use Rattle.edit_model.proofs.Image.{Alike, store-image, image-is}
 use Rattle.edit_model.proofs.Added.{with-tag, one-more, tag-before, getD-one}
 use Rattle.edit_model.proofs.Plans.{sound-said, widths-right}

@@ -13,6 +13,7 @@ use lib.ListN.{length, drop}
 use Rattle.store_types.specs.Limits.{no-tag, label-limit, most-tags}
 use Rattle.lists.proofs.Tests.{or-left-false}
 use Rattle.store_types.specs.Layout.{at-r, at-count, header-words, word-at, words-for}
+use Rattle.shape.specs.Tables.{widths-of}
 use Rattle.tree.specs.Book.{height, power-width, inserted, inserted-row, split-of, split-of-row, moved}
 use Rattle.tree_laws.proofs.Rows.{getD-place}
 use Rattle.calls.specs.Kind.{Kind, begin, end, text, code, kind-word, is-begin}
@@ -27,7 +28,7 @@ use Rattle.calls_laws.proofs.Inserts.{labels-kept, Row-accepted, accepted-row, 
 use Rattle.calls_laws.proofs.Steps.{insert-passed}
 use Rattle.calls_laws.proofs.WordSteps.{header-said}
 use Rattle.edit_model.specs.Image.{image-of}
-use Rattle.edit_model.specs.Insert.{Edited, up-word, added, widths-of, plan-of, put-words, text-edit, begin-edit, stamped}
+use Rattle.edit_model.specs.Insert.{Edited, up-word, added, plan-of, put-words, text-edit, begin-edit, stamped}
 use Rattle.edit_model.proofs.Image.{Alike, store-image, image-is}
 use Rattle.edit_model.proofs.Added.{one-more, with-stamp, stamp-set}
 use Rattle.edit_model.proofs.Plans.{place-tag, sound-said}

@@ -9,7 +9,7 @@ use borrow.Author.Tests.{eq-eqb, ne-eqb, le-ltb, lt-ltb, eqb-true}
 use lib.Dec.{ltb, eqb}
 use lib.ListN.{length, getD}
 use Rattle.lists.proofs.Tests.{by-test}
-use Rattle.shape.specs.Tables.{entry}
+use Rattle.shape.specs.Tables.{entry, widths-of, highs-of}
 use Rattle.tree.specs.Forest.{nil, size, labels}
 use Rattle.tree.specs.Book.{Book, height, root-full, inserted, split-of}
 use Rattle.tree.specs.Reach.{size-in}
@@ -25,7 +25,7 @@ use Rattle.calls.specs.Store.{Store, count, width}
 use Rattle.calls.specs.Words.{Says}
 use Rattle.calls_laws.proofs.Tests.{sane}
 use Rattle.edit_model.specs.Split.{left-of}
-use Rattle.edit_model.specs.Insert.{Plan, numbers-at, plain-plan, root-plan, split-plan, plan, widths-of, highs-of, plan-of}
+use Rattle.edit_model.specs.Insert.{Plan, numbers-at, plain-plan, root-plan, split-plan, plan, plan-of}
 use Rattle.edit_model.proofs.Splits.{Highest, Fills, second-split-of}
 use Rattle.edit_model.proofs.Plans.{place-tag, numbers-before, height-found, planned, cut-low, sound-said, widths-right, highs-right, numbers-said, plan-said, size-said, number-right, left-said, found-highest}
 

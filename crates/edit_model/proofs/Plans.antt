@@ -11,7 +11,7 @@ use lib.Seq.{getD-append-add}
 use Rattle.store_types.specs.Limits.{no-tag}
 use Rattle.store_types.specs.Layout.{label-at}
 use Rattle.lists.proofs.Tests.{by-test}
-use Rattle.shape.specs.Tables.{entry}
+use Rattle.shape.specs.Tables.{entry, widths-of, highs-of}
 use Rattle.tree.specs.Good.{Good}
 use Rattle.tree.specs.Forest.{Forest, nil, leaf, node, leaves, size, labels, split-height}
 use Rattle.tree.specs.Book.{height, labels-of, root-full, split-of}
@@ -38,7 +38,7 @@ use Rattle.walk_model.proofs.Numbers.{numbers-whole}
 use Rattle.walk_model.proofs.Sizes.{sizes-right}
 use Rattle.edit_model.specs.Image.{image-words, image-of}
 use Rattle.edit_model.specs.Split.{highest-full, left-of}
-use Rattle.edit_model.specs.Insert.{Plan, behind, place-label, numbers-at, plain-plan, root-plan, split-plan, plan, widths-of, highs-of, plan-of}
+use Rattle.edit_model.specs.Insert.{Plan, behind, place-label, numbers-at, plain-plan, root-plan, split-plan, plan, plan-of}
 use Rattle.edit_model.proofs.Image.{store-image, proper-image}
 use Rattle.edit_model.proofs.Along.{label-of-place}
 use Rattle.edit_model.proofs.Splits.{Highest, Fills, highest-one, split-highest, full-found}
@@ -113,11 +113,11 @@ module _ (ws : List ℕ) (st : Store) (says : Says ws st) where
   low-enough = omega (arith, tables-said .top-fits)
 
   pub widths-right : (h : ℕ) → h ≤ height (st .book) → entry (widths-of ws) h ≡ width st h
-  unfolding shape-of widths-of
+  unfolding shape-of
   widths-right h l = tables-said .widths h l
 
   pub highs-right : (h : ℕ) → h ≤ height (st .book) → entry (highs-of ws) h ≡ st .book .s * st .book .r ^ h
-  unfolding shape-of highs-of
+  unfolding shape-of
   highs-right h l = tables-said .highs h l
 
   -- A PLACE behind the first p tags: the tag before it, its label, and the tag behind it

@@ -13,6 +13,7 @@ use Rattle.store_types.specs.Limits.{no-tag, label-limit, most-tags}
 use Rattle.store_types.specs.Layout.{header-words, tag-words, words-for}
 use Rattle.lists.proofs.Tests.{by-test}
 use Rattle.words.proofs.Fields.{words-next}
+use Rattle.shape.specs.Tables.{widths-of}
 use Rattle.tree.specs.Row.{insert-at}
 use Rattle.tree.specs.Forest.{Forest, leaves, size, labels, leaf-row, spread}
 use Rattle.tree.specs.Book.{Book, height, labels-of, root-full, inserted, split-of, moved}
@@ -28,7 +29,7 @@ use Rattle.calls.specs.Words.{words-of, Says}
 use Rattle.calls_laws.proofs.Tests.{Sound, sane}
 use Rattle.calls_laws.proofs.Sections.{distinct-row}
 use Rattle.edit_model.specs.Image.{Image, image-header, image-words, image-of, with-labels}
-use Rattle.edit_model.specs.Insert.{Plan, Edited, added, applied, widths-of, plan-of, put-words, raised-words}
+use Rattle.edit_model.specs.Insert.{Plan, Edited, added, applied, plan-of, put-words, raised-words}
 use Rattle.edit_model.proofs.Image.{Proper, length-image, proper-image, image-header-word, Alike, same-image, image-is}
 use Rattle.edit_model.proofs.Differ.{differ}
 use Rattle.edit_model.proofs.Moves.{moved-and-new}

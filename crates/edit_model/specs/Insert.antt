@@ -6,7 +6,7 @@ use lib.Dec.{ltb, eqb}
 use lib.ListN.{replicate, set}
 use Rattle.store_types.specs.Limits.{no-tag}
 use Rattle.store_types.specs.Layout.{at-s, at-r, at-height, at-count, at-first, at-stamp, at-next, at-prior, at-mate, at-up, at-kind, word-at, field, label-at, with-field, with-label}
-use Rattle.shape.specs.Tables.{entry, table}
+use Rattle.shape.specs.Tables.{entry, widths-of, highs-of}
 use Rattle.tree.specs.Forest.{labels, spread}
 use Rattle.calls.specs.Words.{follow}
 use Rattle.walk_model.specs.Watch.{ancestor-numbers, sizes-at}
@@ -108,12 +108,6 @@ pub record Edited : Type 0 where
   pub words : List ℕ
   pub moved : ℕ
   pub split : ℕ
-
-unfoldable pub widths-of : List ℕ → List ℕ
-widths-of ws = table 1 (word-at ws at-s * word-at ws at-r - 1) (word-at ws at-height)
-
-unfoldable pub highs-of : List ℕ → List ℕ
-highs-of ws = table (word-at ws at-s) (word-at ws at-r) (word-at ws at-height)
 
 unfoldable pub plan-of : List ℕ → (k place : ℕ) → Plan
 plan-of ws k y =

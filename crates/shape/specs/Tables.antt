@@ -3,6 +3,7 @@
 use mathlib.Core.List.{List, [], _∷_, _++_}
 use Prim.Native.Nat.{ℕ, zero, suc, _*_, _-_, _^_, _≤_}
 use lib.ListN.{getD, replicate}
+use Rattle.store_types.specs.Layout.{at-s, at-r, at-height, word-at}
 
 abbrev pub entry : List ℕ → (h : ℕ) → ℕ
 entry t h = getD t h 0
@@ -15,6 +16,16 @@ powers v b (suc m) = v ∷ powers (v * b) b m
 
 unfoldable pub table : (v b top : ℕ) → List ℕ
 table v b top = powers v b (suc top) ++ replicate (23 - top) 0
+
+-- THE TABLES OF WORDS, up to the header's H: the widths of labels, the least leaves of a node below the root, and its limit
+unfoldable pub widths-of : List ℕ → List ℕ
+widths-of ws = table 1 (word-at ws at-s * word-at ws at-r - 1) (word-at ws at-height)
+
+unfoldable pub lows-of : List ℕ → List ℕ
+lows-of ws = table 1 (word-at ws at-r) (word-at ws at-height)
+
+unfoldable pub highs-of : List ℕ → List ℕ
+highs-of ws = table (word-at ws at-s) (word-at ws at-r) (word-at ws at-height)
 
 -- no entry passes 2^40, so that a sum or a double of entries fits 64 bits
 abbrev pub entry-limit : ℕ

@@ -15,7 +15,7 @@ use Rattle.store_types.specs.Limits.{no-tag, label-limit, most-tags}
 use Rattle.lists.proofs.Tests.{by-test}
 use Rattle.store_types.specs.Layout.{at-s, at-r, at-height, at-count, word-at}
 use Rattle.shape.proofs.TableLaws.{table-at, table-bound}
-use Rattle.shape.specs.Tables.{entry, table}
+use Rattle.shape.specs.Tables.{entry, table, widths-of, highs-of, lows-of}
 use Rattle.tree.specs.Book.{height}
 use Rattle.calls.specs.Kind.{Kind, kind-word}
 use Rattle.calls.specs.Store.{Fact, fact, count, row}
@@ -27,7 +27,7 @@ use Rattle.calls_laws.proofs.Steps.{insert-passed}
 use Rattle.calls_laws.proofs.WordSteps.{header-said}
 use Rattle.walk_model.specs.Watch.{sizes-at}
 use Rattle.edit_model.specs.Image.{image-of}
-use Rattle.edit_model.specs.Insert.{behind, added, widths-of, highs-of, plan-of}
+use Rattle.edit_model.specs.Insert.{behind, added, plan-of}
 use Rattle.edit_model.proofs.Image.{proper-image}
 use Rattle.edit_model.proofs.Plans.{sound-said, image-said, behind-said}
 use Rattle.edit_model.proofs.Single.{single-row}
@@ -35,7 +35,6 @@ use Rattle.edit_model.proofs.Renumbered.{Words-in, Row-in}
 use Rattle.edit_model.proofs.Inserted.{place-said, position-said, few-said, room-said, labels-said}
 use Rattle.renumber.proofs.Rows.{cut-small}
 use Rattle.store_refuse.proofs.Laws.{accepted-says, accepted-store}
-use Rattle.store_insert.specs.Parts.{lows-of}
 use Rattle.insert_link.specs.Needs.{Tag-or-none, Place-there, New-tag-fits}
 use Rattle.insert_plan.specs.Needs.{Plan-reads, Applicable}
 use Rattle.insert_refuse.proofs.Headers.{Ranges, ranges}

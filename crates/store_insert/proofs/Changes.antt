@@ -7,12 +7,12 @@ use native.Mathlib.Omega.{arith}
 use lib.ListN.{replicate}
 use borrow.Author.Tests.{eq-eqb, ne-eqb, lt-ltb, le-ltb}
 use Rattle.store_types.specs.Layout.{at-s, at-r, at-height, at-count, word-at}
-use Rattle.shape.specs.Tables.{table}
+use Rattle.shape.specs.Tables.{table, widths-of, highs-of, lows-of}
 use Rattle.tree.specs.Book.{height}
 use Rattle.calls.specs.Replies.{insert-refused}
 use Rattle.walk_model.specs.Watch.{sizes-at}
-use Rattle.edit_model.specs.Insert.{Plan, up-word, widths-of, highs-of, plan, plan-of, text-edit, both-edit, in-turn-edit, element-edit}
-use Rattle.store_insert.specs.Parts.{lows-of, call-edit}
+use Rattle.edit_model.specs.Insert.{Plan, up-word, plan, plan-of, text-edit, both-edit, in-turn-edit, element-edit}
+use Rattle.store_insert.specs.Parts.{call-edit}
 use Rattle.store_insert.specs.Needs.{Ready, Edits}
 use Rattle.store_insert.proofs.Accepted.{kind-accepted}
 

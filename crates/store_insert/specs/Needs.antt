@@ -3,11 +3,10 @@ use mathlib.Core.Path.{_≡_}
 use mathlib.Core.List.{List}
 use Prim.Native.Nat.{ℕ, suc, pred, _≤_, _<_}
 use Rattle.store_types.specs.Layout.{at-r, at-height, at-count, word-at}
-use Rattle.shape.specs.Tables.{entry, entry-limit}
+use Rattle.shape.specs.Tables.{entry, entry-limit, widths-of, lows-of}
 use Rattle.calls.specs.Replies.{insert-refused}
-use Rattle.edit_model.specs.Insert.{Plan, Edited, up-word, widths-of, plan-of}
+use Rattle.edit_model.specs.Insert.{Plan, Edited, up-word, plan-of}
 use Rattle.walk_levels.specs.Needs.{Ancestors-fit}
-use Rattle.store_insert.specs.Parts.{lows-of}
 use Rattle.insert_link.specs.Needs.{New-tag-fits}
 use Rattle.insert_plan.specs.Needs.{Applicable}
 

@@ -12,7 +12,7 @@ use lib.ListN.{length, getD, replicate}
 use Rattle.store_types.specs.Limits.{label-limit, word-limit}
 use Rattle.store_types.specs.Layout.{at-s, at-r, at-height, at-count, header-words, word-at, Records}
 use Rattle.shape.proofs.TableLaws.{table-at, table-bound}
-use Rattle.shape.specs.Tables.{table, entry-limit, Table-fits}
+use Rattle.shape.specs.Tables.{table, widths-of, lows-of, highs-of, entry-limit, Table-fits}
 use Rattle.shape.proofs.Fits.{Fits, product-range, height-fits, widths-fit, lows-fit, highs-fit}
 use Rattle.tree.specs.Book.{base, power-width}
 use Rattle.calls.specs.Sound.{degrees-fit}
@@ -129,7 +129,7 @@ module _ (ws : List ℕ) where
 
       pub pass-decides : {w ns tables : List ℕ} {q r : Bool} → Packed tables w lo hi ns → w ≡ table 1 (s-of ws * r-of ws - 1) (h-of ws) → q ≡ frame-passes ws → not q ≡ false → r ≡ root-passes (n-of ws) (h-of ws) lo hi → not r ≡ false →
           t ≡ walk ws (shape-in tables (h-of ws - 1) (n-of ws)) (n-of ws) 0 (start-with ws (widths-in tables)) → t ≡ words-pass ws
-      unfolding words-pass shape-of start shape-with start-with tables-of levels-of
+      unfolding words-pass shape-of widths-of lows-of highs-of start shape-with start-with tables-of levels-of
       pass-decides p of-w a b c d e =
           rw (header-split, sym a ∙ not-false _ b, ← of-lo, ← of-hi, ← of-w, sym c ∙ not-false _ d, ← sub-one (h-of ws))
           (rw (p .widths, p .lows, p .highs) at e)
@@ -138,6 +138,6 @@ module _ (ws : List ℕ) where
 module _ (ws lo hi w : List ℕ) (of-lo : lo ≡ table 1 (r-of ws) (h-of ws)) (of-hi : hi ≡ table (s-of ws) (r-of ws) (h-of ws)) (of-w : w ≡ table 1 (s-of ws * r-of ws - 1) (h-of ws)) where
   pub sizes-taken : (y l : ℕ) (ns sz : List ℕ) {tables sz′ : List ℕ} → Packed tables w lo hi ns → l ≡ watched-label ws y → ns ≡ ancestor-numbers w (h-of ws - 1) l 0 (replicate 24 0) →
       sz′ ≡ walk-sizes ws (shape-in tables (h-of ws - 1) (n-of ws)) (numbers-in tables) (n-of ws) 0 (start-with ws (widths-in tables)) sz → sz′ ≡ sizes-at ws y sz
-  unfolding sizes-at watched-numbers shape-of start shape-with start-with tables-of levels-of
+  unfolding sizes-at watched-numbers shape-of widths-of lows-of highs-of start shape-with start-with tables-of levels-of
   sizes-taken y l ns sz p label numbers e =
       rw (← label, ← of-lo, ← of-hi, ← of-w, ← sub-one (h-of ws), ← numbers) (rw (p .widths, p .lows, p .highs, p .numbers) at e)

@@ -14,6 +14,7 @@ use Rattle.lists.proofs.Tests.{and-left, and-right, and-both}
 use Rattle.words.proofs.Fields.{header-fits}
 use Rattle.shape.proofs.TableLaws.{table-at, length-table}
 use Rattle.shape.proofs.Fits.{height-range}
+use Rattle.shape.specs.Tables.{widths-of, lows-of, highs-of}
 use Rattle.tree.specs.Book.{base, power-width}
 use Rattle.calls.specs.Sound.{degrees-fit}
 use Rattle.calls_laws.proofs.Tests.{Degrees, degrees-of, degrees-test}
@@ -77,7 +78,7 @@ header-test {ws} {s} {r} {u} {n} h =
 
 -- THE TABLES of such a header
 pub tables-right : {ws : List ℕ} {s r u n : ℕ} → Header ws s r u n → Tables-right s r (power-width s r) (suc u) (shape-of ws .tables)
-unfolding shape-of power-width base
+unfolding shape-of widths-of lows-of highs-of power-width base
 tables-right {ws} {s} {r} {u} {n} h =
     let least : 3 ≤ s * r - 1 = omega (arith, mul-le-mul (h .degrees .s-least) (h .degrees .r-least)) in
     let low : suc u < 24 = omega (arith, height-range (s * r - 1) (suc u) least (h .labels-fit)) in

@@ -9,7 +9,7 @@ use Rattle.store_types.specs.Limits.{no-tag, most-tags, label-limit}
 use Rattle.store_types.specs.Layout.{at-version, at-s, at-r, at-height, at-count, at-first, at-stamp, header-words, at-next, at-prior, at-mate, at-up, at-kind, word-at, words-for, field, label-at}
 use Rattle.tree.specs.Book.{power-width}
 use Rattle.calls.specs.Sound.{degrees-fit}
-use Rattle.shape.specs.Tables.{entry, table}
+use Rattle.shape.specs.Tables.{entry, widths-of, lows-of, highs-of}
 use Rattle.walk_model.specs.Levels.{Tables, Levels, Settled, place-label, all-close}
 
 -- ONE TAG x of kind word c, where o is the innermost open begin or no tag
@@ -94,10 +94,11 @@ header-passes ws =
 
 unfoldable pub shape-of : List ℕ → Shape
 shape-of ws =
-    let s = word-at ws at-s in
-    let r = word-at ws at-r in
-    let h = word-at ws at-height in
-    record { tables = record { widths = table 1 (s * r - 1) h; lows = table 1 r h; highs = table s r h }; under = pred h; n = word-at ws at-count }
+    record {
+      tables = record { widths = widths-of ws; lows = lows-of ws; highs = highs-of ws };
+      under = pred (word-at ws at-height);
+      n = word-at ws at-count;
+    }
 
 unfoldable pub start : List ℕ → State
 start ws =
