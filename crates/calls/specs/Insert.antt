@@ -6,11 +6,11 @@ use Prim.Native.Nat.{ℕ, zero, suc, _+_, _*_, _^_}
 use lib.Dec.{ltb, leb, eqb}
 use lib.ListN.{length}
 use Rattle.lists.specs.Lists.{first}
-use Rattle.store_types.specs.Limits.{no-tag, label-limit, most-tags}
+use Rattle.store_types.specs.Limits.{no-tag, most-tags}
 use Rattle.store_types.specs.Layout.{header-words, words-for}
-use Rattle.tree.specs.Book.{Book, height, inserted-row, split-of-row, moved, power-width}
+use Rattle.tree.specs.Book.{Book, height, inserted-row, split-of-row, moved}
 use Rattle.calls.specs.Kind.{Kind, begin, end, text, is-begin}
-use Rattle.calls.specs.Store.{Store, fact, count, place-of, width}
+use Rattle.calls.specs.Store.{Store, fact, count, place-of, width, height-fits}
 use Rattle.calls.specs.Nesting.{new-facts}
 
 -- kind 1: an element, its begin and then its end; kind 3: a text
@@ -50,16 +50,16 @@ insert-split ks y st = split-of-row (length ks) (position y st) (count st) (st .
 unfoldable pub raised : (s r n height : ℕ) → ℕ
 raised s r n h = cond (eqb n (s * r ^ h)) (suc h) h
 
--- REFUSAL 7 of k tags into n: n + k ≥ s times r^H and b^(H + 1) > 2^32
-unfoldable pub labels-end : (s r k n height : ℕ) → Bool
-labels-end s r k n h = leb (s * r ^ h) (n + k) && ltb label-limit (power-width s r (suc h))
+-- REFUSAL 7 of k tags into n, where fits says which heights have labels: n + k ≥ s times r^H and b^(H + 1) > 2^32
+unfoldable pub labels-end : (fits : (height : ℕ) → Bool) → (s r k n height : ℕ) → Bool
+labels-end fits s r k n h = leb (s * r ^ h) (n + k) && not (fits (suc h))
 
 -- of a row of any length, which goes in tag by tag: one of its single insertions meets it
 -- (for k = 1 and 2 the same, in a sound store: Rows-end in Promise)
-unfoldable pub labels-run-out : (s r k n height : ℕ) → Bool
-labels-run-out s r zero n h = false
-labels-run-out s r (suc k) n h =
-    (leb (s * r ^ h) (suc n) && ltb label-limit (power-width s r (suc h))) || labels-run-out s r k (suc n) (raised s r (suc n) h)
+unfoldable pub labels-run-out : (fits : (height : ℕ) → Bool) → (s r k n height : ℕ) → Bool
+labels-run-out fits s r zero n h = false
+labels-run-out fits s r (suc k) n h =
+    (leb (s * r ^ h) (suc n) && not (fits (suc h))) || labels-run-out fits s r k (suc n) (raised s r (suc n) h)
 
 -- REFUSALS, each with its test, in order; 0 where none is met (1 and 2 are the words'). Of the place; the front is allowed
 unfoldable pub place-tests : (place : ℕ) → Store → List (Bool × ℕ)
@@ -79,12 +79,12 @@ room-tests w k e st =
 unfoldable pub insert-refusal : (w kind place : ℕ) → Store → ℕ
 insert-refusal w c y st =
     let k = length (insert-kinds c) in
-    let no-labels = labels-end (st .book .s) (st .book .r) k (count st) (height (st .book)) in
+    let no-labels = labels-end (height-fits st) (st .book .s) (st .book .r) k (count st) (height (st .book)) in
     first ((not (eqb c 1 || eqb c 3), 4) ∷ place-tests y st ++ room-tests w k no-labels st) 0
 
 -- of a row of kinds of any length
 unfoldable pub row-refusal : (w : ℕ) → (kinds : List Kind) → (place : ℕ) → Store → ℕ
 row-refusal w ks y st =
     let k = length ks in
-    let no-labels = labels-run-out (st .book .s) (st .book .r) k (count st) (height (st .book)) in
+    let no-labels = labels-run-out (height-fits st) (st .book .s) (st .book .r) k (count st) (height (st .book)) in
     first (place-tests y st ++ room-tests w k no-labels st) 0

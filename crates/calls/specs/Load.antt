@@ -5,11 +5,11 @@ use Prim.Native.Nat.{ℕ, suc}
 use lib.Dec.{ltb}
 use lib.ListN.{length}
 use Rattle.lists.specs.Lists.{first}
-use Rattle.store_types.specs.Limits.{no-tag, label-limit, most-tags}
+use Rattle.store_types.specs.Limits.{no-tag, most-tags}
 use Rattle.store_types.specs.Layout.{header-words, words-for}
-use Rattle.tree.specs.Book.{loaded, load-under, power-width}
+use Rattle.tree.specs.Book.{loaded, load-under}
 use Rattle.calls.specs.Kind.{is-kind, kind-of}
-use Rattle.calls.specs.Store.{Store}
+use Rattle.calls.specs.Store.{Store, power-fits}
 use Rattle.calls.specs.Nesting.{nests, new-facts}
 use Rattle.calls.specs.Sound.{degrees-fit}
 
@@ -35,7 +35,7 @@ early-tests w s r cs =
 
 unfoldable pub load-refusal : (w s r : ℕ) → (kinds : List ℕ) → ℕ
 load-refusal w s r cs =
-    first (early-tests w s r cs ++ (ltb label-limit (power-width s r (suc (load-under r (length cs)))), 7) ∷ []) 0
+    first (early-tests w s r cs ++ (not (power-fits s r (suc (load-under r (length cs)))), 7) ∷ []) 0
 
 -- tag numbers run in book order; stamp 0
 unfoldable pub load-store : (s r number : ℕ) → (kinds : List ℕ) → Store

@@ -6,7 +6,7 @@ use Prim.Native.Nat.{ℕ, suc, _+_}
 use lib.Dec.{leb}
 use Rattle.lists.specs.Lists.{first}
 use Rattle.calls.specs.Kind.{is-end}
-use Rattle.calls.specs.Store.{Store, Fact, fact, count, place-of}
+use Rattle.calls.specs.Store.{Store, Fact, new-fact, fact, count, place-of}
 
 -- whether a tag is the section's own or inside it: its place is from the section's begin to its end
 unfoldable pub within : Store → (section tag : ℕ) → Bool
@@ -16,7 +16,7 @@ within st x d = leb (place-of st x) (place-of st d) && leb (place-of st d) (plac
 unfoldable pub mark-facts : Store → (section d : ℕ) → List Fact → List Fact
 mark-facts st x d [] = []
 mark-facts st x d (t ∷ ts) =
-    record { kind = t .kind; marked = t .marked || within st x d; mate = t .mate; up = t .up } ∷ mark-facts st x (suc d) ts
+    new-fact (t .kind) (t .marked || within st x d) (t .mate) (t .up) ∷ mark-facts st x (suc d) ts
 
 unfoldable pub mark-store : (section : ℕ) → Store → Store
 mark-store x st = record { book = st .book; number = st .number; stamp = suc (st .stamp); facts = mark-facts st x 0 (st .facts) }

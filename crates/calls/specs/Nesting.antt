@@ -7,7 +7,7 @@ use Prim.Native.Nat.{ℕ, zero, suc}
 use lib.Dec.{eqb}
 use Rattle.store_types.specs.Limits.{no-tag}
 use Rattle.calls.specs.Kind.{Kind, begin, end, text}
-use Rattle.calls.specs.Store.{Fact, fact-in}
+use Rattle.calls.specs.Store.{Fact, new-fact, fact-in}
 
 -- whether a row of kinds nests, where so many begins are open
 unfoldable pub nests : (open-begins : ℕ) → List Kind → Bool
@@ -29,10 +29,10 @@ closing d x (text ∷ ks) = closing d (suc x) ks
 unfoldable pub new-facts : (u : ℕ) → (os : List ℕ) → (x : ℕ) → List Kind → List Fact
 new-facts u os x [] = []
 new-facts u os x (begin ∷ ks) =
-    record { kind = begin; marked = false; mate = closing 0 (suc x) ks; up = u } ∷ new-facts x (u ∷ os) (suc x) ks
+    new-fact begin false (closing 0 (suc x) ks) u ∷ new-facts x (u ∷ os) (suc x) ks
 new-facts u os x (end ∷ ks) =
-    record { kind = end; marked = false; mate = u; up = headD os no-tag } ∷ new-facts (headD os no-tag) (tail os) (suc x) ks
-new-facts u os x (text ∷ ks) = record { kind = text; marked = false; mate = x; up = u } ∷ new-facts u os (suc x) ks
+    new-fact end false u (headD os no-tag) ∷ new-facts (headD os no-tag) (tail os) (suc x) ks
+new-facts u os x (text ∷ ks) = new-fact text false x u ∷ new-facts u os (suc x) ks
 
 -- THE PASS. o is the innermost open begin, or no tag. A begin or text has o as its up, and is marked if o is; a text is
 -- its own mate. An end and o are each other's mates, and have the same up and mark.

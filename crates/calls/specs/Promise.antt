@@ -18,7 +18,7 @@ use Rattle.tree.specs.Row.{rises}
 use Rattle.tree.specs.Book.{height, labels-of}
 use Rattle.tree.specs.Reach.{account-bound}
 use Rattle.calls.specs.Kind.{Kind, is-begin}
-use Rattle.calls.specs.Store.{Store, fact, count, row, place-of, width, label}
+use Rattle.calls.specs.Store.{Store, fact, count, row, place-of, width, height-fits, label}
 use Rattle.calls.specs.Nesting.{nests}
 use Rattle.calls.specs.Sound.{tree-sound, sound}
 use Rattle.calls.specs.Load.{load-refusal, load-store}
@@ -45,7 +45,8 @@ Mark-sound = (x : ℕ) (st : Store) → sound st ≡ true → section-refusal x 
 unfoldable pub Rows-end : Type 0
 Rows-end =
     (st : Store) (k : ℕ) → sound st ≡ true → 1 ≤ k → k ≤ 2 →
-    labels-run-out (st .book .s) (st .book .r) k (count st) (height (st .book)) ≡ labels-end (st .book .s) (st .book .r) k (count st) (height (st .book))
+    labels-run-out (height-fits st) (st .book .s) (st .book .r) k (count st) (height (st .book))
+    ≡ labels-end (height-fits st) (st .book .s) (st .book .r) k (count st) (height (st .book))
 
 -- H is at most 17
 unfoldable pub Height-most : Type 0

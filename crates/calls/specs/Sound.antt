@@ -3,10 +3,10 @@ use mathlib.Core.Bool.{Bool, _&&_}
 use Prim.Native.Nat.{ℕ, _+_}
 use lib.Dec.{leb, eqb}
 use lib.ListN.{length}
-use Rattle.store_types.specs.Limits.{no-tag, label-limit, most-tags}
+use Rattle.store_types.specs.Limits.{no-tag, most-tags}
 use Rattle.tree.specs.Row.{all-below}
 use Rattle.tree.specs.Book.{height, book-within}
-use Rattle.calls.specs.Store.{Store, count, row, width, marked-count}
+use Rattle.calls.specs.Store.{Store, count, row, height-fits, marked-count}
 use Rattle.calls.specs.Nesting.{nested}
 
 -- s and r are each 2 to 16
@@ -15,7 +15,7 @@ degrees-fit s r = (leb 2 s && leb s 16) && (leb 2 r && leb r 16)
 
 -- ranges, b^H at most 2^32, and the limits of every node (that labels rise and spell a tree without gaps is in words-of)
 unfoldable pub tree-sound : Store → Bool
-tree-sound st = degrees-fit (st .book .s) (st .book .r) && (leb (width st (height (st .book))) label-limit && book-within (st .book))
+tree-sound st = degrees-fit (st .book .s) (st .book .r) && (height-fits st (height (st .book)) && book-within (st .book))
 
 -- at most 200,000 tags, and each number below n once along next
 unfoldable pub row-sound : Store → Bool

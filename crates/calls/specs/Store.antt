@@ -3,8 +3,9 @@
 use mathlib.Core.Bool.{Bool, false, cond}
 use mathlib.Core.List.{List, [], _∷_}
 use Prim.Native.Nat.{ℕ, suc, _+_}
+use lib.Dec.{leb}
 use lib.ListN.{length, getD}
-use Rattle.store_types.specs.Limits.{no-tag}
+use Rattle.store_types.specs.Limits.{no-tag, label-limit}
 use Rattle.tree.specs.Row.{place}
 use Rattle.tree.specs.Book.{Book, tags, label-of, power-width}
 use Rattle.calls.specs.Kind.{Kind, text}
@@ -24,9 +25,13 @@ pub record Store : Type 0 where
   pub stamp : ℕ
   pub facts : List Fact
 
+-- every one is made by this
+abbrev pub new-fact : Kind → (marked : Bool) → (mate up : ℕ) → Fact
+new-fact k m mate up = record { kind = k; marked = m; mate = mate; up = up }
+
 -- what no tag says: above all that it is not marked
 abbrev pub no-fact : Fact
-no-fact = record { kind = text; marked = false; mate = no-tag; up = no-tag }
+no-fact = new-fact text false no-tag no-tag
 
 abbrev pub fact-in : List Fact → (tag : ℕ) → Fact
 fact-in fs x = getD fs x no-fact
@@ -49,6 +54,17 @@ place-of st x = place x (row st)
 -- document 01's widths: the powers of b
 abbrev pub width : Store → ℕ → ℕ
 width st = power-width (st .book .s) (st .book .r)
+
+-- whether labels of a tree of this height fit: its root is at most 2^32 wide
+unfoldable pub labels-fit : (width : ℕ → ℕ) → (height : ℕ) → Bool
+labels-fit w h = leb (w h) label-limit
+
+abbrev pub height-fits : Store → (height : ℕ) → Bool
+height-fits st = labels-fit (width st)
+
+-- by s and r, where there is no store yet: b^h is at most 2^32
+abbrev pub power-fits : (s r height : ℕ) → Bool
+power-fits s r = labels-fit (power-width s r)
 
 abbrev pub label : Store → (tag : ℕ) → ℕ
 label st x = label-of (width st) (st .book) x

@@ -13,7 +13,7 @@ use Rattle.lists.specs.Lists.{numbers}
 use Rattle.tree.specs.Book.{Book, height, power-width}
 use Rattle.tree.specs.Spelling.{spelled}
 use Rattle.calls.specs.Kind.{kind-of, kind-word}
-use Rattle.calls.specs.Store.{Store, Fact, fact, count, row, label, next-in, prior-in}
+use Rattle.calls.specs.Store.{Store, Fact, new-fact, fact, count, row, label, next-in, prior-in}
 use Rattle.calls.specs.Sound.{degrees-fit, sound}
 
 -- THE WORDS OF A STORE. The header: the value 1; s; r; height H; tags issued n; first tag or no tag; book number; stamp
@@ -42,19 +42,21 @@ follow (suc n) ws x = x ∷ follow n ws (field ws x at-next)
 unfoldable pub read-fact : List ℕ → (tag : ℕ) → Fact
 read-fact ws x =
     let c = field ws x at-kind in
-    record { kind = kind-of (cond (leb 16 c) (c - 16) c); marked = leb 16 c; mate = field ws x at-mate; up = field ws x at-up }
+    new-fact (kind-of (cond (leb 16 c) (c - 16) c)) (leb 16 c) (field ws x at-mate) (field ws x at-up)
+
+-- the widths that a header gives
+unfoldable pub header-width : List ℕ → ℕ → ℕ
+header-width ws = power-width (word-at ws at-s) (word-at ws at-r)
 
 -- the book that s, r, H, next and the labels spell
 unfoldable pub read-book : List ℕ → Book
 read-book ws =
-    let s = word-at ws at-s in
-    let r = word-at ws at-r in
     let tags = follow (word-at ws at-count) ws (word-at ws at-first) in
     record {
-      s = s;
-      r = r;
+      s = word-at ws at-s;
+      r = word-at ws at-r;
       under = pred (word-at ws at-height);
-      root = spelled (pred (word-at ws at-height)) (power-width s r) 0 tags (map (label-at ws) tags);
+      root = spelled (pred (word-at ws at-height)) (header-width ws) 0 tags (map (label-at ws) tags);
     }
 
 -- the only store that words can say

@@ -8,9 +8,10 @@ use borrow.Author.Tests.{eqb-true, leb-true}
 use lib.Dec.{leb, eqb}
 use Rattle.store_types.specs.Limits.{most-tags, most-levels}
 use Rattle.lists.proofs.Tests.{by-test}
-use Rattle.calls.specs.Store.{count}
+use Rattle.tree.specs.Book.{height}
+use Rattle.calls.specs.Store.{Store, count}
 use Rattle.calls.specs.Promise.{Height-most}
-use Rattle.calls_laws.proofs.Tests.{facts-of, root-limits}
+use Rattle.calls_laws.proofs.Tests.{Sound, facts-of, root-limits}
 
 -- over numbers: a root over children of height u, none of them leaves, has at least 2 times r^u tags; 2 times 2^17 are
 -- more than 200,000
@@ -24,8 +25,9 @@ height-limit r u n l least few =
     omega arith in
     omega arith)
 
+pub sound-height : {st : Store} → Sound st → height (st .book) ≤ most-levels
+sound-height {st} h = height-limit (st .book .r) (st .book .under) (count st) (h .degrees .r-least) (root-limits h .1) (h .few)
+
 pub height-most : Height-most
 unfolding Height-most
-height-most st e =
-    let h = facts-of st e in
-    height-limit (st .book .r) (st .book .under) (count st) (h .degrees .r-least) (root-limits h .1) (h .few)
+height-most st e = sound-height (facts-of st e)

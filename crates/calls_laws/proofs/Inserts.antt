@@ -6,22 +6,22 @@ use mathlib.Core.Logic.{_⊎_, inl, inr, ⊎-elim}
 use Prim.Native.Nat.{ℕ, zero, suc, _+_, _*_, _^_, _≤_, _<_}
 use native.Mathlib.Nat.{le-of-eq, pow-suc, mul-assoc, mul-le-mul, mul-le-mul-left, one-le-pow}
 use native.Mathlib.Omega.{arith}
-use borrow.Author.Tests.{eq-eqb, ne-eqb, eqb-true, lt-ltb, le-ltb, ltb-true, ltb-false, lt-leb, leb-true, leb-false, le-leb}
+use borrow.Author.Tests.{eq-eqb, ne-eqb, eqb-true, ltb-true, ltb-false, lt-leb, leb-true, leb-false, le-leb, not-false}
 use lib.Dec.{ltb, leb, eqb}
 use lib.ListN.{length, take, drop, length-append, List·getD-append}
 use lib.Seq.{take-suc}
-use Rattle.store_types.specs.Limits.{no-tag, label-limit, most-tags}
+use Rattle.store_types.specs.Limits.{no-tag, most-tags}
 use Rattle.lists.proofs.Tests.{by-test, fails, or-left-false, or-right-false}
 use Rattle.store_types.specs.Layout.{header-words, words-for}
 use Rattle.lists.specs.Lists.{first, numbers}
 use Rattle.tree.specs.Row.{member, insert-at, all-below}
 use Rattle.tree.specs.Forest.{size}
-use Rattle.tree.specs.Book.{Book, height, power-width, root-full, inserted, inserted-row}
+use Rattle.tree.specs.Book.{Book, height, root-full, inserted, inserted-row}
 use Rattle.tree.specs.Promise.{Sane}
 use Rattle.tree_laws.proofs.Rows.{getD-place, place-of-member, member-of-take, member-insert, member-numbers, member-all-below, all-below-of, member-of-drop}
 use Rattle.tree_laws.proofs.Insertion.{inserted-s, inserted-r, inserted-under, size-inserted, sane-inserted, sane-inserted-row, tags-inserted-row, size-inserted-row}
 use Rattle.calls.specs.Kind.{Kind, is-begin}
-use Rattle.calls.specs.Store.{Store, Fact, no-fact, fact, count, row, place-of, marked-count}
+use Rattle.calls.specs.Store.{Store, Fact, no-fact, fact, count, row, place-of, height-fits, marked-count}
 use Rattle.calls.specs.Nesting.{nests, new-facts}
 use Rattle.calls.specs.Insert.{position, up-at, book-after, insert-store, raised, labels-end, labels-run-out, place-tests, room-tests, row-refusal}
 use Rattle.calls.specs.Promise.{Insert-sound, Rows-end}
@@ -38,7 +38,7 @@ row-degrees (suc n) p x k =
     let rest = row-degrees n (suc p) (suc x) (inserted p x k) in
     (rest .0 ∙ inserted-s p x k, rest .1 ∙ inserted-r p x k)
 
-height-raised : (p x : ℕ) (k : Book) → height (inserted p x k) ≡ raised (k .s) (k .r) (suc (size (k .root))) (height k)
+pub height-raised : (p x : ℕ) (k : Book) → height (inserted p x k) ≡ raised (k .s) (k .r) (suc (size (k .root))) (height k)
 unfolding raised root-full
 height-raised p x k = ap suc (inserted-under p x k) ∙ go (root-full k)
   where
@@ -46,32 +46,31 @@ height-raised p x k = ap suc (inserted-under p x k) ∙ go (root-full k)
     go true = refl
     go false = refl
 
-raised-fits : (s r m h : ℕ) → (leb (s * r ^ h) (suc m) && ltb label-limit (power-width s r (suc h))) ≡ false → power-width s r h ≤ label-limit →
-    power-width s r (raised s r (suc m) h) ≤ label-limit
-unfolding raised
-raised-fits s r m h e fits =
-    by-test (eqb (suc m) (s * r ^ h))
-    (λ t. rw t (ltb-false label-limit _ (rw (le-leb (s * r ^ h) (suc m) (le-of-eq (sym (eqb-true _ _ t)))) at e)))
-    (λ t. rw t fits)
+module _ (fits : (height : ℕ) → Bool) where
+  raised-fits : (s r m h : ℕ) → (leb (s * r ^ h) (suc m) && not (fits (suc h))) ≡ false → fits h ≡ true → fits (raised s r (suc m) h) ≡ true
+  unfolding raised
+  raised-fits s r m h e now =
+      by-test (eqb (suc m) (s * r ^ h))
+      (λ t. rw t (not-false _ (rw (le-leb (s * r ^ h) (suc m) (le-of-eq (sym (eqb-true _ _ t)))) at e)))
+      (λ t. rw t now)
 
-pub labels-kept : (s r n p x : ℕ) (k : Book) → Sane k → k .s ≡ s → k .r ≡ r → p ≤ size (k .root) →
-    labels-run-out s r n (size (k .root)) (height k) ≡ false → power-width s r (height k) ≤ label-limit →
-    power-width s r (height (inserted-row n p x k)) ≤ label-limit
-unfolding inserted-row labels-run-out
-labels-kept s r zero p x k h es er l e fits = fits
-labels-kept s r (suc n) p x k h es er l e fits =
-    let m = size (k .root) in
-    let now = leb (s * r ^ height k) (suc m) && ltb label-limit (power-width s r (suc (height k))) in
-    let later = labels-run-out s r n (suc m) (raised s r (suc m) (height k)) in
-    let sized = size-inserted p x k h l in
-    let high : height (inserted p x k) ≡ raised s r (suc m) (height k) = rw (← es, ← er) (height-raised p x k) in
-    labels-kept s r n (suc p) (suc x) (inserted p x k) (sane-inserted p x k h l) (inserted-s p x k ∙ es) (inserted-r p x k ∙ er) (omega arith)
-    (rw (sized, high) (or-right-false now later e)) (rw high (raised-fits s r m (height k) (or-left-false now later e) fits))
+  pub labels-kept : (s r n p x : ℕ) (k : Book) → Sane k → k .s ≡ s → k .r ≡ r → p ≤ size (k .root) →
+      labels-run-out fits s r n (size (k .root)) (height k) ≡ false → fits (height k) ≡ true → fits (height (inserted-row n p x k)) ≡ true
+  unfolding inserted-row labels-run-out
+  labels-kept s r zero p x k h es er l e own = own
+  labels-kept s r (suc n) p x k h es er l e own =
+      let m = size (k .root) in
+      let now = leb (s * r ^ height k) (suc m) && not (fits (suc (height k))) in
+      let later = labels-run-out fits s r n (suc m) (raised s r (suc m) (height k)) in
+      let sized = size-inserted p x k h l in
+      let high : height (inserted p x k) ≡ raised s r (suc m) (height k) = rw (← es, ← er) (height-raised p x k) in
+      labels-kept s r n (suc p) (suc x) (inserted p x k) (sane-inserted p x k h l) (inserted-s p x k ∙ es) (inserted-r p x k ∙ er) (omega arith)
+      (rw (sized, high) (or-right-false now later e)) (rw high (raised-fits s r m (height k) (or-left-false now later e) own))
 
 -- REFUSAL 7: where n tags are below the root's limit L, labels of one or two tags more run out just where n + k comes to L
--- and the next power of b is too large
-module _ (s r n h : ℕ) (s-least : 2 ≤ s) (r-least : 2 ≤ r) (below : n < s * r ^ h) where
-  run-none : (k : ℕ) → k ≤ 2 → n + k < s * r ^ h → labels-run-out s r k n h ≡ false
+-- and labels of a tree one higher do not fit
+module _ (fits : (height : ℕ) → Bool) (s r n h : ℕ) (s-least : 2 ≤ s) (r-least : 2 ≤ r) (below : n < s * r ^ h) where
+  run-none : (k : ℕ) → k ≤ 2 → n + k < s * r ^ h → labels-run-out fits s r k n h ≡ false
   unfolding labels-run-out raised
   run-none zero l m = refl
   run-none (suc zero) l m = rw (lt-leb (s * r ^ h) (suc n) (omega arith))
@@ -79,54 +78,52 @@ module _ (s r n h : ℕ) (s-least : 2 ≤ s) (r-least : 2 ≤ r) (below : n < s 
       rw (lt-leb (s * r ^ h) (suc n) (omega arith), ne-eqb (suc n) (s * r ^ h) (λ e. omega arith), lt-leb (s * r ^ h) (suc (suc n)) (omega arith))
   run-none (suc (suc (suc k))) l m = absurd (omega arith)
 
-  run-fits : (k : ℕ) → k ≤ 2 → power-width s r (suc h) ≤ label-limit → labels-run-out s r k n h ≡ false
+  run-fits : (k : ℕ) → k ≤ 2 → fits (suc h) ≡ true → labels-run-out fits s r k n h ≡ false
   unfolding labels-run-out raised
   run-fits zero l m = refl
-  run-fits (suc zero) l m = simp (le-ltb label-limit (power-width s r (suc h)) m, and-false)
+  run-fits (suc zero) l m = simp (m, and-false)
   run-fits (suc (suc zero)) l m =
-      let first : (leb (s * r ^ h) (suc n) && ltb label-limit (power-width s r (suc h))) ≡ false =
-      simp (le-ltb label-limit (power-width s r (suc h)) m, and-false) in
+      let first : (leb (s * r ^ h) (suc n) && not (fits (suc h))) ≡ false =
+      simp (m, and-false) in
       rw first (by-test (eqb (suc n) (s * r ^ h))
       (λ t. let full = eqb-true (suc n) (s * r ^ h) t in
       let higher : s * r ^ suc h ≡ s * r ^ h * r = rw (pow-suc, mul-assoc) in
       let more : s * r ^ h * 2 ≤ s * r ^ h * r = mul-le-mul-left (s * r ^ h) r-least in
       let some : 2 * 1 ≤ s * r ^ h = mul-le-mul s-least (one-le-pow h r (omega arith)) in
       rw (t, lt-leb (s * r ^ suc h) (suc (suc n)) (omega arith)))
-      (λ t. rw t (simp (le-ltb label-limit (power-width s r (suc h)) m, and-false))))
+      (λ t. rw t (simp (m, and-false))))
   run-fits (suc (suc (suc k))) l m = absurd (omega arith)
 
-  run-over : (k : ℕ) → k ≤ 2 → s * r ^ h ≤ n + k → label-limit < power-width s r (suc h) → labels-run-out s r k n h ≡ true
+  run-over : (k : ℕ) → k ≤ 2 → s * r ^ h ≤ n + k → fits (suc h) ≡ false → labels-run-out fits s r k n h ≡ true
   unfolding labels-run-out raised
   run-over zero l full m = absurd (omega arith)
-  run-over (suc zero) l full m = rw (le-leb (s * r ^ h) (suc n) (omega arith), lt-ltb label-limit (power-width s r (suc h)) m)
+  run-over (suc zero) l full m = rw (le-leb (s * r ^ h) (suc n) (omega arith), m)
   run-over (suc (suc zero)) l full m =
       by-test (leb (s * r ^ h) (suc n))
-      (λ t. rw (t, lt-ltb label-limit (power-width s r (suc h)) m))
+      (λ t. rw (t, m))
       (λ t. let low = leb-false (s * r ^ h) (suc n) t in
-      rw (t, ne-eqb (suc n) (s * r ^ h) (λ e. omega arith), le-leb (s * r ^ h) (suc (suc n)) (omega arith), lt-ltb label-limit (power-width s r (suc h)) m))
+      rw (t, ne-eqb (suc n) (s * r ^ h) (λ e. omega arith), le-leb (s * r ^ h) (suc (suc n)) (omega arith), m))
   run-over (suc (suc (suc k))) l full m = absurd (omega arith)
 
-  run-out-is-end : (k : ℕ) → k ≤ 2 → labels-run-out s r k n h ≡ labels-end s r k n h
+  run-out-is-end : (k : ℕ) → k ≤ 2 → labels-run-out fits s r k n h ≡ labels-end fits s r k n h
   unfolding labels-end
   run-out-is-end k l =
       by-test (leb (s * r ^ h) (n + k))
-      (λ t. rw t (by-test (ltb label-limit (power-width s r (suc h)))
-      (λ u. rw u (run-over k l (leb-true _ _ t) (ltb-true _ _ u)))
-      (λ u. rw u (run-fits k l (ltb-false _ _ u)))))
+      (λ t. rw t (by-test (fits (suc h)) (λ u. rw u (run-fits k l u)) (λ u. rw u (run-over k l (leb-true _ _ t) u))))
       (λ t. rw t (run-none k l (leb-false _ _ t)))
 
 pub rows-end : Rows-end
 unfolding Rows-end
 rows-end st k e some l =
     let h = facts-of st e in
-    run-out-is-end (st .book .s) (st .book .r) (count st) (height (st .book)) (h .degrees .s-least) (h .degrees .r-least) (root-limits h .0) k l
+    run-out-is-end (height-fits st) (st .book .s) (st .book .r) (count st) (height (st .book)) (h .degrees .s-least) (h .degrees .r-least) (root-limits h .0) k l
 
 -- WHAT AN ACCEPTED INSERTION is asked of: the front, or an unmarked tag
 pub record Row-accepted (w : ℕ) (ks : List Kind) (y : ℕ) (st : Store) : Type 0 where
   pub place : (y ≡ no-tag) ⊎ ((y < count st) × (fact st y .marked ≡ false))
   pub few : count st + length ks ≤ most-tags
   pub room : words-for header-words (count st + length ks) ≤ w
-  pub labels : labels-run-out (st .book .s) (st .book .r) (length ks) (count st) (height (st .book)) ≡ false
+  pub labels : labels-run-out (height-fits st) (st .book .s) (st .book .r) (length ks) (count st) (height (st .book)) ≡ false
 
 pub accepted-row : (w : ℕ) (ks : List Kind) (y : ℕ) (st : Store) → row-refusal w ks y st ≡ 0 → Row-accepted w ks y st
 unfolding row-refusal place-tests room-tests first
@@ -135,7 +132,7 @@ accepted-row w ks y st r =
     let a = passes (not (eqb y no-tag) && leb n y) 7 _ r in
     let b = passes (not (eqb y no-tag) && fact st y .marked) 8 _ (a .1) in
     let c = passes (ltb most-tags (n + length ks) || ltb w (words-for header-words (n + length ks))) 5 _ (b .1) in
-    let d = passes (labels-run-out (st .book .s) (st .book .r) (length ks) n (height (st .book))) 6 0 (c .1) in
+    let d = passes (labels-run-out (height-fits st) (st .book .s) (st .book .r) (length ks) n (height (st .book))) 6 0 (c .1) in
     record {
       place =
           by-test (eqb y no-tag) (λ e. inl (eqb-true _ _ e))
@@ -261,7 +258,7 @@ insert-sound w y ks st e n some r =
       degrees = rw (degrees .0, degrees .1) (h .degrees);
       labels-fit =
           rw (degrees .0, degrees .1)
-          (labels-kept (st .book .s) (st .book .r) k p (count st) (st .book) old refl refl (g .fits) (rw size-is (a .labels)) (h .labels-fit));
+          (labels-kept (height-fits st) (st .book .s) (st .book .r) k p (count st) (st .book) old refl refl (g .fits) (rw size-is (a .labels)) (h .labels-fit));
       within = sane-inserted-row k p (count st) (st .book) old (g .fits) .within;
       few = rw counted (a .few);
       as-many = omega arith;

@@ -1,4 +1,5 @@
 pub mod Tests
+pub mod Widths
 pub mod Nesting
 pub mod NewFacts
 pub mod Sections

@@ -1,7 +1,7 @@
 -- Every list of calls behind an accepted load keeps the store beside the reference list, with its labels rising and few of
 -- them moved. Assumes nothing.
-use mathlib.Core.Path.{sym, _≡_, refl, ap, _∙_}
-use mathlib.Core.Bool.{Bool, true, false, cond}
+use mathlib.Core.Path.{sym, _≡_, refl, _∙_}
+use mathlib.Core.Bool.{true, cond}
 use mathlib.Core.List.{List, [], _∷_}
 use Prim.Native.Nat.{ℕ, zero, suc, _+_, _-_, _≤_}
 use native.Mathlib.Omega.{arith}
@@ -10,45 +10,27 @@ use lib.Dec.{eqb}
 use lib.ListN.{length}
 use Rattle.lists.proofs.Tests.{by-test}
 use Rattle.tree.specs.Forest.{size}
-use Rattle.tree.specs.Book.{Book, height, base, power-width, loaded, root-full, inserted, inserted-row}
+use Rattle.tree.specs.Book.{Book, height, base, loaded, inserted, inserted-row}
 use Rattle.tree.specs.Promise.{Sane, Labels-rise}
-use Rattle.tree_laws.proofs.Insertion.{size-inserted, sane-inserted, inserted-s, inserted-r, inserted-under, tags-inserted-row}
+use Rattle.tree_laws.proofs.Insertion.{size-inserted, sane-inserted, inserted-s, inserted-r, tags-inserted-row}
 use Rattle.tree_laws.proofs.Load.{tags-loaded}
-use Rattle.tree_laws.proofs.Labels.{labels-rise, power-widths}
+use Rattle.tree_laws.proofs.Labels.{labels-rise}
 use Rattle.tree_laws.proofs.Account.{Account, account-loaded, account-row, account-few, account-low}
 use Rattle.calls.specs.Kind.{Kind}
 use Rattle.calls.specs.Store.{Store, count, row, width}
 use Rattle.calls.specs.Sound.{sound}
 use Rattle.calls.specs.Load.{load-refusal, load-store}
-use Rattle.calls.specs.Insert.{insert-kinds, position, book-after, insert-store, insert-moved, raised, row-refusal}
+use Rattle.calls.specs.Insert.{insert-kinds, position, book-after, insert-store, insert-moved, row-refusal}
 use Rattle.calls.specs.Mark.{mark-store}
 use Rattle.calls.specs.Calls.{Call, load, insert, mark, refusal, changed, accepts, after-one, after, moved-by, moved-after, judged}
 use Rattle.calls.specs.Reference.{Reference, reference-load, reference-position, raised-by, reference-insert, reference-call, reference-told, reference-after}
 use Rattle.calls.specs.Promise.{Load-sound, Kept, Lists-keep}
+use Rattle.calls_laws.proofs.Widths.{store-widths, store-powers}
 use Rattle.calls_laws.proofs.Tests.{facts-of}
-use Rattle.calls_laws.proofs.Inserts.{accepted-row, position-fits}
+use Rattle.calls_laws.proofs.Inserts.{row-degrees, height-raised, accepted-row, position-fits}
 use Rattle.calls_laws.proofs.Steps.{accepted-load, insert-passed, load-sound, changed-sound}
 
--- THE HEADER after a row of insertions: s and r stay, and H rises as the reference list says
-
-row-s : (n p x : ℕ) (k : Book) → inserted-row n p x k .s ≡ k .s
-unfolding inserted-row
-row-s zero p x k = refl
-row-s (suc n) p x k = row-s n (suc p) (suc x) (inserted p x k) ∙ inserted-s p x k
-
-row-r : (n p x : ℕ) (k : Book) → inserted-row n p x k .r ≡ k .r
-unfolding inserted-row
-row-r zero p x k = refl
-row-r (suc n) p x k = row-r n (suc p) (suc x) (inserted p x k) ∙ inserted-r p x k
-
-one-higher : (t : Bool) (h : ℕ) → suc (cond t (suc h) h) ≡ cond t (suc (suc h)) (suc h)
-one-higher true h = refl
-one-higher false h = refl
-
-height-inserted : (p x : ℕ) (k : Book) → height (inserted p x k) ≡ raised (k .s) (k .r) (suc (size (k .root))) (height k)
-unfolding raised root-full
-height-inserted p x k = ap suc (inserted-under p x k) ∙ one-higher (root-full k) (k .under)
-
+-- THE HEADER after a row of insertions: H rises as the reference list says
 height-row : (n p x : ℕ) (k : Book) → Sane k → p ≤ size (k .root) →
     height (inserted-row n p x k) ≡ raised-by (k .s) (k .r) n (size (k .root)) (height k)
 unfolding inserted-row raised-by
@@ -56,7 +38,7 @@ height-row zero p x k h l = refl
 height-row (suc n) p x k h l =
     let grown = size-inserted p x k h l in
     height-row n (suc p) (suc x) (inserted p x k) (sane-inserted p x k h l) (omega arith)
-    ∙ rw (inserted-s p x k, inserted-r p x k, grown, height-inserted p x k)
+    ∙ rw (inserted-s p x k, inserted-r p x k, grown, height-raised p x k)
 
 -- A STORE BESIDE THE REFERENCE LIST, where t tags were moved together
 pub record Follows (st : Store) (a : Reference) (t : ℕ) : Type 0 where
@@ -69,7 +51,7 @@ pub record Follows (st : Store) (a : Reference) (t : ℕ) : Type 0 where
 
 -- such a store is kept
 pub kept-of : {st : Store} {a : Reference} {t : ℕ} → Follows st a t → Kept st a t
-unfolding Labels-rise power-width base
+unfolding Labels-rise base
 kept-of {st} {a} {t} f =
     let k = st .book in
     let under : a .height - 1 ≡ k .under = omega (arith, f .levels) in
@@ -78,7 +60,7 @@ kept-of {st} {a} {t} f =
       degree-s = f .degree-s;
       degree-r = f .degree-r;
       levels = f .levels;
-      rise = rw (← f .degree-s, ← f .degree-r, ← f .levels) (labels-rise (width st) k (power-widths (k .s) (k .r)) (f .account .sane));
+      rise = rw (← f .degree-s, ← f .degree-r, ← f .levels, ← store-powers st (height k)) (labels-rise (width st) k (store-widths st) (f .account .sane));
       few-moved = rw (← f .degree-s, ← f .degree-r, ← f .levels) (account-few (f .account));
       low = λ l. rw (← f .degree-r, under) (account-low (f .account) (omega (arith, f .levels)));
     }
@@ -111,10 +93,10 @@ module _ (w y : ℕ) (ks : List Kind) {st : Store} {a : Reference} {t : ℕ} (f 
       record {
         is-sound = good;
         tags = rw (← f .tags, h .as-many) (tags-inserted-row n p (count st) k (f .account .sane) fits);
-        degree-s = row-s n p (count st) k ∙ f .degree-s;
-        degree-r = row-r n p (count st) k ∙ f .degree-r;
+        degree-s = row-degrees n p (count st) k .0 ∙ f .degree-s;
+        degree-r = row-degrees n p (count st) k .1 ∙ f .degree-r;
         levels = rw (← f .degree-s, ← f .degree-r, ← f .levels, ← f .tags) (height-row n p (count st) k (f .account .sane) fits);
-        account = account-row n p (count st) k (power-widths (k .s) (k .r)) fits (sym (h .as-many)) (h .each) (f .account);
+        account = account-row n p (count st) k (store-widths st) fits (sym (h .as-many)) (h .each) (f .account);
       }
 
 -- ONE CALL and every list of calls

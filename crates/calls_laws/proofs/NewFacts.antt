@@ -11,7 +11,7 @@ use lib.Seq.{append-snoc, getD-at}
 use Rattle.store_types.specs.Limits.{no-tag}
 use Rattle.lists.specs.Lists.{numbers}
 use Rattle.calls.specs.Kind.{Kind, begin, end, text}
-use Rattle.calls.specs.Store.{Fact, no-fact, fact-in}
+use Rattle.calls.specs.Store.{Fact, new-fact, no-fact, fact-in}
 use Rattle.calls.specs.Nesting.{nests, closing, new-facts}
 use Rattle.calls_laws.proofs.Nesting.{begins, ends, stands, Pass}
 
@@ -59,7 +59,7 @@ module _ (fs : List Fact) (few : length fs ≤ no-tag) (base : ℕ) (free : fact
   pass-new d u os x [] front whole before n own =
       let none : Own fs base 0 (λ i. closing i x []) u os = rw (eqb-true d 0 n) at own in none
   pass-new d u os x (begin ∷ ks) front whole before n own =
-      let f : Fact = record { kind = begin; marked = false; mate = closing 0 (suc x) ks; up = u } in
+      let f : Fact = new-fact begin false (closing 0 (suc x) ks) u in
       let t = first fs front f (new-facts x (u ∷ os) (suc x) ks) x few whole before in
       let free-u = own-unmarked d (λ i. closing i x (begin ∷ ks)) u os own in
       let opened : Opened fs (closing 0 (suc x) ks) x u = record {
@@ -74,7 +74,7 @@ module _ (fs : List Fact) (few : length fs ≤ no-tag) (base : ℕ) (free : fact
       )
   pass-new zero u os x (end ∷ ks) front whole before n own = absurd (false≢true n)
   pass-new (suc d) u os x (end ∷ ks) front whole before n own =
-      let f : Fact = record { kind = end; marked = false; mate = u; up = headD os no-tag } in
+      let f : Fact = new-fact end false u (headD os no-tag) in
       let t = first fs front f (new-facts (headD os no-tag) (tail os) (suc x) ks) x few whole before in
       let u-open = own .0 in (
         headD os no-tag,
@@ -89,7 +89,7 @@ module _ (fs : List Fact) (few : length fs ≤ no-tag) (base : ℕ) (free : fact
         pass-new d (headD os no-tag) (tail os) (suc x) ks (front ++ (f ∷ [])) (t .whole) (t .before) n (own .1),
       )
   pass-new d u os x (text ∷ ks) front whole before n own =
-      let f : Fact = record { kind = text; marked = false; mate = x; up = u } in
+      let f : Fact = new-fact text false x u in
       let t = first fs front f (new-facts u os (suc x) ks) x few whole before in
       let free-u = own-unmarked d (λ i. closing i x (text ∷ ks)) u os own in (
         u,

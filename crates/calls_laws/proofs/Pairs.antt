@@ -18,12 +18,13 @@ use Rattle.lists.proofs.Tests.{and-left, and-right, and-both, by-test, fails, o
 use Rattle.tree.specs.Book.{label-of, labels-of}
 use Rattle.tree.specs.Promise.{Labels-rise}
 use Rattle.tree_laws.proofs.Rows.{place-of-member, member-all-below}
-use Rattle.tree_laws.proofs.Labels.{length-labels, rising-of, rising-compare, labels-rise, power-widths}
+use Rattle.tree_laws.proofs.Labels.{length-labels, rising-of, rising-compare, labels-rise}
 use Rattle.calls.specs.Kind.{begin, end, is-begin}
 use Rattle.calls.specs.Store.{Store, fact, count, row, place-of, width, label}
 use Rattle.calls.specs.Sound.{sound}
 use Rattle.calls.specs.Held.{encloses, current, question-tests, question}
 use Rattle.calls.specs.Promise.{Labels-tell, Encloses, Current, Asked, Pairs-right, Pair-labels-tell}
+use Rattle.calls_laws.proofs.Widths.{store-widths}
 use Rattle.calls_laws.proofs.Sections.{mate-fits}
 use Rattle.calls_laws.proofs.Tests.{Sound, sane, facts-of}
 
@@ -38,7 +39,7 @@ pub labels-tell : Labels-tell
 unfolding Labels-tell Labels-rise label-of
 labels-tell st x y e x-fits y-fits =
     let h = facts-of st e in
-    let rising = rising-of _ (labels-of (width st) (st .book)) (labels-rise (width st) (st .book) (power-widths _ _) (sane h)) in
+    let rising = rising-of _ (labels-of (width st) (st .book)) (labels-rise (width st) (st .book) (store-widths st) (sane h)) in
     let many = length-labels (st .book .root) (width st) (st .book .under) 0 in
     rising-compare 0 _ (labels-of (width st) (st .book)) rising (place-of st x) (place-of st y)
     (omega (arith, placed x h x-fits)) (omega (arith, placed y h y-fits))

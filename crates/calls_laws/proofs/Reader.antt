@@ -20,13 +20,14 @@ use Rattle.tree.specs.Book.{height, label-of, labels-of, root-within, book-with
 use Rattle.tree.specs.Forest.{within-limits}
 use Rattle.tree_laws.proofs.Good.{good-of}
 use Rattle.tree_laws.proofs.Rows.{Distinct, member-getD, place-getD, distinct-all-below}
-use Rattle.tree_laws.proofs.Labels.{length-labels, power-widths}
+use Rattle.tree_laws.proofs.Labels.{length-labels}
 use Rattle.tree_laws.proofs.Spelled.{spelled-good}
 use Rattle.calls.specs.Kind.{Kind, begin, end, text, code, kind-of, kind-word}
 use Rattle.calls.specs.Store.{Store, no-fact, fact, count, row, width, next-in}
 use Rattle.calls.specs.Sound.{sound}
-use Rattle.calls.specs.Words.{words-of, Says, follow, read-fact, read-book, read-store, starts-with, header-in-range, read-in-range, read}
+use Rattle.calls.specs.Words.{words-of, Says, follow, read-fact, header-width, read-book, read-store, starts-with, header-in-range, read-in-range, read}
 use Rattle.calls.specs.Promise.{Height-most, Reader-right, Says-one, Reads-back}
+use Rattle.calls_laws.proofs.Widths.{store-widths}
 use Rattle.calls_laws.proofs.Tests.{Sound, facts-of, degrees-test}
 use Rattle.calls_laws.proofs.Heights.{height-most}
 use Rattle.calls_laws.proofs.Fields.{length-words, tag-says, header-says}
@@ -86,7 +87,7 @@ module _ (st : Store) (rest : List ℕ) (h : Sound st) where
 
   -- the book: its labels spell its tree
   book-read : read-book (words-of st ++ rest) ≡ st .book
-  unfolding read-book book-within
+  unfolding header-width read-book book-within
   book-read =
       let k = st .book in
       let head = header-says st rest in
@@ -99,7 +100,7 @@ module _ (st : Store) (rest : List ℕ) (h : Sound st) where
         head .first,
         row-read,
         labels-read,
-        spelled-good (h .degrees .s-least) (h .degrees .r-least) (power-widths (k .s) (k .r)) (k .under) (k .root) 0 good,
+        spelled-good (h .degrees .s-least) (h .degrees .r-least) (store-widths st) (k .under) (k .root) 0 good,
       )
 
   -- the facts of a tag, and of all

@@ -8,14 +8,14 @@ use borrow.Author.Tests.{ltb-false, not-false, eqb-true}
 use lib.Dec.{ltb, eqb}
 use lib.ListN.{length, length-map}
 use Rattle.lists.specs.Lists.{first}
-use Rattle.store_types.specs.Limits.{no-tag, label-limit, word-limit, most-tags}
+use Rattle.store_types.specs.Limits.{no-tag, word-limit, most-tags}
 use Rattle.lists.proofs.Tests.{by-test, and-left}
 use Rattle.store_types.specs.Layout.{header-words, words-for}
-use Rattle.tree.specs.Book.{loaded, load-under, power-width}
+use Rattle.tree.specs.Book.{loaded, load-under}
 use Rattle.tree_laws.proofs.Rows.{all-below-numbers}
 use Rattle.tree_laws.proofs.Load.{tags-loaded, size-loaded, sane-loaded}
 use Rattle.calls.specs.Kind.{begin, end, text, kind-of}
-use Rattle.calls.specs.Store.{Store, Fact, fact-in}
+use Rattle.calls.specs.Store.{Store, Fact, power-fits, fact-in}
 use Rattle.calls.specs.Nesting.{nests, new-facts}
 use Rattle.calls.specs.Sound.{degrees-fit, tree-sound, row-sound, sound}
 use Rattle.calls.specs.Load.{all-kinds, kinds-tests, early-tests, load-refusal, load-store}
@@ -36,7 +36,7 @@ pub record Load-accepted (w s r : ℕ) (cs : List ℕ) : Type 0 where
   pub room : words-for header-words (length cs) ≤ w
   pub kinds : all-kinds cs ≡ true
   pub nesting : nests 0 (map kind-of cs) ≡ true
-  pub labels : power-width s r (suc (load-under r (length cs))) ≤ label-limit
+  pub labels : power-fits s r (suc (load-under r (length cs))) ≡ true
 
 pub accepted-load : (w s r : ℕ) (cs : List ℕ) → load-refusal w s r cs ≡ 0 → Load-accepted w s r cs
 unfolding load-refusal early-tests kinds-tests first
@@ -47,14 +47,14 @@ accepted-load w s r cs e =
     let c = passes (ltb w (words-for header-words n)) 0 _ (b .1) in
     let d = passes (not (all-kinds cs)) 3 _ (c .1) in
     let f = passes (not (nests 0 (map kind-of cs))) 4 _ (d .1) in
-    let g = passes (ltb label-limit (power-width s r (suc (load-under r n)))) 6 0 (f .1) in
+    let g = passes (not (power-fits s r (suc (load-under r n)))) 6 0 (f .1) in
     record {
       degrees = degrees-of s r (not-false _ (a .0));
       few = ltb-false _ _ (b .0);
       room = ltb-false _ _ (c .0);
       kinds = not-false _ (d .0);
       nesting = not-false _ (f .0);
-      labels = ltb-false _ _ (g .0);
+      labels = not-false _ (g .0);
     }
 
 -- an accepted load leaves a sound store

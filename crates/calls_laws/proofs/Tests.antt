@@ -6,13 +6,13 @@ use native.Mathlib.Omega.{arith}
 use borrow.Author.Tests.{ltb-true, leb-true, eqb-true, le-leb, eq-eqb}
 use lib.Dec.{ltb, leb, eqb}
 use lib.ListN.{length}
-use Rattle.store_types.specs.Limits.{no-tag, label-limit, most-tags}
+use Rattle.store_types.specs.Limits.{no-tag, most-tags}
 use Rattle.lists.proofs.Tests.{and-left, and-right, and-both}
 use Rattle.tree.specs.Row.{all-below}
 use Rattle.tree.specs.Forest.{size, within-limits}
 use Rattle.tree.specs.Book.{height, root-within, book-within}
 use Rattle.tree.specs.Promise.{Sane}
-use Rattle.calls.specs.Store.{Store, count, row, width, marked-count}
+use Rattle.calls.specs.Store.{Store, count, row, height-fits, marked-count}
 use Rattle.calls.specs.Nesting.{nested}
 use Rattle.calls.specs.Sound.{degrees-fit, tree-sound, row-sound, stamp-sound, sound}
 
@@ -47,7 +47,7 @@ degrees-test s r d =
 -- document 01's "Sound means", as facts
 pub record Sound (st : Store) : Type 0 where
   pub degrees : Degrees (st .book .s) (st .book .r)
-  pub labels-fit : width st (height (st .book)) ≤ label-limit
+  pub labels-fit : height-fits st (height (st .book)) ≡ true
   pub within : book-within (st .book) ≡ true
   pub few : count st ≤ most-tags
   pub as-many : length (row st) ≡ count st
@@ -77,13 +77,13 @@ facts-of st e =
     let back = and-right (tree-sound st && row-sound st) (nested (st .facts) no-tag (row st) && stamp-sound st) e in
     let tree = and-left (tree-sound st) (row-sound st) front in
     let tags = and-right (tree-sound st) (row-sound st) front in
-    let limits = and-right (degrees-fit (st .book .s) (st .book .r)) (leb (width st (height (st .book))) label-limit && book-within (st .book)) tree in
+    let limits = and-right (degrees-fit (st .book .s) (st .book .r)) (height-fits st (height (st .book)) && book-within (st .book)) tree in
     let numbers = and-right (leb (count st) most-tags) (eqb (length (row st)) (count st) && all-below (count st) (row st)) tags in
     record {
       degrees =
-          degrees-of _ _ (and-left (degrees-fit (st .book .s) (st .book .r)) (leb (width st (height (st .book))) label-limit && book-within (st .book)) tree);
-      labels-fit = leb-true _ _ (and-left (leb (width st (height (st .book))) label-limit) (book-within (st .book)) limits);
-      within = and-right (leb (width st (height (st .book))) label-limit) (book-within (st .book)) limits;
+          degrees-of _ _ (and-left (degrees-fit (st .book .s) (st .book .r)) (height-fits st (height (st .book)) && book-within (st .book)) tree);
+      labels-fit = and-left (height-fits st (height (st .book))) (book-within (st .book)) limits;
+      within = and-right (height-fits st (height (st .book))) (book-within (st .book)) limits;
       few = leb-true _ _ (and-left (leb (count st) most-tags) (eqb (length (row st)) (count st) && all-below (count st) (row st)) tags);
       as-many = eqb-true _ _ (and-left (eqb (length (row st)) (count st)) (all-below (count st) (row st)) numbers);
       each = and-right (eqb (length (row st)) (count st)) (all-below (count st) (row st)) numbers;
@@ -95,6 +95,6 @@ pub sound-of : (st : Store) → Sound st → sound st ≡ true
 unfolding sound tree-sound row-sound stamp-sound
 sound-of st h =
     and-both
-    (and-both (and-both (degrees-test _ _ (h .degrees)) (and-both (le-leb _ _ (h .labels-fit)) (h .within)))
+    (and-both (and-both (degrees-test _ _ (h .degrees)) (and-both (h .labels-fit) (h .within)))
     (and-both (le-leb _ _ (h .few)) (and-both (eq-eqb _ _ (h .as-many)) (h .each))))
     (and-both (h .nesting) (le-leb _ _ (h .stamp-fits)))

@@ -13,7 +13,7 @@ use Rattle.store_types.specs.Layout.{at-first, header-words, word-at, words-for
 use Rattle.tree.specs.Book.{labels-of}
 use Rattle.calls.specs.Store.{Store, count, row, width}
 use Rattle.calls.specs.Sound.{sound}
-use Rattle.calls.specs.Words.{words-of, Says, follow, read, in-front}
+use Rattle.calls.specs.Words.{words-of, Says, follow, header-width, read, in-front}
 use Rattle.calls.specs.Replies.{on-store, refusal-over, store-or, said, written, replied}
 use Rattle.calls.specs.Promise.{Reader-right}
 use Rattle.calls_laws.proofs.Tests.{passes, facts-of}
@@ -43,6 +43,11 @@ module _ (ws : List ℕ) (st : Store) (h : Says ws st) where
   pub header-said : Header-says ws st
   unfolding Says
   header-said = rw (h .1 .1) (header-says st (h .1 .0))
+
+  -- it gives the store's widths
+  pub width-said : header-width ws ≡ width st
+  unfolding header-width
+  width-said = rw (header-said .degree-s, header-said .degree-r)
 
   pub row-said : follow (length (row st)) ws (word-at ws at-first) ≡ row st
   unfolding Says

@@ -13,9 +13,10 @@ use Rattle.lists.proofs.Tests.{by-test}
 use Rattle.tree.specs.Good.{Good}
 use Rattle.tree.specs.Row.{rises}
 use Rattle.tree.specs.Forest.{Forest, nil, leaf, node, leaves, size, labels}
-use Rattle.tree.specs.Book.{base, power-width}
+use Rattle.tree.specs.Book.{base}
+use Rattle.tree.specs.Promise.{Widths}
 use Rattle.tree_laws.proofs.Rows.{member-first, member-later, member-cases}
-use Rattle.tree_laws.proofs.Labels.{Rising, rising-lower, rising-order, rising-of, length-labels, node-rising, power-widths}
+use Rattle.tree_laws.proofs.Labels.{Rising, rising-lower, rising-order, rising-of, length-labels, node-rising}
 use Rattle.demands.specs.Sound.{digit, count-under, Spells}
 use Rattle.demands.proofs.Quotients.{quotient-up, quotient-leaf, quotient-from, quotient-below, quotient-grows, sibling-parent, sibling-next, sibling-digit}
 use Rattle.demands.proofs.Ancestors.{In, in-left, in-right, in-either, in-none, count-append, count-none, count-all, Inner, Top, Parted, inner-left, inner-right, inner-join, inner-lower, top-under, inner-under}
@@ -67,12 +68,9 @@ some-in : (ls : List ℕ) → 1 ≤ length ls → (m : ℕ) × In m ls
 some-in [] l = absurd (omega arith)
 some-in (k ∷ ks) l = (k, member-first k ks)
 
-module _ (s r : ℕ) (s-least : 2 ≤ s) (r-least : 2 ≤ r) where
+module _ (s r : ℕ) (s-least : 2 ≤ s) (r-least : 2 ≤ r) (w : ℕ → ℕ) (widths : Widths s r w) (powers : (j : ℕ) → w j ≡ base s r ^ j) where
   abbrev b : ℕ
   b = base s r
-
-  abbrev w : ℕ → ℕ
-  w = power-width s r
 
   pub b-pos : 1 ≤ b
   unfolding base
@@ -83,8 +81,7 @@ module _ (s r : ℕ) (s-least : 2 ≤ s) (r-least : 2 ≤ r) where
   first-child c j = rw (pow-succ', mul-assoc)
 
   right-sibling : (c j : ℕ) → c * b ^ j + w j ≡ suc c * b ^ j
-  unfolding power-width
-  right-sibling c j = sym (suc-mul c (b ^ j))
+  right-sibling c j = rw (powers j) (sym (suc-mul c (b ^ j)))
 
   at-quotient : (c j l : ℕ) → c * b ^ j ≤ l → l < suc c * b ^ j → l / b ^ j ≡ c
   at-quotient c j l low high = let next : suc c ≡ c + 1 = omega arith in div-eq-of-lt-le (b ^ j) low (rw next at high)
@@ -124,7 +121,7 @@ module _ (s r : ℕ) (s-least : 2 ≤ s) (r-least : 2 ≤ r) where
       let ns = labels f w (suc j) (a + w (suc j)) in
       let left = rw (← first-child c j) at (forest-digits g j (c * b) (good .2)) in
       let right = rw (← right-sibling c (suc j)) at (forest-digits f (suc j) (suc c) (good .3)) in
-      let rise = node-rising s-least r-least (power-widths s r) g j a (good .2) (good .1) in
+      let rise = node-rising s-least r-least widths g j a (good .2) (good .1) in
       let many = length-labels g w j a in
       let under : (l : ℕ) → In l ms → l / b ^ suc j ≡ c =
       λ l i. let q = rising-in a (a + w (suc j)) l ms rise i in at-quotient c (suc j) l (q .0) (omega (arith, q .1, right-sibling c (suc j))) in

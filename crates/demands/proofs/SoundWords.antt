@@ -1,13 +1,13 @@
 -- Words that are sound by document 01's sentences say a store, and words that say one are sound. Assumes nothing.
 use mathlib.Core.Path.{_≡_, refl, ap, sym, _∙_}
-use mathlib.Core.Bool.{Bool, true, false}
+use mathlib.Core.Bool.{Bool, true, false, _||_}
 use mathlib.Core.List.{List, [], _∷_, map, headD, reverseAux}
 use mathlib.Core.Option.{Option, none, some}
 use Prim.Native.Nat.{ℕ, suc, _*_, _-_, _^_, _≤_, _<_}
 use native.Mathlib.Nat.{lt-of-not-le}
 use native.Mathlib.Omega.{arith}
 use borrow.Author.Tests.{le-ltb, le-leb, leb-true, ne-eqb, eqb-false}
-use lib.Dec.{eqb}
+use lib.Dec.{leb, eqb}
 use lib.ListN.{length, length-map}
 use Rattle.store_types.specs.Limits.{no-tag}
 use Rattle.store_types.specs.Layout.{at-s, at-r, at-height, at-count, at-first, header-words, at-next, at-prior, word-at, words-for, field, label-at}
@@ -17,16 +17,18 @@ use Rattle.lists.proofs.Numbers.{length-numbers}
 use Rattle.tree.specs.Good.{Good}
 use Rattle.tree.specs.Row.{member, all-below}
 use Rattle.tree.specs.Forest.{Forest, leaves, labels, within-limits}
-use Rattle.tree.specs.Book.{Book, power-width, root-within, book-within}
+use Rattle.tree.specs.Book.{Book, height, root-within, book-within}
 use Rattle.tree.specs.Promise.{Labels-rise}
 use Rattle.tree_laws.proofs.Rows.{distinct-all-below, member-numbers, member-first, member-later}
 use Rattle.tree_laws.proofs.Good.{good-of}
-use Rattle.tree_laws.proofs.Labels.{labels-rise, power-widths}
+use Rattle.tree_laws.proofs.Labels.{labels-rise}
 use Rattle.calls.specs.Kind.{Kind, begin, end, text, code, kind-word}
 use Rattle.calls.specs.Store.{Store, fact, count, row, width}
-use Rattle.calls.specs.Words.{Says, read}
+use Rattle.calls.specs.Words.{Says, header-width, read}
 use Rattle.calls.specs.Replies.{on-store, refusal-over}
 use Rattle.calls.specs.Promise.{Reader-right}
+use Rattle.calls_laws.proofs.Widths.{fits-limit, limit-fits, store-widths, header-widths, store-powers, header-powers}
+use Rattle.calls_laws.proofs.Heights.{height-limit}
 use Rattle.calls_laws.proofs.Tests.{Sound, sane, root-limits}
 use Rattle.calls_laws.proofs.WordSteps.{words-fit, refusal-said, header-said, labels-said}
 use Rattle.calls_laws.proofs.Reader.{reader-right}
@@ -92,8 +94,15 @@ module _ (ws : List ℕ) (h : Sound-words ws) where
   levels : word-at ws at-height ≡ suc u
   levels = omega (arith, h .height)
 
+  least : (eqb u 0 || leb (2 * r ^ u) n) ≡ true
+  least =
+      by-test (eqb u 0) (λ e. rw e)
+      (λ e. rw e (le-leb (2 * r ^ u) n
+      (let high : 2 ≤ word-at ws at-height = (let other = eqb-false u 0 e in omega (arith, levels, lt-of-not-le λ (none : u ≤ 0). other (omega arith))) in
+      h .root-least high)))
+
   header : Header ws s r u n
-  unfolding words-for power-width
+  unfolding words-for
   header =
       record {
         version = h .version;
@@ -101,15 +110,13 @@ module _ (ws : List ℕ) (h : Sound-words ws) where
         degree-r = refl;
         levels = levels;
         issued = refl;
+        high = height-limit r u n (h .r-range .0) least (h .few);
         degrees = record { s-least = h .s-range .0; s-most = h .s-range .1; r-least = h .r-range .0; r-most = h .r-range .1 };
         few = h .few;
         room = h .room;
-        labels-fit = rw levels at (h .labels-fit);
+        labels-fit = limit-fits (header-width ws) (suc u) (rw (header-powers ws (suc u)) (rw levels at (h .labels-fit)));
         below = rw levels at (h .root-most);
-        least = by-test (eqb u 0) (λ e. rw e)
-            (λ e. rw e (le-leb (2 * r ^ u) n
-            (let high : 2 ≤ word-at ws at-height = (let other = eqb-false u 0 e in omega (arith, levels, lt-of-not-le λ (none : u ≤ 0). other (omega arith))) in
-            h .root-least high)));
+        least = least;
       }
 
   in-book : (x : ℕ) → member x (h .row) ≡ true → x < n
@@ -123,9 +130,9 @@ module _ (ws : List ℕ) (h : Sound-words ws) where
   unfolding headD
   kinds-are = passes-nested ws n (h .few) (h .kinds) (h .marks-under) (h .marks-mates) (h .row) [] tt in-book (h .nesting)
 
-  forest : (f : Forest) × Good s r f u × (leaves f ≡ h .row) × (labels f (power-width s r) u 0 ≡ map (label-at ws) (h .row))
+  forest : (f : Forest) × Good s r f u × (leaves f ≡ h .row) × (labels f (header-width ws) u 0 ≡ map (label-at ws) (h .row))
   forest =
-      spelled-forest s r (h .s-range .0) (h .r-range .0) u (map (label-at ws) (h .row)) (h .row) (sym (length-map (h .row) (label-at ws)))
+      spelled-forest s r (h .s-range .0) (h .r-range .0) (header-width ws) (header-widths ws) (header-powers ws) u (map (label-at ws) (h .row)) (h .row) (sym (length-map (h .row) (label-at ws)))
       (rw levels at (h .rise)) (rw levels at (h .spells))
 
   sound-says-some : Says-some ws
@@ -161,7 +168,7 @@ module _ (ws : List ℕ) (st : Store) (h : Says ws st) where
   tag-below x l = omega (arith, header-said ws st h .issued)
 
   says-sound : Sound-words ws
-  unfolding words-for power-width Labels-rise
+  unfolding words-for Labels-rise
   says-sound =
       let head = header-said ws st h in
       let limits = root-limits own in
@@ -173,14 +180,14 @@ module _ (ws : List ℕ) (st : Store) (h : Says ws st) where
         r-range = rw (head .degree-r) (own .degrees .r-least, own .degrees .r-most);
         height = omega (arith, head .levels);
         few = rw (head .issued) (own .few);
-        labels-fit = rw (head .degree-s, head .degree-r, head .levels) (own .labels-fit);
+        labels-fit = rw (head .degree-s, head .degree-r, head .levels, ← store-powers st (height k)) (fits-limit (width st) (height k) (own .labels-fit));
         row = row st;
         along = book-row ws st h;
         as-many = own .as-many ∙ sym (head .issued);
         each = rw (head .issued) (own .each);
-        rise = rw (head .degree-s, head .degree-r, head .levels, labels-said ws st h) (labels-rise (width st) k (power-widths (k .s) (k .r)) (sane own));
+        rise = rw (head .degree-s, head .degree-r, head .levels, ← store-powers st (height k), labels-said ws st h) (labels-rise (width st) k (store-widths st) (sane own));
         spells = rw (head .degree-s, head .degree-r, head .levels, labels-said ws st h)
-            (forest-spells (k .s) (k .r) (own .degrees .s-least) (own .degrees .r-least) (k .under) (k .root) good);
+            (forest-spells (k .s) (k .r) (own .degrees .s-least) (own .degrees .r-least) (width st) (store-widths st) (store-powers st) (k .under) (k .root) good);
         root-most = rw (head .issued, head .degree-s, head .degree-r, head .levels) (limits .0);
         root-least = λ two. let same : word-at ws at-height - 1 ≡ k .under = omega (arith, head .levels) in
             rw (same, head .issued, head .degree-r)

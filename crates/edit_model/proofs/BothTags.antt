@@ -1,6 +1,6 @@
 -- Both tags of an element at once, where the second splits: the words afterwards and how many tags moved. Assumes nothing.
 use mathlib.Core.Path.{_≡_, refl, ap, sym, _∙_}
-use mathlib.Core.Bool.{cond}
+use mathlib.Core.Bool.{true, cond}
 use mathlib.Core.List.{List, [], _∷_, _++_, map}
 use Prim.Native.Nat.{ℕ, suc, _+_, _*_, _-_, _^_, _≤_, _<_}
 use native.Mathlib.Nat.{mul-le-mul}
@@ -9,7 +9,7 @@ use borrow.Author.Tests.{ne-eqb, lt-ltb}
 use lib.Dec.{eqb}
 use lib.ListN.{length, getD, take, drop, length-append}
 use lib.Seq.{drop-cons, drop-append-add}
-use Rattle.store_types.specs.Limits.{no-tag, label-limit, most-tags}
+use Rattle.store_types.specs.Limits.{no-tag, most-tags}
 use Rattle.store_types.specs.Layout.{header-words, tag-words, words-for}
 use Rattle.lists.proofs.Tests.{by-test}
 use Rattle.words.proofs.Fields.{words-next}
@@ -20,13 +20,14 @@ use Rattle.tree.specs.Book.{Book, height, labels-of, split-of, moved}
 use Rattle.tree.specs.Reach.{split-book}
 use Rattle.tree_laws.proofs.Rows.{length-insert, insert-left, insert-right}
 use Rattle.tree_laws.proofs.Spread.{leaves-spread, far-from-limit}
-use Rattle.tree_laws.proofs.Labels.{length-labels, width-least, power-widths}
+use Rattle.tree_laws.proofs.Labels.{length-labels, width-least}
 use Rattle.tree_laws.proofs.Root.{labels-whole}
 use Rattle.tree_laws.proofs.Second.{second-book}
 use Rattle.tree_laws.proofs.Both.{pieces-whole, labels-both}
 use Rattle.calls.specs.Kind.{kind-word}
-use Rattle.calls.specs.Store.{Store, Fact, count, row, width}
+use Rattle.calls.specs.Store.{Store, Fact, count, row, width, height-fits}
 use Rattle.calls.specs.Words.{words-of, Says}
+use Rattle.calls_laws.proofs.Widths.{store-widths}
 use Rattle.calls_laws.proofs.Tests.{Sound, sane}
 use Rattle.calls_laws.proofs.Sections.{distinct-row}
 use Rattle.edit_model.specs.Image.{Image, image-words, image-of, with-labels}
@@ -52,7 +53,7 @@ put-two ws st p t u =
 
 module _ (ws : List ℕ) (st : Store) (says : Says ws st) (p : ℕ) (fits : p ≤ count st) (h : ℕ) (top : plan-two-at ws st p .height ≡ suc h)
     (lower : plan-at ws st p .height < suc h) (t u : Fact) (few : suc (suc (count st)) ≤ most-tags) (room : words-for header-words (suc (suc (count st))) ≤ length ws)
-    (labels-fit : width st (height (book-with-two p st)) ≤ label-limit) where
+    (labels-fit : height-fits st (height (book-with-two p st)) ≡ true) where
   abbrev k : Book
   k = st .book
 
@@ -225,7 +226,7 @@ module _ (ws : List ℕ) (st : Store) (says : Says ws st) (p : ℕ) (fits : p �
 
   shift-least : 1 ≤ (k .s - 1) * width st (suc h)
   shift-least =
-      omega (arith, mul-le-mul {n₁ = 1} {n₂ = k .s - 1} (omega (arith, own .degrees .s-least)) (width-least (own .degrees .s-least) (own .degrees .r-least) (power-widths (k .s) (k .r)) (suc h)))
+      omega (arith, mul-le-mul {n₁ = 1} {n₂ = k .s - 1} (omega (arith, own .degrees .s-least)) (width-least (own .degrees .s-least) (own .degrees .r-least) (store-widths st) (suc h)))
 
   pub both-moved : put-two ws st p t u .moved ≡ moved (width st) k (book-with-two p st)
   unfolding put-words

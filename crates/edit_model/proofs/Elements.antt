@@ -1,19 +1,19 @@
 -- An accepted element over words: the words are those of the new store, and what moved and what was split is as document 01
 -- says. Assumes nothing.
 use mathlib.Core.Path.{_≡_, refl, ap, sym, _∙_}
-use mathlib.Core.Bool.{false, cond}
+use mathlib.Core.Bool.{true, false, cond}
 use mathlib.Core.List.{List, [], _∷_, _++_, headD, append-assoc}
 use Prim.Native.Nat.{ℕ, zero, suc, max, _+_, _≤_, _<_}
 use native.Mathlib.Omega.{arith}
 use borrow.Author.Tests.{ltb-true}
 use lib.Dec.{ltb}
 use lib.ListN.{length, drop}
-use Rattle.store_types.specs.Limits.{label-limit, most-tags}
+use Rattle.store_types.specs.Limits.{most-tags}
 use Rattle.lists.proofs.Tests.{by-test}
 use Rattle.store_types.specs.Layout.{at-count, header-words, word-at, words-for}
 use Rattle.tree.specs.Book.{height, inserted-row, split-of, split-of-row, moved}
 use Rattle.calls.specs.Kind.{begin, end, code, kind-word}
-use Rattle.calls.specs.Store.{Store, Fact, count, width}
+use Rattle.calls.specs.Store.{Store, Fact, new-fact, count, width, height-fits}
 use Rattle.calls.specs.Nesting.{closing, new-facts}
 use Rattle.calls.specs.Insert.{insert-kinds, position, up-at, book-after, insert-store, insert-moved, insert-split, insert-refusal}
 use Rattle.calls.specs.Words.{words-of, Says, in-front}
@@ -34,7 +34,7 @@ use Rattle.edit_model.proofs.InTurn.{turn-moved, turn-words}
 
 -- THE END OF AN ELEMENT
 abbrev pub end-fact : Store → (place : ℕ) → Fact
-end-fact st y = record { kind = end; marked = false; mate = count st; up = up-at y st }
+end-fact st y = new-fact end false (count st) (up-at y st)
 
 module _ (ws : List ℕ) (st : Store) (says : Says ws st) (y : ℕ) (accepted : insert-refusal (length ws) 1 y st ≡ 0) where
   abbrev p : ℕ
@@ -62,15 +62,15 @@ module _ (ws : List ℕ) (st : Store) (says : Says ws st) (y : ℕ) (accepted : 
   room : words-for header-words (suc (suc (count st))) ≤ length ws
   room = let two : count st + 2 ≡ suc (suc (count st)) = omega arith in rw two at (a .room)
 
-  labels-fit : width st (height (book-with p st)) ≤ label-limit
+  labels-fit : height-fits st (height (book-with p st)) ≡ true
   labels-fit = labels-said ws st says begin (end ∷ []) y a
 
-  labels-fit-both : width st (height (book-with-two p st)) ≤ label-limit
+  labels-fit-both : height-fits st (height (book-with-two p st)) ≡ true
   unfolding inserted-row
   labels-fit-both =
       let k = st .book in
       let many = own .as-many in
-      labels-kept (k .s) (k .r) 2 p (count st) k (sane own) refl refl (in-book own p fits) (rw many (a .labels)) (own .labels-fit)
+      labels-kept (height-fits st) (k .s) (k .r) 2 p (count st) k (sane own) refl refl (in-book own p fits) (rw many (a .labels)) (own .labels-fit)
 
   -- THE NEW STORE
   new-store : stamped-store after ≡ insert-store (insert-kinds 1) y st

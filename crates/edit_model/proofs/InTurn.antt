@@ -3,26 +3,25 @@
 use mathlib.Core.Path.{_≡_, refl, ap, sym, _∙_}
 use mathlib.Core.Bool.{Bool, true, false, cond}
 use mathlib.Core.List.{List, _++_}
-use Prim.Native.Nat.{ℕ, suc, _+_, _*_, _-_, _≤_, _<_}
-use native.Mathlib.Nat.{mul-le-mul}
+use Prim.Native.Nat.{ℕ, suc, _+_, _-_, _≤_, _<_}
 use native.Mathlib.Omega.{arith}
 use lib.ListN.{length, getD, drop, length-drop}
 use lib.Seq.{drop-drop}
-use Rattle.store_types.specs.Limits.{no-tag, label-limit, most-tags}
+use Rattle.store_types.specs.Limits.{no-tag, most-tags}
 use Rattle.store_types.specs.Layout.{header-words, tag-words, words-for}
 use Rattle.lists.proofs.Tests.{fails}
-use Rattle.shape.specs.Tables.{entry, widths-of}
+use Rattle.shape.specs.Tables.{widths-of}
 use Rattle.words.proofs.Fields.{words-next}
-use Rattle.tree.specs.Book.{height, tags, labels-of, base, power-width, root-full, inserted, split-of, moved}
+use Rattle.tree.specs.Book.{height, tags, labels-of, root-full, inserted, split-of, moved}
 use Rattle.tree.specs.Promise.{Widths, Step, Second-tag}
-use Rattle.tree_laws.proofs.Labels.{power-widths}
 use Rattle.tree_laws.proofs.Insertion.{tags-inserted, inserted-s, inserted-r, inserted-under, split-of-split}
 use Rattle.tree_laws.proofs.Second.{second-tag}
 use Rattle.calls.specs.Kind.{kind-word}
-use Rattle.calls.specs.Store.{Store, Fact, count, row, width}
+use Rattle.calls.specs.Store.{Store, Fact, count, row, width, height-fits}
 use Rattle.calls.specs.Words.{words-of, Says}
+use Rattle.calls_laws.proofs.Heights.{sound-height}
+use Rattle.calls_laws.proofs.Widths.{store-widths}
 use Rattle.calls_laws.proofs.Tests.{Sound, sane}
-use Rattle.shape.proofs.Fits.{height-range}
 use Rattle.edit_model.specs.Image.{image-words, image-of, with-labels}
 use Rattle.edit_model.specs.Insert.{added, applied, plain-plan}
 use Rattle.edit_model.proofs.Image.{Alike, store-image, image-is}
@@ -36,18 +35,15 @@ module _ (ws : List ℕ) (st : Store) (says : Says ws st) (p : ℕ) (fits : p �
   own : Sound st
   own = sound-said ws st says
 
-  same-width : power-width (book-with p st .s) (book-with p st .r) ≡ width st
-  same-width = rw (inserted-s p (count st) (st .book), inserted-r p (count st) (st .book))
-
   first-widths : Widths (book-with p st .s) (book-with p st .r) (width st)
-  first-widths = rw (inserted-s p (count st) (st .book), inserted-r p (count st) (st .book)) (power-widths (st .book .s) (st .book .r))
+  first-widths = rw (inserted-s p (count st) (st .book), inserted-r p (count st) (st .book)) (store-widths st)
 
   -- WHAT MOVED
   pub turn-moved : moved (width st) (st .book) (book-with-two p st) ≡ moved (width st) (st .book) (book-with p st)
   unfolding Second-tag
   turn-moved =
       let first : Step (width st) p (count st) (st .book) =
-      record { widths = power-widths (st .book .s) (st .book .r); sane = sane own; place-fits = in-book own p fits; new = not-tag own p fits (count st) (omega arith) } in
+      record { widths = store-widths st; sane = sane own; place-fits = in-book own p fits; new = not-tag own p fits (count st) (omega arith) } in
       let second : Step (width st) (suc p) (suc (count st)) (book-with p st) =
       record { widths = first-widths; sane = sane-first own p fits; place-fits = in-first own p fits; new = not-next own p fits } in
       second-tag (width st) p (count st) (suc (count st)) (st .book) first second .2 none
@@ -66,10 +62,7 @@ module _ (ws : List ℕ) (st : Store) (says : Says ws st) (p : ℕ) (fits : p �
       go true = omega arith
       go false = omega arith
 
-  table-right : (i : ℕ) → i ≤ height (st .book) → entry (widths-of ws) i ≡ power-width (book-with p st .s) (book-with p st .r) i
-  table-right i l = rw same-width (widths-right ws st says i l)
-
-  module _ (t u : Fact) (few : suc (suc (count st)) ≤ most-tags) (room : words-for header-words (suc (suc (count st))) ≤ length ws) (labels-fit : width st (height (book-with p st)) ≤ label-limit) where
+  module _ (t u : Fact) (few : suc (suc (count st)) ≤ most-tags) (room : words-for header-words (suc (suc (count st))) ≤ length ws) (labels-fit : height-fits st (height (book-with p st)) ≡ true) where
     few-one : suc (count st) ≤ most-tags
     few-one = omega arith
 
@@ -77,10 +70,12 @@ module _ (ws : List ℕ) (st : Store) (says : Says ws st) (p : ℕ) (fits : p �
     room-one = omega (arith, words-next (suc (count st)))
 
     low : book-with p st .under ≤ 22
-    unfolding power-width base
-    low =
-        let least : 3 ≤ st .book .s * st .book .r - 1 = omega (arith, mul-le-mul (own .degrees .s-least) (own .degrees .r-least)) in
-        omega (arith, height-range (st .book .s * st .book .r - 1) (height (book-with p st)) least labels-fit)
+    low = omega (arith, not-higher, sound-height own)
+
+    -- it is numbered by the same widths
+    same-width : width (grown p t st) ≡ width st
+    unfolding grown
+    same-width = rw (inserted-s p (count st) (st .book), inserted-r p (count st) (st .book))
 
     -- the image with the first tag
     count-first : length (image-of (grown p t st) .facts) ≡ suc (count st)
@@ -95,25 +90,25 @@ module _ (ws : List ℕ) (st : Store) (says : Says ws st) (p : ℕ) (fits : p �
     unfolding image-of grown
     tags-first = refl
 
-    labels-first : image-of (grown p t st) .labels ≡ labels-of (power-width (book-with p st .s) (book-with p st .r)) (book-with p st)
+    labels-first : image-of (grown p t st) .labels ≡ labels-of (width st) (book-with p st)
     unfolding image-of grown
-    labels-first = refl
+    labels-first = rw same-width
 
-    small : (x : ℕ) → x ≡ suc (count st) → (i : ℕ) → i < length (labels-of (power-width (book-with p st .s) (book-with p st .r)) (inserted (suc p) x (book-with p st))) →
-        getD (labels-of (power-width (book-with p st .s) (book-with p st .r)) (inserted (suc p) x (book-with p st))) i 0 < no-tag
-    small x e = rw (e, same-width) (label-below own p fits (rw (← high (suc (count st))) labels-fit))
+    small : (x : ℕ) → x ≡ suc (count st) → (i : ℕ) → i < length (labels-of (width st) (inserted (suc p) x (book-with p st))) →
+        getD (labels-of (width st) (inserted (suc p) x (book-with p st))) i 0 < no-tag
+    small x e = rw e (label-below own p fits (rw (← high (suc (count st))) labels-fit))
 
     -- THE WORDS with the second, over those with the first
     next-said : (rest : List ℕ) → tag-words ≤ length rest →
         applied (added (image-words (image-of (grown p t st)) ++ rest) (suc (count st)) (count st) (u .mate) (u .up) (kind-word (u .kind) (u .marked))) (widths-of ws) (book-with p st .r) (suc (suc (count st)))
         (plain-plan (image-words (image-of (grown p t st)) ++ rest) (widths-of ws) (book-with p st .under) (count st)) .words
-        ≡ image-words (with-labels (labels-of (power-width (book-with p st .s) (book-with p st .r)) (book-with-two p st)) (with-tag (suc p) u (image-of (grown p t st)))) ++ drop tag-words rest
+        ≡ image-words (with-labels (labels-of (width st) (book-with-two p st)) (with-tag (suc p) u (image-of (grown p t st)))) ++ drop tag-words rest
     next-said rest more =
         rw (count-first, last-first)
-        at (next-words (book-with p st) (sane-first own p fits) p (in-first own p fits) none low (proper-grown ws st says p fits t few-one room-one labels-fit) (omega (arith, count-first)) tags-first labels-first
-        (widths-of ws) (λ i l. table-right i (omega (arith, not-higher))) (table-right 1 (omega arith)) u rest (small _ count-first) more)
+        at (next-words (book-with p st) (sane-first own p fits) (width st) first-widths p (in-first own p fits) none low (proper-grown ws st says p fits t few-one room-one labels-fit) (omega (arith, count-first)) tags-first labels-first
+        (widths-of ws) (λ i l. widths-right ws st says i (omega (arith, not-higher))) (widths-right ws st says 1 (omega arith)) u rest (small _ count-first) more)
 
-    alike-after : Alike (with-labels (labels-of (power-width (book-with p st .s) (book-with p st .r)) (book-with-two p st)) (with-tag (suc p) u (image-of (grown p t st)))) (image-of (grown (suc p) u (grown p t st)))
+    alike-after : Alike (with-labels (labels-of (width st) (book-with-two p st)) (with-tag (suc p) u (image-of (grown p t st)))) (image-of (grown (suc p) u (grown p t st)))
     unfolding with-labels with-tag image-of grown
     alike-after =
         let x = suc (count st) in
@@ -125,7 +120,7 @@ module _ (ws : List ℕ) (st : Store) (says : Says ws st) (p : ℕ) (fits : p �
           number = refl;
           stamp = refl;
           tags = sym (tags-inserted (suc p) x m (sane-first own p fits) (in-first own p fits));
-          labels = rw (inserted-s (suc p) x m, inserted-r (suc p) x m);
+          labels = rw (inserted-s (suc p) x m, inserted-r (suc p) x m, inserted-s p (count st) (st .book), inserted-r p (count st) (st .book));
           facts = refl;
         })
 

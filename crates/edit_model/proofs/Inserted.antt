@@ -1,23 +1,23 @@
 -- An accepted insertion over words: of a text, and of an element's begin. The words are those of the new store, and what
 -- moved and what was split is as document 01 says. Assumes nothing.
 use mathlib.Core.Path.{_≡_, refl, ap, sym, _∙_}
-use mathlib.Core.Bool.{false, _&&_}
+use mathlib.Core.Bool.{Bool, true, false, _&&_, not}
 use mathlib.Core.List.{List, [], _∷_, _++_}
 use mathlib.Core.Logic.{_⊎_, inl, inr}
 use Prim.Native.Nat.{ℕ, suc, _*_, _^_, _≤_, _<_}
 use native.Mathlib.Nat.{max-zero}
 use native.Mathlib.Omega.{arith}
 use borrow.Author.Tests.{eq-eqb, ne-eqb}
-use lib.Dec.{leb, ltb, eqb}
+use lib.Dec.{leb, eqb}
 use lib.ListN.{length, drop}
-use Rattle.store_types.specs.Limits.{no-tag, label-limit, most-tags}
+use Rattle.store_types.specs.Limits.{no-tag, most-tags}
 use Rattle.lists.proofs.Tests.{or-left-false}
 use Rattle.store_types.specs.Layout.{at-r, at-count, header-words, word-at, words-for}
 use Rattle.shape.specs.Tables.{widths-of}
-use Rattle.tree.specs.Book.{height, power-width, inserted, inserted-row, split-of, split-of-row, moved}
+use Rattle.tree.specs.Book.{height, inserted, inserted-row, split-of, split-of-row, moved}
 use Rattle.tree_laws.proofs.Rows.{getD-place}
 use Rattle.calls.specs.Kind.{Kind, begin, end, text, code, kind-word, is-begin}
-use Rattle.calls.specs.Store.{Store, Fact, fact, count, row, width}
+use Rattle.calls.specs.Store.{Store, Fact, new-fact, fact, count, row, width, height-fits}
 use Rattle.calls.specs.Nesting.{new-facts}
 use Rattle.calls.specs.Insert.{insert-kinds, position, up-at, book-after, insert-store, insert-moved, insert-split, labels-run-out, insert-refusal}
 use Rattle.calls.specs.Words.{words-of, Says, in-front}
@@ -35,9 +35,9 @@ use Rattle.edit_model.proofs.Plans.{place-tag, sound-said}
 use Rattle.edit_model.proofs.Single.{grown, single-words, single-moved, single-split}
 
 -- LABELS STILL FIT with the first of the new tags
-labels-first : (s r m n h : ℕ) → labels-run-out s r (suc m) n h ≡ false → labels-run-out s r 1 n h ≡ false
+labels-first : (fits : (height : ℕ) → Bool) (s r m n h : ℕ) → labels-run-out fits s r (suc m) n h ≡ false → labels-run-out fits s r 1 n h ≡ false
 unfolding labels-run-out
-labels-first s r m n h e = rw (or-left-false (leb (s * r ^ h) (suc n) && ltb label-limit (power-width s r (suc h))) _ e)
+labels-first fits s r m n h e = rw (or-left-false (leb (s * r ^ h) (suc n) && not (fits (suc h))) _ e)
 
 -- a begin by its word, where it is not marked
 begin-word : (c : Kind) → eqb (kind-word c false) 1 ≡ is-begin c
@@ -97,13 +97,13 @@ module _ (ws : List ℕ) (st : Store) (says : Says ws st) (c : Kind) (ks : List 
   unfolding words-for
   room-said = omega (arith, a .room)
 
-  pub labels-said : width st (height (inserted (position y st) (count st) (st .book))) ≤ label-limit
+  pub labels-said : height-fits st (height (inserted (position y st) (count st) (st .book))) ≡ true
   unfolding inserted-row
   labels-said =
       let k = st .book in
       let many = own .as-many in
-      labels-kept (k .s) (k .r) 1 (position y st) (count st) k (sane own) refl refl (omega (arith, position-said))
-      (rw many (labels-first (k .s) (k .r) (length ks) (count st) (height k) (a .labels))) (own .labels-fit)
+      labels-kept (height-fits st) (k .s) (k .r) 1 (position y st) (count st) k (sane own) refl refl (omega (arith, position-said))
+      (rw many (labels-first (height-fits st) (k .s) (k .r) (length ks) (count st) (height k) (a .labels))) (own .labels-fit)
 
   -- ONE TAG with its facts at the place
   module _ (t : Fact) where
@@ -130,7 +130,7 @@ pub record Edit-right (c y : ℕ) (ws : List ℕ) (st : Store) (e : Edited) : Ty
 
 -- A TEXT
 abbrev pub text-fact : Store → (place : ℕ) → Fact
-text-fact st y = record { kind = text; marked = false; mate = count st; up = up-at y st }
+text-fact st y = new-fact text false (count st) (up-at y st)
 
 module _ (ws : List ℕ) (st : Store) (says : Says ws st) (y : ℕ) (accepted : insert-refusal (length ws) 3 y st ≡ 0) where
   row-accepted : Row-accepted (length ws) (text ∷ []) y st
@@ -167,7 +167,7 @@ module _ (ws : List ℕ) (st : Store) (says : Says ws st) (y : ℕ) (accepted : 
 
 -- THE BEGIN OF AN ELEMENT, before its end goes in
 abbrev pub begin-fact : Store → (place : ℕ) → Fact
-begin-fact st y = record { kind = begin; marked = false; mate = suc (count st); up = up-at y st }
+begin-fact st y = new-fact begin false (suc (count st)) (up-at y st)
 
 module _ (ws : List ℕ) (st : Store) (says : Says ws st) (y : ℕ) (accepted : insert-refusal (length ws) 1 y st ≡ 0) where
   pub element-accepted : Row-accepted (length ws) (begin ∷ end ∷ []) y st

@@ -13,10 +13,10 @@ use Rattle.store_types.specs.Layout.{tag-words, label-at}
 use Rattle.shape.specs.Tables.{entry}
 use Rattle.tree.specs.Row.{insert-at}
 use Rattle.tree.specs.Forest.{size, labels}
-use Rattle.tree.specs.Book.{Book, height, tags, labels-of, power-width, inserted, split-of}
-use Rattle.tree.specs.Promise.{Sane}
+use Rattle.tree.specs.Book.{Book, height, tags, labels-of, inserted, split-of}
+use Rattle.tree.specs.Promise.{Widths, Sane}
 use Rattle.tree_laws.proofs.Rows.{length-insert, getD-before}
-use Rattle.tree_laws.proofs.Labels.{rising-from, power-widths}
+use Rattle.tree_laws.proofs.Labels.{rising-from}
 use Rattle.tree_laws.proofs.Flat.{Piece, Flat}
 use Rattle.tree_laws.proofs.Root.{whole, labels-whole, flat-whole, split-flat, labels-put-whole}
 use Rattle.tree_laws.proofs.Border.{Cut, cut-flat}
@@ -33,13 +33,10 @@ use Rattle.edit_model.proofs.Plans.{cut-low}
 use Rattle.edit_model.proofs.Single.{flat-labels, flat-with}
 use Rattle.edit_model.proofs.Renumbered.{Right, renumbered-words}
 
-module _ (m : Book) (fine : Sane m) (p : ℕ) (fits : suc p ≤ size (m .root)) (none : split-of (suc p) m ≡ 0) (low : m .under ≤ 22)
-    {v : Image} (h : Proper v) (few : suc (length (v .facts)) ≤ most-tags) (tags-are : v .tags ≡ tags m) (labels-are : v .labels ≡ labels-of (power-width (m .s) (m .r)) m)
-    (table : List ℕ) (wide : (i : ℕ) → i ≤ m .under → entry table i ≡ power-width (m .s) (m .r) i) (next-wide : entry table 1 ≡ power-width (m .s) (m .r) 1)
+module _ (m : Book) (fine : Sane m) (w : ℕ → ℕ) (widths : Widths (m .s) (m .r) w) (p : ℕ) (fits : suc p ≤ size (m .root)) (none : split-of (suc p) m ≡ 0) (low : m .under ≤ 22)
+    {v : Image} (h : Proper v) (few : suc (length (v .facts)) ≤ most-tags) (tags-are : v .tags ≡ tags m) (labels-are : v .labels ≡ labels-of w m)
+    (table : List ℕ) (wide : (i : ℕ) → i ≤ m .under → entry table i ≡ w i) (next-wide : entry table 1 ≡ w 1)
     (u : Fact) (rest : List ℕ) where
-  abbrev w : ℕ → ℕ
-  w = power-width (m .s) (m .r)
-
   abbrev x : ℕ
   x = length (v .facts)
 
@@ -82,9 +79,8 @@ module _ (m : Book) (fine : Sane m) (p : ℕ) (fits : suc p ≤ size (m .root)) 
   cuts : Cut 0 (q .bound) (w (height m)) (d .before ++ (d .old ++ d .beside)) (d .after)
   unfolding plain-plan
   cuts =
-      let powers = power-widths (m .s) (m .r) in
-      rw (numbers-are, next-wide, numbers-whole m powers fine table (suc p) fits wide low 1 (omega arith) (omega arith))
-      (rw unsplit at (cut-flat powers fine fits d (omega (arith, unsplit))))
+      rw (numbers-are, next-wide, numbers-whole m widths fine table (suc p) fits wide low 1 (omega arith) (omega arith))
+      (rw unsplit at (cut-flat widths fine fits d (omega (arith, unsplit))))
 
   -- THE PLAN IS RIGHT on the words with the tag
   old-one : length (insert-at (d .offset) (no-tag ∷ []) (d .old)) ≡ 1

@@ -13,7 +13,7 @@ use Rattle.shape.specs.Tables.{entry, widths-of, highs-of}
 use Rattle.tree.specs.Forest.{nil, size, labels}
 use Rattle.tree.specs.Book.{Book, height, root-full, inserted, split-of}
 use Rattle.tree.specs.Reach.{size-in}
-use Rattle.tree_laws.proofs.Labels.{rising-from, power-widths}
+use Rattle.tree_laws.proofs.Labels.{rising-from}
 use Rattle.tree_laws.proofs.Insertion.{rooted, root-at-limit, split-of-split, split-of-inside}
 use Rattle.tree_laws.proofs.Ancestors.{at-here, at-inside}
 use Rattle.tree_laws.proofs.Flat.{split-at-most}
@@ -23,6 +23,7 @@ use Rattle.tree_laws.proofs.Second.{unsplit-root}
 use Rattle.tree_laws.proofs.Both.{Pieces, pieces-root, pieces-cut}
 use Rattle.calls.specs.Store.{Store, count, width}
 use Rattle.calls.specs.Words.{Says}
+use Rattle.calls_laws.proofs.Widths.{store-widths}
 use Rattle.calls_laws.proofs.Tests.{sane}
 use Rattle.edit_model.specs.Split.{left-of}
 use Rattle.edit_model.specs.Insert.{Plan, numbers-at, plain-plan, root-plan, split-plan, plan, plan-of}
@@ -130,7 +131,7 @@ module _ (ws : List ℕ) (st : Store) (says : Says ws st) (p : ℕ) (fits : p �
       (d .before ++ (labels (d .under) (width st) h (d .number) ++ d .beside)) (d .after)
   bound-cuts-two low =
       rw (number-right ws st says p fits (suc (suc h)) (omega arith) (omega arith), widths-right ws st says (suc (suc h)) (omega arith))
-      (pieces-cut (power-widths (st .book .s) (st .book .r)) (sane (sound-said ws st says)) (size-said ws st says p fits) d (omega arith))
+      (pieces-cut (store-widths st) (sane (sound-said ws st says)) (size-said ws st says p fits) d (omega arith))
 
   -- THE PLAN OF TWO TAGS, where its height is that of a node
   pub planned-two : Planned-split st p h ns d (plan-of ws 2 (place-tag st p))
@@ -143,7 +144,7 @@ module _ (ws : List ℕ) (st : Store) (says : Says ws st) (p : ℕ) (fits : p �
       rw (plan-said ws st says p fits 2, limit)
       (by-root ws st says p fits h top
       (λ full at-top.
-      let none = pieces-root (power-widths (k .s) (k .r)) (sane e) inside d at-top in
+      let none = pieces-root (store-widths st) (sane e) inside d at-top in
       rw (eq-eqb _ _ full) (record {
         height-is = rw at-top;
         left-is = rw (none .1);

@@ -18,7 +18,7 @@ use Rattle.tree.specs.Book.{height, labels-of, root-full, split-of}
 use Rattle.tree.specs.Reach.{left-in, size-in}
 use Rattle.tree_laws.proofs.Rows.{member-getD}
 use Rattle.tree_laws.proofs.Spread.{some-power}
-use Rattle.tree_laws.proofs.Labels.{length-labels, rising-from, rising-below, power-widths}
+use Rattle.tree_laws.proofs.Labels.{length-labels, rising-from, rising-below}
 use Rattle.tree_laws.proofs.Insertion.{rooted, root-at-limit, split-of-split, split-of-inside}
 use Rattle.tree_laws.proofs.Ancestors.{number-in, at-here, at-inside}
 use Rattle.tree_laws.proofs.Flat.{Piece, Flat, split-at-most}
@@ -26,9 +26,10 @@ use Rattle.tree_laws.proofs.Root.{whole, labels-whole, split-flat}
 use Rattle.tree_laws.proofs.Border.{Cut, cut-flat}
 use Rattle.calls.specs.Store.{Store, count, row, width}
 use Rattle.calls.specs.Words.{Says}
+use Rattle.calls_laws.proofs.Widths.{store-widths}
 use Rattle.calls_laws.proofs.Tests.{Sound, sane, facts-of}
 use Rattle.calls_laws.proofs.Sections.{row-below}
-use Rattle.calls_laws.proofs.WordSteps.{header-said}
+use Rattle.calls_laws.proofs.WordSteps.{header-said, width-said}
 use Rattle.walk_model.specs.Walk.{shape-of}
 use Rattle.walk_model.specs.Watch.{ancestor-numbers, watched-label, sizes-at}
 use Rattle.walk_model.specs.Promise.{Tables-right}
@@ -107,7 +108,7 @@ module _ (ws : List ℕ) (st : Store) (says : Says ws st) where
 
   -- THE TABLES are right
   tables-said : Tables-right (st .book .s) (st .book .r) (width st) (height (st .book)) (shape-of ws .tables)
-  tables-said = tables-right (header-facts-said ws st says)
+  tables-said = rw (width-said ws st says) at (tables-right (header-facts-said ws st says))
 
   low-enough : st .book .under ≤ 22
   low-enough = omega (arith, tables-said .top-fits)
@@ -187,7 +188,7 @@ module _ (ws : List ℕ) (st : Store) (says : Says ws st) where
     -- the numbers, and the bound of a height
     pub number-right : (h : ℕ) → 1 ≤ h → h ≤ height (st .book) → entry (numbers-before ws st p) h ≡ number-in (whole (st .book)) (width st) (height (st .book)) h p 0
     number-right =
-        numbers-whole (st .book) (power-widths (st .book .s) (st .book .r)) (sane sound-said) (widths-of ws) p size-said (λ h l. widths-right h (omega arith)) low-enough
+        numbers-whole (st .book) (store-widths st) (sane sound-said) (widths-of ws) p size-said (λ h l. widths-right h (omega arith)) low-enough
 
     -- the tag left of the ancestor of a height below the root
     pub left-said : (h : ℕ) → 1 ≤ h → h ≤ st .book .under →
@@ -197,7 +198,7 @@ module _ (ws : List ℕ) (st : Store) (says : Says ws st) where
         let k = st .book in
         let inside = at-inside (k .root) nil (width st) (height k) h p 0 size-said (λ i. omega arith) in
         rw (number-right h least (omega arith), inside .0, inside .1, image-said .1)
-        (left-ancestor (sound-said .degrees .s-least) (sound-said .degrees .r-least) (power-widths (k .s) (k .r)) (proper-image sound-said) (omega (arith, sound-said .few)) (image-said .0) (k .root) (k .under) p h
+        (left-ancestor (sound-said .degrees .s-least) (sound-said .degrees .r-least) (store-widths st) (proper-image sound-said) (omega (arith, sound-said .few)) (image-said .0) (k .root) (k .under) p h
         (rooted k (sane sound-said) .good) size-said (omega (arith, some-said (omega arith), sound-said .as-many)) refl refl least most)
 
     -- its size, and the height that is found by the sizes
@@ -213,7 +214,7 @@ module _ (ws : List ℕ) (st : Store) (says : Says ws st) where
         Cut 0 (entry (numbers-before ws st p) (suc (d .height)) + entry (widths-of ws) (suc (d .height))) (width st (height (st .book))) (d .before ++ (d .old ++ d .beside)) (d .after)
     bound-cuts x d low =
         rw (number-right (suc (d .height)) (omega arith) (omega arith), widths-right (suc (d .height)) (omega arith))
-        (cut-flat (power-widths (st .book .s) (st .book .r)) (sane sound-said) size-said d (omega arith))
+        (cut-flat (store-widths st) (sane sound-said) size-said d (omega arith))
 
     module _ (x : ℕ) (d : Flat-in st p x) where
       split-is : split-of p (st .book) ≡ d .height

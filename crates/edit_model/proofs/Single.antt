@@ -1,6 +1,6 @@
 -- One tag goes in by its plan: the words afterwards, how many tags moved, and the split height. Assumes nothing.
 use mathlib.Core.Path.{_≡_, refl, ap, sym, _∙_}
-use mathlib.Core.Bool.{cond}
+use mathlib.Core.Bool.{true, cond}
 use mathlib.Core.List.{List, [], _∷_, _++_, map}
 use Prim.Native.Nat.{ℕ, zero, suc, _+_, _-_, _≤_, _<_}
 use native.Mathlib.Nat.{mul-le-mul}
@@ -9,7 +9,7 @@ use borrow.Author.Tests.{eq-eqb, ne-eqb}
 use lib.Dec.{eqb}
 use lib.ListN.{length, getD, take, drop, length-append, length-map}
 use lib.Seq.{drop-cons, drop-append-add}
-use Rattle.store_types.specs.Limits.{no-tag, label-limit, most-tags}
+use Rattle.store_types.specs.Limits.{no-tag, most-tags}
 use Rattle.store_types.specs.Layout.{header-words, tag-words, words-for}
 use Rattle.lists.proofs.Tests.{by-test}
 use Rattle.words.proofs.Fields.{words-next}
@@ -20,12 +20,13 @@ use Rattle.tree.specs.Book.{Book, height, labels-of, root-full, inserted, split
 use Rattle.tree.specs.Promise.{Widths}
 use Rattle.tree_laws.proofs.Rows.{length-insert, insert-left, insert-right, getD-before}
 use Rattle.tree_laws.proofs.Insertion.{split-length, rooted, split-of-split, split-of-inside, inserted-under, tags-inserted, size-inserted, sane-inserted, inserted-s, inserted-r}
-use Rattle.tree_laws.proofs.Labels.{length-labels, width-least, power-widths}
+use Rattle.tree_laws.proofs.Labels.{length-labels, width-least}
 use Rattle.tree_laws.proofs.Flat.{Piece, Flat, split-at-most}
 use Rattle.tree_laws.proofs.Root.{labels-whole, split-flat, labels-put-whole, flat-whole}
 use Rattle.calls.specs.Kind.{kind-word}
-use Rattle.calls.specs.Store.{Store, Fact, count, row, width}
+use Rattle.calls.specs.Store.{Store, Fact, count, row, width, height-fits}
 use Rattle.calls.specs.Words.{words-of, Says}
+use Rattle.calls_laws.proofs.Widths.{store-widths}
 use Rattle.calls_laws.proofs.Tests.{Sound, sane}
 use Rattle.calls_laws.proofs.Sections.{distinct-row}
 use Rattle.edit_model.specs.Image.{Image, image-header, image-words, image-of, with-labels}
@@ -113,7 +114,7 @@ abbrev pub put-one : (ws : List ℕ) → Store → (p : ℕ) → Fact → Edited
 put-one ws st p t = put-words (added-at ws st p t) (widths-of ws) (st .book .r) (suc (count st)) 1 (plan-at ws st p)
 
 module _ (ws : List ℕ) (st : Store) (says : Says ws st) (p : ℕ) (fits : p ≤ count st) (t : Fact) (few : suc (count st) ≤ most-tags)
-    (room : words-for header-words (suc (count st)) ≤ length ws) (labels-fit : width st (height (book-with p st)) ≤ label-limit) where
+    (room : words-for header-words (suc (count st)) ≤ length ws) (labels-fit : height-fits st (height (book-with p st)) ≡ true) where
   own : Sound st
   own = sound-said ws st says
 
@@ -167,7 +168,7 @@ module _ (ws : List ℕ) (st : Store) (says : Says ws st) (p : ℕ) (fits : p �
   -- all of them are below the number that stands for no tag
   label-below : (i : ℕ) → i < length (labels-with p st) → getD (labels-with p st) i 0 < no-tag
   label-below =
-      labels-below (st .book .s) (st .book .r) (book-with p st) (own .degrees) (sane-inserted p (count st) (st .book) (sane own) in-book)
+      labels-below own (book-with p st) (sane-inserted p (count st) (st .book) (sane own) in-book)
       (inserted-s p (count st) (st .book)) (inserted-r p (count st) (st .book)) labels-fit
 
   -- THE PLAN IS RIGHT on the words with the new tag
@@ -221,7 +222,7 @@ module _ (ws : List ℕ) (st : Store) (says : Says ws st) (p : ℕ) (fits : p �
       rw (← counted-tags)
       (renumbered-moved proper-added few-tags (widths-of ws) (width st) (st .book .r) (plan-at ws st p)
       (d .before) old-with-new (d .new) (d .beside) (d .after) (d .shift) right (labels-with p st) labels-now label-below
-      (flat-moves d (own .degrees .s-least) (own .degrees .r-least) (power-widths (st .book .s) (st .book .r))) rest)
+      (flat-moves d (own .degrees .s-least) (own .degrees .r-least) (store-widths st)) rest)
 
   -- THE HEIGHT afterwards
   height-after : cond (eqb (plan-at ws st p .height) (height (st .book))) (suc (height (st .book))) (height (st .book)) ≡ height (book-with p st)

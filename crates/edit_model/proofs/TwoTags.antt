@@ -1,13 +1,13 @@
 -- Two tags on an image and in a book, the second right behind the first. Assumes nothing.
 use mathlib.Core.Path.{_≡_, refl, sym, _∙_}
-use mathlib.Core.Bool.{false, false≢true}
+use mathlib.Core.Bool.{true, false, false≢true}
 use mathlib.Core.List.{List, [], _∷_, _++_}
 use Prim.Native.Nat.{ℕ, suc, _+_, _≤_, _<_}
 use native.Mathlib.Omega.{arith}
 use borrow.Author.Tests.{ne-eqb}
 use lib.ListN.{length, getD, drop, length-drop}
 use lib.Seq.{drop-drop}
-use Rattle.store_types.specs.Limits.{no-tag, label-limit, most-tags}
+use Rattle.store_types.specs.Limits.{no-tag, most-tags}
 use Rattle.store_types.specs.Layout.{tag-words}
 use Rattle.lists.proofs.Tests.{fails}
 use Rattle.tree.specs.Row.{member, insert-at}
@@ -17,7 +17,7 @@ use Rattle.tree.specs.Promise.{Sane}
 use Rattle.tree_laws.proofs.Rows.{Distinct, Apart, member-nil, member-other, member-cases, member-insert, length-insert, insert-two, getD-before}
 use Rattle.tree_laws.proofs.Insertion.{tags-inserted, size-inserted, sane-inserted, inserted-s, inserted-r}
 use Rattle.calls.specs.Kind.{kind-word}
-use Rattle.calls.specs.Store.{Store, Fact, count, row, width}
+use Rattle.calls.specs.Store.{Store, Fact, count, row, width, height-fits}
 use Rattle.calls_laws.proofs.Tests.{Sound, sane}
 use Rattle.calls_laws.proofs.Sections.{row-below}
 use Rattle.edit_model.specs.Image.{Image, image-words, image-of, with-labels}
@@ -125,9 +125,9 @@ module _ {st : Store} (own : Sound st) (p : ℕ) (fits : p ≤ count st) where
       ∙ rw (tags-inserted p (count st) (st .book) (sane own) in-book) (insert-two p (count st) (suc (count st)) (row st) in-book)
 
   -- its labels are none that stands for no tag
-  pub label-below : width st (height (book-with-two p st)) ≤ label-limit → (i : ℕ) → i < length (labels-of (width st) (book-with-two p st)) →
+  pub label-below : height-fits st (height (book-with-two p st)) ≡ true → (i : ℕ) → i < length (labels-of (width st) (book-with-two p st)) →
       getD (labels-of (width st) (book-with-two p st)) i 0 < no-tag
-  label-below = labels-below (st .book .s) (st .book .r) (book-with-two p st) (own .degrees) sane-second same-s same-r
+  label-below = labels-below own (book-with-two p st) sane-second same-s same-r
 
   -- the new numbers are none of its tags
   pub not-tag : (x : ℕ) → count st ≤ x → member x (row st) ≡ false

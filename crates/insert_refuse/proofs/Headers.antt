@@ -1,19 +1,19 @@
 -- The header of words that say a store: each number in its range, and tables of its powers fit. Assumes nothing.
 use mathlib.Core.Path.{_≡_}
+use mathlib.Core.Bool.{true}
 use mathlib.Core.List.{List}
 use Prim.Native.Nat.{ℕ, pred, _*_, _-_, _^_, _≤_, _<_}
-use native.Mathlib.Nat.{mul-le-mul}
 use native.Mathlib.Omega.{arith}
 use lib.ListN.{length}
-use Rattle.store_types.specs.Limits.{label-limit}
+use Rattle.store_types.specs.Limits.{most-levels}
 use Rattle.lists.proofs.Tests.{and-left}
 use Rattle.store_types.specs.Layout.{at-s, at-r, at-height, at-count, header-words, word-at, words-for}
 use Rattle.shape.proofs.TableLaws.{table-at}
 use Rattle.shape.specs.Tables.{entry, table}
 use Rattle.words.proofs.Fields.{header-fits}
-use Rattle.shape.proofs.Fits.{Fits, height-range}
-use Rattle.tree.specs.Book.{base, power-width}
-use Rattle.calls.specs.Words.{Says}
+use Rattle.shape.proofs.Fits.{Fits, degrees-product}
+use Rattle.calls.specs.Store.{power-fits}
+use Rattle.calls.specs.Words.{Says, header-width}
 use Rattle.calls.specs.Replies.{said}
 use Rattle.calls_laws.proofs.Tests.{Degrees}
 use Rattle.walk_model.specs.Walk.{header-passes, walk, shape-of, start, words-pass}
@@ -26,8 +26,8 @@ pub record Ranges (s r h n : ℕ) : Type 0 where
   pub degrees : Degrees s r
   pub product : (4 ≤ s * r) × (s * r ≤ 256)
   pub low : 1 ≤ h
-  pub high : h ≤ 20
-  pub power : (s * r - 1) ^ h ≤ label-limit
+  pub high : h ≤ most-levels
+  pub labels : power-fits s r h ≡ true
   pub few : n ≤ 200000
   pub below : n < s * r ^ h
 
@@ -38,16 +38,15 @@ module _ (ws : List ℕ) (h : Says ws (said ws)) where
       header-facts ws (and-left (header-passes ws) (walk ws (shape-of ws) (word-at ws at-count) 0 (start ws)) (walk-right ws .1 (said ws, h)))
 
   pub ranges : Ranges (word-at ws at-s) (word-at ws at-r) (word-at ws at-height) (word-at ws at-count)
-  unfolding power-width base
+  unfolding header-width
   ranges =
       let f = header-of in
-      let fits = rw (← f .levels) at (f .labels-fit) in
       record {
         degrees = f .degrees;
-        product = (mul-le-mul (f .degrees .s-least) (f .degrees .r-least), mul-le-mul (f .degrees .s-most) (f .degrees .r-most));
+        product = degrees-product (f .degrees .s-least) (f .degrees .s-most) (f .degrees .r-least) (f .degrees .r-most);
         low = omega (arith, f .levels);
-        high = height-range _ (word-at ws at-height) (omega (arith, mul-le-mul (f .degrees .s-least) (f .degrees .r-least))) fits;
-        power = fits;
+        high = rw (f .levels) (f .high);
+        labels = rw (← f .levels) at (f .labels-fit);
         few = f .few;
         below = rw (f .levels) (f .below);
       }
@@ -61,7 +60,7 @@ module _ (ws : List ℕ) (h : Says ws (said ws)) where
 -- TABLES of its powers
 pub fits-of : {s r h n : ℕ} → Ranges s r h n → Fits s r h
 fits-of f =
-    record { s-least = f .degrees .s-least; s-most = f .degrees .s-most; r-least = f .degrees .r-least; r-most = f .degrees .r-most; power = f .power }
+    record { s-least = f .degrees .s-least; s-most = f .degrees .s-most; r-least = f .degrees .r-least; r-most = f .degrees .r-most; high = f .high; labels = f .labels }
 
 -- what stands in them
 pub power-at : (v b top : ℕ) {t : List ℕ} → t ≡ table v b top → (k : ℕ) → k ≤ top → entry t k ≡ v * b ^ k

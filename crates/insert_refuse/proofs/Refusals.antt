@@ -4,20 +4,18 @@ use mathlib.Core.Bool.{Bool, true, false, cond, and-false}
 use mathlib.Core.List.{List}
 use Prim.Native.Nat.{ℕ, suc, _+_, _*_, _-_, _^_, _≤_, _<_}
 use native.Mathlib.Numerals.{add-one}
-use borrow.Author.Tests.{ne-eqb, lt-ltb, le-ltb, le-leb, lt-leb, leb-true, leb-false}
-use lib.Dec.{leb, eqb}
+use borrow.Author.Tests.{ne-eqb, lt-ltb, le-ltb, le-leb, lt-leb}
+use lib.Dec.{eqb}
 use lib.ListN.{length}
-use Rattle.store_types.specs.Limits.{no-tag, most-tags, label-limit}
+use Rattle.store_types.specs.Limits.{no-tag, most-tags}
 use Rattle.lists.specs.Lists.{all-hold, first}
 use Rattle.lists.proofs.First.{refused-before, refused-behind}
 use Rattle.store_types.specs.Layout.{at-s, at-r, at-height, at-count, header-words, at-kind, tag-words, word-at, words-for, field}
-use Rattle.tree.specs.Book.{base, power-width}
-use Rattle.calls.specs.Store.{Store}
+use Rattle.calls.specs.Store.{Store, labels-fit, power-fits}
 use Rattle.calls.specs.Insert.{insert-kinds, labels-end, place-tests, room-tests, insert-refusal}
-use Rattle.calls.specs.Words.{Says}
+use Rattle.calls.specs.Words.{Says, header-width}
 use Rattle.calls.specs.Replies.{said, insert-refused, refusal-over}
-use Rattle.calls_laws.proofs.WordSteps.{header-said, refusal-said}
-use Rattle.shape.specs.Needs.{power-fits}
+use Rattle.calls_laws.proofs.WordSteps.{header-said, width-said, refusal-said}
 use Rattle.store_refuse.specs.Needs.{Tag-said}
 use Rattle.store_refuse.proofs.Laws.{refused-first, accepted-says, kind-of-tag}
 use Rattle.insert_refuse.specs.Parts.{call-room, place-refusal, room-refusal, tags-refusal}
@@ -58,36 +56,29 @@ module _ (ws : List ℕ) (h : Says ws (said ws)) (k : ℕ) where
     room-short m = rw (← header-said ws (said ws) h .issued, le-ltb most-tags (word-at ws at-count + k) few, lt-ltb (length ws) (header-words + tag-words * (word-at ws at-count + k)) m)
 
     module _ (long : header-words + tag-words * (word-at ws at-count + k) ≤ length ws) where
-      by-labels : (t : Bool) → labels-end (word-at ws at-s) (word-at ws at-r) k (word-at ws at-count) (word-at ws at-height) ≡ t → cond t 7 0 ≡ room-refusal (length ws) k (said ws)
+      by-labels : (t : Bool) → labels-end (labels-fit (header-width ws)) (word-at ws at-s) (word-at ws at-r) k (word-at ws at-count) (word-at ws at-height) ≡ t → cond t 7 0 ≡ room-refusal (length ws) k (said ws)
       unfolding room-refusal room-tests first words-for
       by-labels t e =
           let f = header-said ws (said ws) h in
-          rw (← f .issued, le-ltb most-tags (word-at ws at-count + k) few, le-ltb (length ws) (header-words + tag-words * (word-at ws at-count + k)) long, ← f .degree-s, ← f .degree-r, ← f .levels, e)
+          rw (← f .issued, le-ltb most-tags (word-at ws at-count + k) few, le-ltb (length ws) (header-words + tag-words * (word-at ws at-count + k)) long, ← width-said ws (said ws) h, ← f .degree-s, ← f .degree-r, ← f .levels, e)
 
       pub room-below : word-at ws at-count + k < word-at ws at-s * word-at ws at-r ^ word-at ws at-height → 0 ≡ room-refusal (length ws) k (said ws)
       unfolding labels-end
       room-below m = by-labels false (rw (lt-leb (word-at ws at-s * word-at ws at-r ^ word-at ws at-height) (word-at ws at-count + k) m))
 
-      -- where n + k comes to the limit, t says whether the next power fits
-      module _ {t : Bool} (e : t ≡ power-fits (word-at ws at-s * word-at ws at-r - 1) (word-at ws at-height + 1)) where
-        power-next : t ≡ leb (power-width (word-at ws at-s) (word-at ws at-r) (suc (word-at ws at-height))) label-limit
-        unfolding power-fits power-width base
-        power-next = e ∙ rw add-one
+      -- where n + k comes to the limit, t says whether labels of a tree one higher fit
+      module _ {t : Bool} (e : t ≡ power-fits (word-at ws at-s) (word-at ws at-r) (word-at ws at-height + 1)) where
+        next-fits : labels-fit (header-width ws) (suc (word-at ws at-height)) ≡ t
+        unfolding header-width
+        next-fits = sym (e ∙ rw add-one)
 
         pub room-fits : t ≡ true → 0 ≡ room-refusal (length ws) k (said ws)
         unfolding labels-end
-        room-fits p =
-            by-labels false
-            (simp (le-ltb label-limit (power-width (word-at ws at-s) (word-at ws at-r) (suc (word-at ws at-height))) (leb-true _ _ (sym power-next ∙ p)), and-false))
+        room-fits p = by-labels false (simp (next-fits ∙ p, and-false))
 
         pub room-none : t ≡ false → word-at ws at-s * word-at ws at-r ^ word-at ws at-height ≤ word-at ws at-count + k → 7 ≡ room-refusal (length ws) k (said ws)
         unfolding labels-end
-        room-none p m =
-            by-labels true
-            (rw (
-              le-leb (word-at ws at-s * word-at ws at-r ^ word-at ws at-height) (word-at ws at-count + k) m,
-              lt-ltb label-limit (power-width (word-at ws at-s) (word-at ws at-r) (suc (word-at ws at-height))) (leb-false _ _ (sym power-next ∙ p)),
-            ))
+        room-none p m = by-labels true (rw (le-leb (word-at ws at-s * word-at ws at-r ^ word-at ws at-height) (word-at ws at-count + k) m, next-fits ∙ p))
 
 -- BOTH, in this order
 module _ (w k y : ℕ) (st : Store) {p : ℕ} (e : p ≡ place-refusal y st) where

@@ -4,12 +4,12 @@ use mathlib.Core.List.{List, _++_}
 use Prim.Native.Nat.{ℕ}
 use Rattle.lists.specs.Lists.{first}
 use Rattle.tree.specs.Book.{height}
-use Rattle.calls.specs.Store.{Store, count}
+use Rattle.calls.specs.Store.{Store, count, height-fits}
 use Rattle.calls.specs.Insert.{labels-end, place-tests, room-tests}
 
 -- the tests of the call's room
 abbrev pub call-room : (w k : ℕ) → Store → List (Bool × ℕ)
-call-room w k st = room-tests w k (labels-end (st .book .s) (st .book .r) k (count st) (height (st .book))) st
+call-room w k st = room-tests w k (labels-end (height-fits st) (st .book .s) (st .book .r) k (count st) (height (st .book))) st
 
 -- THE REFUSALS of k tags in two parts: 8 and 9 of its place, 6 and 7 of its room; 0 where there is none
 unfoldable pub place-refusal : (place : ℕ) → Store → ℕ

@@ -37,14 +37,14 @@ fn room_refused(k: u32, words: &[u32]) -> u32
     if words.len() < words::HEADER_WORDS + words::TAG_WORDS * (all as usize) {
         return 6;
     }
-    let s = words[words::AT_S] as u64;
-    let r = words[words::AT_R] as u64;
+    let s = words[words::AT_S];
+    let r = words[words::AT_R];
     let h = words[words::AT_HEIGHT];
-    let highs = shape::table(s, r, h as usize);
+    let highs = shape::table(s as u64, r as u64, h as usize);
     if (all as u64) < highs[h as usize] {
         return 0;
     }
-    if shape::power_fits(s * r - 1, h + 1) {
+    if shape::height_fits(s, r, h + 1) {
         return 0;
     }
     7

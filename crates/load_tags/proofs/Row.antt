@@ -31,15 +31,15 @@ record New (t : Fact) (k : Kind) : Type 0 where
   kind : t .kind ≡ k
   unmarked : t .marked ≡ false
 
-new-fact : (u : ℕ) (os : List ℕ) (x : ℕ) (ks : List Kind) (i : ℕ) → i < length ks → New (fact-in (new-facts u os x ks) i) (getD ks i text)
+new-unmarked : (u : ℕ) (os : List ℕ) (x : ℕ) (ks : List Kind) (i : ℕ) → i < length ks → New (fact-in (new-facts u os x ks) i) (getD ks i text)
 unfolding new-facts
-new-fact u os x [] i l = absurd (not-suc-le-zero l)
-new-fact u os x (begin ∷ ks) zero l = record { kind = refl; unmarked = refl }
-new-fact u os x (begin ∷ ks) (suc i) l = new-fact x (u ∷ os) (suc x) ks i (le-of-suc-le-suc l)
-new-fact u os x (end ∷ ks) zero l = record { kind = refl; unmarked = refl }
-new-fact u os x (end ∷ ks) (suc i) l = new-fact _ _ (suc x) ks i (le-of-suc-le-suc l)
-new-fact u os x (text ∷ ks) zero l = record { kind = refl; unmarked = refl }
-new-fact u os x (text ∷ ks) (suc i) l = new-fact u os (suc x) ks i (le-of-suc-le-suc l)
+new-unmarked u os x [] i l = absurd (not-suc-le-zero l)
+new-unmarked u os x (begin ∷ ks) zero l = record { kind = refl; unmarked = refl }
+new-unmarked u os x (begin ∷ ks) (suc i) l = new-unmarked x (u ∷ os) (suc x) ks i (le-of-suc-le-suc l)
+new-unmarked u os x (end ∷ ks) zero l = record { kind = refl; unmarked = refl }
+new-unmarked u os x (end ∷ ks) (suc i) l = new-unmarked _ _ (suc x) ks i (le-of-suc-le-suc l)
+new-unmarked u os x (text ∷ ks) zero l = record { kind = refl; unmarked = refl }
+new-unmarked u os x (text ∷ ks) (suc i) l = new-unmarked u os (suc x) ks i (le-of-suc-le-suc l)
 
 kind-at : (cs : List ℕ) (i : ℕ) → all-kinds cs ≡ true → i < length cs → is-kind (getD cs i 0) ≡ true
 unfolding all-kinds
@@ -83,7 +83,7 @@ module _ (cs ls before : List ℕ) (h : Tags-fit before cs) where
 
     fact-is : New (fact-in (facts-new cs) x) (kind-of (getD cs x 0))
     fact-is =
-        rw (getD-map kind-of cs x 0 text own) at (new-fact no-tag [] 0 (map kind-of cs) x (rw (length-map cs kind-of) own))
+        rw (getD-map kind-of cs x 0 text own) at (new-unmarked no-tag [] 0 (map kind-of cs) x (rw (length-map cs kind-of) own))
 
     number : getD cs x 0 ≡ code (fact-in (facts-new cs) x .kind)
     number = rw (fact-is .kind) (sym (code-is (getD cs x 0) (kind-at cs x (h .kinds) own)))

@@ -9,10 +9,13 @@ use native.Mathlib.Omega.{arith}
 use borrow.Author.Tests.{eq-eqb, ne-eqb, lt-ltb, le-ltb, le-leb, lt-leb, leb-true, not-true, not-false}
 use lib.Dec.{leb, eqb}
 use lib.ListN.{length, getD}
-use Rattle.store_types.specs.Limits.{label-limit, most-tags}
+use Rattle.store_types.specs.Limits.{label-limit, most-tags, most-levels}
 use Rattle.store_types.specs.Layout.{at-version, at-s, at-r, at-height, at-count, header-words, tag-words, word-at, words-for}
+use Rattle.tree.specs.Book.{base, power-width}
+use Rattle.calls.specs.Store.{labels-fit, power-fits}
 use Rattle.calls.specs.Sound.{degrees-fit}
-use Rattle.shape.specs.Needs.{power-fits, root-passes, degree-fits, frame-passes}
+use Rattle.calls.specs.Words.{header-width}
+use Rattle.shape.specs.Needs.{root-passes, degree-fits, frame-passes}
 
 -- A POWER: p is b^i
 pub power-more : (b p i : ℕ) → p ≡ b ^ i → p * b ≡ b ^ (i + 1)
@@ -21,14 +24,16 @@ power-more b p i e = rw (e, add-one, pow-suc)
 pub product-fits : (b p : ℕ) → b ≤ 255 → p ≤ 4294967296 → p * b ≤ 1095216660480
 product-fits b p h q = mul-le-mul q h
 
-pub power-over : (b p i h : ℕ) → p ≡ b ^ i → 3 ≤ b → i < h → 4294967296 < p * b → false ≡ power-fits b h
-unfolding power-fits
-power-over b p i h e low q over =
-    rw (lt-leb (b ^ h) label-limit (omega (arith, power-more b p i e, pow-le-pow-right {n = b} (omega arith) {i = i + 1} {j = h} (omega arith))))
+module _ (s r p i h : ℕ) (e : p ≡ (s * r - 1) ^ i) where
+  pub power-over : 4 ≤ s * r → i < h → 4294967296 < p * (s * r - 1) → false ≡ power-fits s r h
+  unfolding labels-fit power-width base
+  power-over low q over =
+      let b = s * r - 1 in
+      rw (lt-leb (b ^ h) label-limit (omega (arith, power-more b p i e, pow-le-pow-right {n = b} (omega arith) {i = i + 1} {j = h} (omega arith))))
 
-pub power-within : (b p i h : ℕ) → p ≡ b ^ i → p ≤ 4294967296 → i ≡ h → true ≡ power-fits b h
-unfolding power-fits
-power-within b p i h e q s = rw (← s, ← e, le-leb p label-limit q)
+  pub power-within : p ≤ 4294967296 → i ≡ h → true ≡ power-fits s r h
+  unfolding labels-fit power-width base
+  power-within q t = rw (← t, ← e, le-leb p label-limit q)
 
 -- THE ROOT'S LIMITS
 module _ (n h : ℕ) (lo hi : List ℕ) where
@@ -59,11 +64,7 @@ module _ (d : ℕ) where
   degree-range e p =
       let both = simp and-eq-true-iff at (sym e ∙ not-false _ p) in (leb-true 2 d (both .0), leb-true d 16 (both .1))
 
--- f is 4 to 256
-pub degrees-product : {s r : ℕ} → 2 ≤ s → s ≤ 16 → 2 ≤ r → r ≤ 16 → (4 ≤ s * r) × (s * r ≤ 256)
-degrees-product a b c d = (mul-le-mul a c, mul-le-mul b d)
-
--- THE FRAME: each test refuses by itself, and where none does the power decides
+-- THE FRAME: each test refuses by itself, and where none does the labels decide
 module _ (ws : List ℕ) where
   pub frame-short : length ws < 8 → false ≡ frame-passes ws
   unfolding frame-passes
@@ -85,6 +86,10 @@ module _ (ws : List ℕ) where
   unfolding frame-passes
   frame-height p = simp (lt-leb 1 (word-at ws at-height) p, and-false)
 
+  pub frame-levels : most-levels < word-at ws at-height → false ≡ frame-passes ws
+  unfolding frame-passes
+  frame-levels p = simp (lt-leb (word-at ws at-height) most-levels p, and-false)
+
   pub frame-count : most-tags < word-at ws at-count → false ≡ frame-passes ws
   unfolding frame-passes
   frame-count p = simp (lt-leb (word-at ws at-count) most-tags p, and-false)
@@ -93,7 +98,7 @@ module _ (ws : List ℕ) where
   unfolding frame-passes words-for
   frame-words p = simp (lt-leb (header-words + tag-words * word-at ws at-count) (length ws) p, and-false)
 
-  pub frame-power : {t p q : Bool} → header-words ≤ length ws → word-at ws at-version ≡ 1 → p ≡ degree-fits (word-at ws at-s) → not p ≡ false → q ≡ degree-fits (word-at ws at-r) → not q ≡ false → 1 ≤ word-at ws at-height → word-at ws at-count ≤ most-tags → header-words + tag-words * word-at ws at-count ≤ length ws → t ≡ power-fits (word-at ws at-s * word-at ws at-r - 1) (word-at ws at-height) → t ≡ frame-passes ws
-  unfolding frame-passes degrees-fit degree-fits words-for
-  frame-power a b c d e f g h i j =
-      rw (le-leb header-words (length ws) a, eq-eqb (word-at ws at-version) 1 b, sym c ∙ not-false _ d, sym e ∙ not-false _ f, le-leb 1 (word-at ws at-height) g, le-leb (word-at ws at-count) most-tags h, le-leb (header-words + tag-words * word-at ws at-count) (length ws) i, ← j)
+  pub frame-labels : {t p q : Bool} → header-words ≤ length ws → word-at ws at-version ≡ 1 → p ≡ degree-fits (word-at ws at-s) → not p ≡ false → q ≡ degree-fits (word-at ws at-r) → not q ≡ false → 1 ≤ word-at ws at-height → word-at ws at-height ≤ most-levels → word-at ws at-count ≤ most-tags → header-words + tag-words * word-at ws at-count ≤ length ws → t ≡ power-fits (word-at ws at-s) (word-at ws at-r) (word-at ws at-height) → t ≡ frame-passes ws
+  unfolding frame-passes header-width degrees-fit degree-fits words-for
+  frame-labels a b c d e f g g′ h i j =
+      rw (le-leb header-words (length ws) a, eq-eqb (word-at ws at-version) 1 b, sym c ∙ not-false _ d, sym e ∙ not-false _ f, le-leb 1 (word-at ws at-height) g, le-leb (word-at ws at-height) most-levels g′, le-leb (word-at ws at-count) most-tags h, le-leb (header-words + tag-words * word-at ws at-count) (length ws) i, ← j)

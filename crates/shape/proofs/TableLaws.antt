@@ -9,7 +9,7 @@ use native.Mathlib.Decide.{decLe}
 use native.Mathlib.Omega.{arith}
 use lib.ListN.{length, getD, set, replicate, length-append, length-replicate, List·getD-append}
 use lib.Seq.{set-at, getD-append-add}
-use Rattle.shape.specs.Tables.{powers, table}
+use Rattle.shape.specs.Tables.{table-length, powers, table}
 
 length-powers : (v b n : ℕ) → length (powers v b n) ≡ n
 unfolding powers
@@ -22,7 +22,7 @@ powers-more v b zero = rw (pow-zero, mul-one)
 powers-more v b (suc n) = rw (powers-more (v * b) b n, mul-assoc, pow-succ')
 
 -- the table up to a height: the powers below it, its own, and noughts
-table-split : (v b top : ℕ) → table v b top ≡ powers v b top ++ (v * b ^ top ∷ replicate (23 - top) 0)
+table-split : (v b top : ℕ) → table v b top ≡ powers v b top ++ (v * b ^ top ∷ replicate (table-length - suc top) 0)
 unfolding table
 table-split v b top = rw (powers-more, append-assoc)
 
@@ -35,30 +35,30 @@ powers-low v b (suc n) (suc k) q = rw (powers-low (v * b) b n k (le-of-suc-le-su
 pub table-at : (v b top k : ℕ) → k ≤ top → getD (table v b top) k 0 ≡ v * b ^ k
 unfolding table
 table-at v b top k q =
-    List·getD-append (powers v b (suc top)) (replicate (23 - top) 0) 0 k (omega (arith, length-powers v b (suc top)))
+    List·getD-append (powers v b (suc top)) (replicate (table-length - suc top) 0) 0 k (omega (arith, length-powers v b (suc top)))
     ∙ powers-low v b (suc top) k (omega arith)
 
-pub length-table : (v b top : ℕ) → top < 24 → length (table v b top) ≡ 24
+pub length-table : (v b top : ℕ) → top < table-length → length (table v b top) ≡ table-length
 unfolding table
 length-table v b top l =
-    length-append (powers v b (suc top)) (replicate (23 - top) 0)
-    ∙ omega (arith, length-powers v b (suc top), length-replicate {A = ℕ} (23 - top) 0)
+    length-append (powers v b (suc top)) (replicate (table-length - suc top) 0)
+    ∙ omega (arith, length-powers v b (suc top), length-replicate {A = ℕ} (table-length - suc top) 0)
 
-pub table-start : (v b : ℕ) → set (replicate 24 0) 0 v ≡ table v b 0
+pub table-start : (v b : ℕ) → set (replicate table-length 0) 0 v ≡ table v b 0
 unfolding table powers
 table-start v b = refl
 
-table-open : (v b h : ℕ) → h < 23 → table v b h ≡ powers v b (suc h) ++ (0 ∷ replicate (23 - suc h) 0)
+table-open : (v b h : ℕ) → suc h < table-length → table v b h ≡ powers v b (suc h) ++ (0 ∷ replicate (table-length - suc (suc h)) 0)
 unfolding table
-table-open v b h p = let e : 23 - h ≡ suc (23 - suc h) = omega arith in rw e
+table-open v b h p = let e : table-length - suc h ≡ suc (table-length - suc (suc h)) = omega arith in rw e
 
 -- one more height is written behind the powers, in the place of the first nought
-table-set : (v b h : ℕ) → h < 23 → set (table v b h) (suc h) (v * b ^ suc h) ≡ table v b (suc h)
+table-set : (v b h : ℕ) → suc h < table-length → set (table v b h) (suc h) (v * b ^ suc h) ≡ table v b (suc h)
 table-set v b h p =
     rw (table-open v b h, table-split v b (suc h))
-    (set-at (powers v b (suc h)) 0 (replicate (23 - suc h) 0) (v * b ^ suc h) (suc h) (length-powers v b (suc h)))
+    (set-at (powers v b (suc h)) 0 (replicate (table-length - suc (suc h)) 0) (v * b ^ suc h) (suc h) (length-powers v b (suc h)))
 
-pub table-more : (v b h : ℕ) → h < 23 → set (table v b h) (h + 1) (getD (table v b h) h 0 * b) ≡ table v b (h + 1)
+pub table-more : (v b h : ℕ) → suc h < table-length → set (table v b h) (h + 1) (getD (table v b h) h 0 * b) ≡ table v b (h + 1)
 table-more v b h p = rw (table-at v b h h (omega arith), mul-assoc, ← pow-suc b h, add-one h) (table-set v b h p)
 
 -- what is written fits
@@ -75,7 +75,7 @@ table-beyond : (v b top k : ℕ) → top < k → getD (table v b top) k 0 ≡ 0
 unfolding table
 table-beyond v b top k p =
     let e : k ≡ length (powers v b (suc top)) + (k - suc top) = omega (arith, length-powers v b (suc top)) in
-    rw (e, getD-append-add) (noughts (23 - top) (k - suc top))
+    rw (e, getD-append-add) (noughts (table-length - suc top) (k - suc top))
 
 -- every entry is at most the last power
 pub table-bound : (v b top : ℕ) → 1 ≤ b → (k : ℕ) → getD (table v b top) k 0 ≤ v * b ^ top

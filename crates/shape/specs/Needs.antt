@@ -2,16 +2,15 @@
 -- Assumes nothing: these are definitions.
 use mathlib.Core.Bool.{Bool, _&&_, _||_}
 use mathlib.Core.List.{List}
-use Prim.Native.Nat.{ℕ, pred, _*_, _-_, _^_, _≤_}
+use Prim.Native.Nat.{ℕ, pred, _*_, _≤_, _<_}
 use lib.Dec.{ltb, leb, eqb}
 use lib.ListN.{length, getD}
-use Rattle.store_types.specs.Limits.{most-tags, label-limit}
+use Rattle.store_types.specs.Limits.{most-tags, most-levels}
 use Rattle.store_types.specs.Layout.{at-version, at-s, at-r, at-height, at-count, header-words, word-at, words-for}
-use Rattle.shape.specs.Tables.{entry, entry-limit}
+use Rattle.shape.specs.Tables.{entry, table-length, entry-limit}
+use Rattle.calls.specs.Store.{labels-fit}
 use Rattle.calls.specs.Sound.{degrees-fit}
-
-unfoldable pub power-fits : (b h : ℕ) → Bool
-power-fits b h = leb (b ^ h) label-limit
+use Rattle.calls.specs.Words.{header-width}
 
 -- one half of degrees-fit
 unfoldable pub degree-fits : (d : ℕ) → Bool
@@ -19,15 +18,14 @@ degree-fits d = leb 2 d && leb d 16
 
 unfoldable pub frame-passes : List ℕ → Bool
 frame-passes ws =
-    let s = word-at ws at-s in
-    let r = word-at ws at-r in
+    let h = word-at ws at-height in
     let n = word-at ws at-count in
-    ((leb header-words (length ws) && eqb (word-at ws at-version) 1) && (degrees-fit s r && leb 1 (word-at ws at-height)))
-    && ((leb n most-tags && leb (words-for header-words n) (length ws)) && power-fits (s * r - 1) (word-at ws at-height))
+    ((leb header-words (length ws) && eqb (word-at ws at-version) 1) && (degrees-fit (word-at ws at-s) (word-at ws at-r) && (leb 1 h && leb h most-levels)))
+    && ((leb n most-tags && leb (words-for header-words n) (length ws)) && labels-fit (header-width ws) h)
 
 pub record Root-fits (h : ℕ) (l : List ℕ) : Type 0 where
   pub low : 1 ≤ h
-  pub high : h ≤ 23
+  pub high : h < table-length
   pub lows : (k : ℕ) → getD l k 0 ≤ entry-limit
 
 unfoldable pub root-passes : (n h : ℕ) → (lows highs : List ℕ) → Bool

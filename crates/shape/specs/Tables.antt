@@ -1,21 +1,24 @@
 -- Tables by height: powers of a base up to a height, from which the widths of labels, the least leaves of a node and its limit
 -- are made. Assumes nothing: these are definitions.
 use mathlib.Core.List.{List, [], _∷_, _++_}
-use Prim.Native.Nat.{ℕ, zero, suc, _*_, _-_, _^_, _≤_}
+use Prim.Native.Nat.{ℕ, zero, suc, _*_, _-_, _^_, _≤_, _<_}
 use lib.ListN.{getD, replicate}
 use Rattle.store_types.specs.Layout.{at-s, at-r, at-height, word-at}
 
 abbrev pub entry : List ℕ → (h : ℕ) → ℕ
 entry t h = getD t h 0
 
--- v, v times b, .. : count numbers; and a table of 24 entries, of which those up to a height are used
--- (b^21 is over 2^32 for every b, so that no sound store is as high as 21)
+-- every table by height has so many entries, which is more than a sound store has heights (most-levels)
+abbrev pub table-length : ℕ
+table-length = 24
+
+-- v, v times b, .. : count numbers; and a table, of which the entries up to a height are used
 unfoldable pub powers : (v b count : ℕ) → List ℕ
 powers v b zero = []
 powers v b (suc m) = v ∷ powers (v * b) b m
 
 unfoldable pub table : (v b top : ℕ) → List ℕ
-table v b top = powers v b (suc top) ++ replicate (23 - top) 0
+table v b top = powers v b (suc top) ++ replicate (table-length - suc top) 0
 
 -- THE TABLES OF WORDS, up to the header's H: the widths of labels, the least leaves of a node below the root, and its limit
 unfoldable pub widths-of : List ℕ → List ℕ
@@ -32,6 +35,6 @@ abbrev pub entry-limit : ℕ
 entry-limit = 1099511627776
 
 pub record Table-fits (v b top : ℕ) : Type 0 where
-  pub height : top ≤ 23
+  pub height : top < table-length
   pub grows : 1 ≤ b
   pub last : v * b ^ top ≤ entry-limit

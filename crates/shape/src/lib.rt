@@ -1,16 +1,23 @@
 // The shape of a store, s, r and H: the tables by height that they give, and the limits of the header and of the root
 // (document 01, "The book in words", "The tree").
 ghost use mathlib.Core.Path.{_≡_};
-ghost use Prim.Native.Nat.{_≤_};
+ghost use Prim.Native.Nat.{_*_, _≤_};
 ghost use Rattle.shape.specs.Tables.{Table-fits, table as power-table};
-ghost use Rattle.shape.specs.Needs.{Root-fits, frame-passes, root-passes, power-fits, degree-fits};
+ghost use Rattle.calls.specs.Store.{power-fits};
+ghost use Rattle.shape.specs.Needs.{Root-fits, frame-passes, root-passes, degree-fits};
+
+// Every table by height has so many entries.
+pub const TABLE_LENGTH: usize = 24;
+
+// No sound store is higher: its tags would be more than 200,000.
+const MOST_LEVELS: u32 = 17;
 
 // Powers by height, from v on: entries 0 to top.
-pub fn table(v: u64, b: u64, top: usize) -> [u64; 24]
+pub fn table(v: u64, b: u64, top: usize) -> [u64; TABLE_LENGTH]
     requires { ⌜ Table-fits v b top ⌝ }
     ensures { λ t. ⌜ t ≡ power-table v b top ⌝ }
 {
-    let mut t = [0u64; 24];
+    let mut t = [0u64; TABLE_LENGTH];
     t[0] = v;
     let mut h: usize = 0;
     while h < top {
@@ -20,11 +27,12 @@ pub fn table(v: u64, b: u64, top: usize) -> [u64; 24]
     t
 }
 
-// Whether b^h is at most 2^32.
-pub fn power_fits(b: u64, h: u32) -> bool
-    requires { ⌜ (3 ≤ b) × (b ≤ 255) ⌝ }
-    ensures { λ t. ⌜ t ≡ power-fits b h ⌝ }
+// Whether labels of a tree of height h fit: b^h is at most 2^32.
+pub fn height_fits(s: u32, r: u32, h: u32) -> bool
+    requires { ⌜ (4 ≤ s * r) × (s * r ≤ 256) ⌝ }
+    ensures { λ t. ⌜ t ≡ power-fits s r h ⌝ }
 {
+    let b = (s as u64) * (r as u64) - 1;
     let mut p: u64 = 1;
     let mut i: u32 = 0;
     while i < h {
@@ -44,7 +52,7 @@ pub fn degree_fits(d: u32) -> bool
     2 <= d && d <= 16
 }
 
-// The header by itself: enough words, every number in its range, b^H at most 2^32.
+// The header by itself: enough words, every number in its range, labels fit.
 pub fn frame_passes(words: &[u32]) -> bool
     ensures { λ t. ⌜ t ≡ frame-passes (now (words .entry)) ⌝ }
 {
@@ -66,6 +74,9 @@ pub fn frame_passes(words: &[u32]) -> bool
     if h < 1 {
         return false;
     }
+    if MOST_LEVELS < h {
+        return false;
+    }
     let n = words[words::AT_COUNT];
     if 200000 < n {
         return false;
@@ -73,11 +84,16 @@ pub fn frame_passes(words: &[u32]) -> bool
     if words.len() < words::HEADER_WORDS + words::TAG_WORDS * (n as usize) {
         return false;
     }
-    power_fits((s as u64) * (r as u64) - 1, h)
+    height_fits(s, r, h)
 }
 
 // The root's limits.
-pub fn root_passes(n: u32, h: usize, lows: &[u64; 24], highs: &[u64; 24]) -> bool
+pub fn root_passes(
+    n: u32,
+    h: usize,
+    lows: &[u64; TABLE_LENGTH],
+    highs: &[u64; TABLE_LENGTH],
+) -> bool
     requires { ⌜ Root-fits h (now lows) ⌝ }
     ensures { λ t. ⌜ t ≡ root-passes n h (now (lows .entry)) (now (highs .entry)) ⌝ }
 {

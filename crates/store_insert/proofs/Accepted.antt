@@ -15,6 +15,7 @@ use Rattle.store_types.specs.Limits.{no-tag, label-limit, most-tags}
 use Rattle.lists.proofs.Tests.{by-test}
 use Rattle.store_types.specs.Layout.{at-s, at-r, at-height, at-count, word-at}
 use Rattle.shape.proofs.TableLaws.{table-at, table-bound}
+use Rattle.shape.proofs.Fits.{power-below}
 use Rattle.shape.specs.Tables.{entry, table, widths-of, highs-of, lows-of}
 use Rattle.tree.specs.Book.{height}
 use Rattle.calls.specs.Kind.{Kind, kind-word}
@@ -37,7 +38,7 @@ use Rattle.renumber.proofs.Rows.{cut-small}
 use Rattle.store_refuse.proofs.Laws.{accepted-says, accepted-store}
 use Rattle.insert_link.specs.Needs.{Tag-or-none, Place-there, New-tag-fits}
 use Rattle.insert_plan.specs.Needs.{Plan-reads, Applicable}
-use Rattle.insert_refuse.proofs.Headers.{Ranges, ranges}
+use Rattle.insert_refuse.proofs.Headers.{Ranges, ranges, fits-of}
 use Rattle.insert_plan.proofs.Plans.{Plan-fits, plan-fits}
 use Rattle.store_insert.proofs.Rows.{records-in, place-or-none, behind-or-none, left-or-none, row-there}
 
@@ -54,7 +55,7 @@ module _ (ws : List ℕ) (says : Says ws (said ws)) where
   pub widths-most : (h : ℕ) → entry (widths-of ws) h ≤ label-limit
   unfolding widths-of
   widths-most h =
-      omega (arith, table-bound 1 (word-at ws at-s * word-at ws at-r - 1) (word-at ws at-height) (omega (arith, here .product)) h, one-mul ((word-at ws at-s * word-at ws at-r - 1) ^ word-at ws at-height), here .power)
+      omega (arith, table-bound 1 (word-at ws at-s * word-at ws at-r - 1) (word-at ws at-height) (omega (arith, here .product)) h, one-mul ((word-at ws at-s * word-at ws at-r - 1) ^ word-at ws at-height), power-below (fits-of here))
 
   pub widths-least : (h : ℕ) → h ≤ word-at ws at-height → 1 ≤ entry (widths-of ws) h
   widths-least h l = rw (widths-at h l) (one-le-pow h _ (omega (arith, here .product)))

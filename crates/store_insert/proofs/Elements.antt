@@ -3,17 +3,17 @@
 use mathlib.Core.Path.{_≡_, refl, ap, sym, _∙_}
 use mathlib.Core.Bool.{Bool, true, false, cond}
 use mathlib.Core.List.{List, [], _∷_, _++_}
-use Prim.Native.Nat.{ℕ, zero, suc, _+_, _*_, _-_, _≤_, _<_}
+use Prim.Native.Nat.{ℕ, zero, suc, _+_, _-_, _≤_, _<_}
 use native.Mathlib.Nat.{pow-zero}
 use native.Mathlib.Numerals.{add-one}
 use native.Mathlib.Omega.{arith}
 use lib.ListN.{length, drop}
-use Rattle.store_types.specs.Limits.{label-limit, most-tags}
+use Rattle.store_types.specs.Limits.{most-tags}
 use Rattle.store_types.specs.Layout.{at-r, at-height, at-count, header-words, word-at, words-for, Records}
-use Rattle.tree.specs.Book.{height, base, power-width, root-full}
+use Rattle.tree.specs.Book.{height, root-full}
 use Rattle.tree_laws.proofs.Insertion.{inserted-r, inserted-under}
 use Rattle.calls.specs.Kind.{begin, end, code, kind-word}
-use Rattle.calls.specs.Store.{Store, Fact, count, width}
+use Rattle.calls.specs.Store.{Store, Fact, new-fact, count, height-fits}
 use Rattle.calls.specs.Insert.{insert-kinds, position}
 use Rattle.calls.specs.Words.{words-of, Says}
 use Rattle.calls.specs.Replies.{said}
@@ -30,7 +30,6 @@ use Rattle.edit_model.proofs.Inserted.{position-said, few-said, room-said, labe
 use Rattle.edit_model.proofs.Elements.{element-row}
 use Rattle.insert_link.specs.Needs.{New-tag-fits}
 use Rattle.store_insert.specs.Needs.{Put-fits, End-fits, Ready, Edits}
-use Rattle.shape.proofs.Fits.{height-range}
 use Rattle.insert_refuse.proofs.Headers.{ranges}
 use Rattle.store_insert.proofs.Keeps.{length-added, added-header}
 use Rattle.store_insert.proofs.Rows.{behind-or-none}
@@ -51,7 +50,7 @@ module _ {k : ℕ} {ws w l : List ℕ} {n y u r : ℕ} {p : Plan} (h : Ready 1 k
 
   -- the begin, its mate one further
   abbrev first : Fact
-  first = record { kind = begin; marked = false; mate = suc (word-at ws at-count); up = u }
+  first = new-fact begin false (suc (word-at ws at-count)) u
 
   pub begin-tag : New-tag-fits ws n y
   begin-tag = rw (h .tags) (tag-fits ws said-now begin (end ∷ []) y both-row)
@@ -139,7 +138,7 @@ module _ {ws w l : List ℕ} {n y u r : ℕ} {p : Plan} (h : Ready 1 1 ws n y u 
     words-begun : us ≡ words-of begun ++ rest
     words-begun = begin-edits .words-are ∙ begin-words ws (said ws) (said-now h) y (store-accepted ws 1 y (h .accepted))
 
-    labels-begun : width (said ws) (height (book-with at (said ws))) ≤ label-limit
+    labels-begun : height-fits (said ws) (height (book-with at (said ws))) ≡ true
     labels-begun = labels-said ws (said ws) (said-now h) begin (end ∷ []) y (both-row h)
 
     words-in-begun : Words-in us (suc n)
@@ -165,12 +164,8 @@ module _ {ws w l : List ℕ} {n y u r : ℕ} {p : Plan} (h : Ready 1 1 ws n y u 
         go true = omega arith
         go false = omega arith
 
-    low-begun : height (book-with at (said ws)) ≤ 20
-    unfolding power-width base
-    low-begun =
-        let head = header-said ws (said ws) (said-now h) in
-        let product = ranges ws (said-now h) .product in
-        height-range (said ws .book .s * said ws .book .r - 1) (height (book-with at (said ws))) (rw (← head .degree-s, ← head .degree-r) (omega (arith, product))) labels-begun
+    low-begun : book-with at (said ws) .under ≤ 22
+    low-begun = omega (arith, under-begun, ranges ws (said-now h) .high)
 
     pub end-ready : length us ≡ length ws → End-fits us n r w l
     unfolding grown

@@ -11,6 +11,7 @@ use Rattle.calls.specs.Kind.{text, code, kind-word}
 use Rattle.calls.specs.Insert.{insert-kinds}
 use Rattle.calls.specs.Words.{Says}
 use Rattle.calls.specs.Replies.{said}
+use Rattle.calls.specs.Store.{new-fact}
 use Rattle.calls_laws.proofs.Inserts.{Row-accepted}
 use Rattle.edit_model.specs.Insert.{Plan, added, plan, put-words, text-edit}
 use Rattle.insert_link.specs.Needs.{New-tag-fits}
@@ -37,7 +38,7 @@ module _ {ws w l : List ℕ} {n y u r : ℕ} {p : Plan} (h : Ready 3 1 ws n y u 
     text-put =
         let levels = added-header 3 (omega arith) ws (word-at ws at-count) y (word-at ws at-count) u 3 (λ e. omega arith) (λ e. omega arith) in
         rw (put, h .tags, add-one, h .degree, h .plan, h .widths, h .lows) (record {
-          plan = one-applicable ws text-said text [] y text-row (record { kind = text; marked = false; mate = word-at ws at-count; up = u });
+          plan = one-applicable ws text-said text [] y text-row (new-fact text false (word-at ws at-count) u);
           levels = omega (arith, levels, ranges ws text-said .high);
         })
 

@@ -2,20 +2,21 @@
 use mathlib.Core.Path.{_≡_, ap, sym, _∙_}
 use mathlib.Core.Bool.{true, false, not, cond}
 use mathlib.Core.List.{List, map, _++_}
-use Prim.Native.Nat.{ℕ, suc, _+_, _-_, _^_, _≤_}
+use Prim.Native.Nat.{ℕ, suc, _+_, _-_, _≤_}
 use native.Mathlib.Numerals.{add-one}
 use native.Mathlib.Omega.{arith}
-use borrow.Author.Tests.{ltb-false, not-false, lt-ltb, le-ltb, leb-true, leb-false}
+use borrow.Author.Tests.{ltb-false, not-false}
 use lib.Dec.{ltb}
 use lib.ListN.{length, drop}
-use Rattle.store_types.specs.Limits.{most-tags, label-limit}
+use Rattle.store_types.specs.Limits.{most-tags}
 use Rattle.store_types.specs.declared.LoadReply.the-variants as load
 use Rattle.store_types.specs.Layout.{header-words, words-for}
 use Rattle.words.proofs.Fields.{header-fits}
-use Rattle.tree.specs.Book.{base, power-width, load-under, loaded}
+use Rattle.tree.specs.Book.{base, load-under, loaded}
 use Rattle.lists.specs.Lists.{first}
 use Rattle.lists.proofs.First.{refused-before}
 use Rattle.calls.specs.Kind.{kind-of}
+use Rattle.calls.specs.Store.{power-fits}
 use Rattle.calls.specs.Nesting.{nests}
 use Rattle.calls.specs.Sound.{degrees-fit}
 use Rattle.calls.specs.Load.{all-kinds, kinds-tests, early-tests, load-refusal, load-store}
@@ -26,7 +27,6 @@ use Rattle.calls_laws.proofs.Fields.{length-words}
 use Rattle.calls_laws.proofs.Steps.{Load-accepted, accepted-load}
 use Rattle.calls_laws.proofs.WordSteps.{length-in-front}
 use Rattle.calls_laws.proofs.Replies.{replied-refused}
-use Rattle.shape.specs.Needs.{power-fits}
 use Rattle.load_refuse.specs.Refusals.{refusal-before}
 use Rattle.load_tags.specs.Tags.{Tags-fit, Tags-written, Trees-fit, labels-new}
 use Rattle.store_load.specs.Header.{header-new}
@@ -41,7 +41,7 @@ pub record Passed (w s r : ℕ) (cs : List ℕ) : Type 0 where
   pub room : words-for header-words (length cs) ≤ w
   pub kinds : all-kinds cs ≡ true
   pub nesting : nests 0 (map kind-of cs) ≡ true
-  pub last : load-refusal w s r cs ≡ cond (ltb label-limit (power-width s r (suc (load-under r (length cs))))) 7 0
+  pub last : load-refusal w s r cs ≡ cond (not (power-fits s r (suc (load-under r (length cs))))) 7 0
 
 module _ (w s r : ℕ) (cs : List ℕ) where
   pub passed : refusal-before w s r cs ≡ 0 → Passed w s r cs
@@ -68,18 +68,15 @@ module _ (w s r : ℕ) (cs : List ℕ) where
   early q e some = refused-before (early-tests w s r cs) _ (λ z. some (sym e ∙ z)) ∙ e
 
   -- the last test, as the code makes it
-  module _ (h : Passed w s r cs) (u d : ℕ) (height : u ≡ load-under r (length cs)) (is-base : d ≡ base s r) where
-    code-power : d ^ (u + 1) ≡ power-width s r (suc (load-under r (length cs)))
-    unfolding power-width
-    code-power = rw (is-base, height, add-one)
+  module _ (h : Passed w s r cs) (u : ℕ) (height : u ≡ load-under r (length cs)) where
+    height-is : suc (load-under r (length cs)) ≡ u + 1
+    height-is = rw (height, add-one)
 
-    pub too-wide : power-fits d (u + 1) ≡ false → load-refusal w s r cs ≡ 7
-    unfolding power-fits
-    too-wide e = h .last ∙ rw (lt-ltb label-limit _ (rw code-power at (leb-false (d ^ (u + 1)) label-limit e)))
+    pub too-wide : power-fits s r (u + 1) ≡ false → load-refusal w s r cs ≡ 7
+    too-wide e = h .last ∙ rw (height-is, e)
 
-    pub none-refused : power-fits d (u + 1) ≡ true → load-refusal w s r cs ≡ 0
-    unfolding power-fits
-    none-refused e = h .last ∙ rw (le-ltb label-limit _ (rw code-power at (leb-true (d ^ (u + 1)) label-limit e)))
+    pub none-refused : power-fits s r (u + 1) ≡ true → load-refusal w s r cs ≡ 0
+    none-refused e = h .last ∙ rw (height-is, e)
 
 -- REFUSED: the reply is the refusal, and the words are as they were
 pub refused-with : (s r b : ℕ) (cs ws : List ℕ) (q : ℕ) → load-refusal (length ws) s r cs ≡ q → (q ≡ 0 → ⊥) →

@@ -56,10 +56,10 @@ pub fn load(s: u32, r: u32, book: u32, kinds: &[u8], words: &mut [u32]) -> LoadR
     let under = load_refuse::load_under(n as u64, r as u64);
     let h = under + 1;
     // The last refusal goes by the height; nothing has been written yet.
-    let b = base(s, r);
-    if !shape::power_fits(b, h) {
+    if !shape::height_fits(s, r, h) {
         return LoadReply::Refused(7);
     }
+    let b = base(s, r);
     write_header(words, s, r, h, n, book);
     load_tags::write_tags(words, kinds, r as u64, b, under as usize);
     LoadReply::Loaded { tags: n, height: h }

@@ -3,23 +3,24 @@
 use mathlib.Core.Path.{_≡_, sym, _∙_}
 use mathlib.Core.Bool.{Bool, true, false, _&&_, not, and-assoc, and-false, and-eq-true-iff}
 use mathlib.Core.List.{List}
-use Prim.Native.Nat.{ℕ, pred, _*_, _-_, _^_, _≤_, _<_}
+use Prim.Native.Nat.{ℕ, pred, _*_, _-_, _≤_, _<_}
 use native.Mathlib.Nat.{pow-zero, one-le-pow, one-mul}
 use native.Mathlib.Numerals.{sub-one}
 use native.Mathlib.Omega.{arith}
 use borrow.Author.Tests.{leb-true, not-true, not-false}
 use lib.ListN.{length, getD, replicate}
-use Rattle.store_types.specs.Limits.{label-limit, word-limit}
+use Rattle.store_types.specs.Limits.{most-levels, word-limit}
 use Rattle.store_types.specs.Layout.{at-s, at-r, at-height, at-count, header-words, word-at, Records}
 use Rattle.shape.proofs.TableLaws.{table-at, table-bound}
 use Rattle.shape.specs.Tables.{table, widths-of, lows-of, highs-of, entry-limit, Table-fits}
-use Rattle.shape.proofs.Fits.{Fits, product-range, height-fits, widths-fit, lows-fit, highs-fit}
-use Rattle.tree.specs.Book.{base, power-width}
+use Rattle.shape.proofs.Fits.{Fits, product-range, widths-fit, lows-fit, highs-fit}
+use Rattle.calls.specs.Store.{labels-fit}
 use Rattle.calls.specs.Sound.{degrees-fit}
+use Rattle.calls.specs.Words.{header-width}
 use Rattle.walk_model.specs.Walk.{shape-of, start, walk, header-passes, words-pass}
 use Rattle.walk_model.specs.Watch.{ancestor-numbers, watched-label, watched-numbers, walk-sizes, sizes-at}
 use Rattle.walk_levels.specs.Needs.{Ancestors-fit, Packed, widths-in, numbers-in, tables-of, levels-of}
-use Rattle.shape.specs.Needs.{Root-fits, power-fits, frame-passes, root-passes}
+use Rattle.shape.specs.Needs.{Root-fits, frame-passes, root-passes}
 use Rattle.walk.specs.Needs.{Pass-fits, shape-with, shape-in, start-with}
 use Rattle.walk_levels.proofs.AncestorNumbers.{numbers-fit}
 
@@ -46,10 +47,11 @@ pub record Frame (ws : List ℕ) : Type 0 where
   pub r-high : r-of ws ≤ 16
   pub low : 1 ≤ h-of ws
   pub records : Records ws (n-of ws)
-  pub power : (s-of ws * r-of ws - 1) ^ h-of ws ≤ label-limit
+  pub high : h-of ws ≤ most-levels
+  pub labels : labels-fit (header-width ws) (h-of ws) ≡ true
 
 pub frame : (ws : List ℕ) {t : Bool} → t ≡ frame-passes ws → not t ≡ false → Frame ws
-unfolding frame-passes degrees-fit power-fits
+unfolding frame-passes degrees-fit
 frame ws e p =
     let all = simp and-eq-true-iff at (sym e ∙ not-false _ p) in
     record {
@@ -58,21 +60,20 @@ frame ws e p =
       s-high = leb-true _ _ (all .0 .1 .0 .0 .1);
       r-low = leb-true _ _ (all .0 .1 .0 .1 .0);
       r-high = leb-true _ _ (all .0 .1 .0 .1 .1);
-      low = leb-true _ _ (all .0 .1 .1);
+      low = leb-true _ _ (all .0 .1 .1 .0);
+      high = leb-true _ _ (all .0 .1 .1 .1);
       records = record { few = leb-true _ _ (all .1 .0 .0); long = leb-true _ _ (all .1 .0 .1) };
-      power = leb-true _ _ (all .1 .1);
+      labels = all .1 .1;
     }
 
 -- ITS TABLES FIT
 pub framed-fits : (ws : List ℕ) → Frame ws → Fits (s-of ws) (r-of ws) (h-of ws)
-framed-fits ws a = record { s-least = a .s-low; s-most = a .s-high; r-least = a .r-low; r-most = a .r-high; power = a .power }
+unfolding header-width
+framed-fits ws a = record { s-least = a .s-low; s-most = a .s-high; r-least = a .r-low; r-most = a .r-high; high = a .high; labels = a .labels }
 
 module _ (ws : List ℕ) (a : Frame ws) where
   pub f-range : (4 ≤ s-of ws * r-of ws) × (s-of ws * r-of ws ≤ 256)
   f-range = product-range (framed-fits ws a)
-
-  pub high : h-of ws ≤ 20
-  high = height-fits (framed-fits ws a)
 
 entries-fit : {v b top : ℕ} → Table-fits v b top → {t : List ℕ} → t ≡ table v b top → (k : ℕ) → getD t k 0 ≤ entry-limit
 entries-fit {v} {b} {top} a e k = rw e (omega (arith, a .last, table-bound v b top (a .grows) k))
@@ -80,13 +81,13 @@ entries-fit {v} {b} {top} a e k = rw e (omega (arith, a .last, table-bound v b t
 pub ancestors-fit : (ws : List ℕ) → Frame ws → {w : List ℕ} → w ≡ table 1 (s-of ws * r-of ws - 1) (h-of ws) → Ancestors-fit (h-of ws - 1) w
 ancestors-fit ws a e =
     record {
-      height = omega (arith, high ws a);
+      height = omega (arith, a .high);
       widths = λ k p q. rw (e, table-at 1 (s-of ws * r-of ws - 1) (h-of ws) k (omega arith), one-mul) (one-le-pow k (s-of ws * r-of ws - 1) (omega (arith, f-range ws a)));
     }
 
 module _ (ws lo : List ℕ) (a : Frame ws) (of-lo : lo ≡ table 1 (r-of ws) (h-of ws)) where
   pub root-fits : Root-fits (h-of ws) lo
-  root-fits = record { low = a .low; high = omega (arith, high ws a); lows = entries-fit (lows-fit (framed-fits ws a)) of-lo }
+  root-fits = record { low = a .low; high = omega (arith, a .high); lows = entries-fit (lows-fit (framed-fits ws a)) of-lo }
 
   pub pass-fits : {w hi ns t : List ℕ} {l : ℕ} → Packed t w lo hi ns → w ≡ table 1 (s-of ws * r-of ws - 1) (h-of ws) → hi ≡ table (s-of ws) (r-of ws) (h-of ws) → ns ≡ ancestor-numbers w (h-of ws - 1) l 0 (replicate 24 0) → l < word-limit → Pass-fits ws (n-of ws) (h-of ws - 1) t
   pass-fits {w} p of-w of-hi of-ns fits =
@@ -95,7 +96,7 @@ module _ (ws lo : List ℕ) (a : Frame ws) (of-lo : lo ≡ table 1 (r-of ws) (h-
         records = a .records;
         tables-fit = (
           record {
-            height = omega (arith, high ws a);
+            height = omega (arith, a .high);
             widths = λ k. rw (p .widths) (entries-fit (widths-fit (framed-fits ws a)) of-w k);
             lows = λ k. rw (p .lows) (entries-fit (lows-fit (framed-fits ws a)) of-lo k);
             highs = λ k. rw (p .highs) (entries-fit (highs-fit (framed-fits ws a)) of-hi k);
@@ -112,7 +113,7 @@ module _ (ws : List ℕ) where
   root = root-passes (n-of ws) (h-of ws) (table 1 (r-of ws) (h-of ws)) (table (s-of ws) (r-of ws) (h-of ws))
 
   header-split : header-passes ws ≡ (frame-passes ws && root)
-  unfolding header-passes frame-passes root-passes power-fits power-width base
+  unfolding header-passes frame-passes root-passes
   header-split =
       rw (table-at (s-of ws) (r-of ws) (h-of ws) (h-of ws) (omega arith), table-at 1 (r-of ws) (h-of ws) (pred (h-of ws)) (omega arith), one-mul)
       (simp and-assoc)

@@ -16,19 +16,19 @@ use Rattle.lists.proofs.Numbers.{length-numbers, getD-numbers}
 use Rattle.tree.specs.Good.{Good}
 use Rattle.tree.specs.Row.{member, place, all-below}
 use Rattle.tree.specs.Forest.{Forest, leaves, size, labels}
-use Rattle.tree.specs.Book.{label-of, power-width, root-within, book-within}
+use Rattle.tree.specs.Book.{label-of, root-within, book-within}
 use Rattle.tree_laws.proofs.Good.{test-of}
 use Rattle.tree_laws.proofs.Rows.{Distinct, member-nil, member-cases, getD-place, place-of-member, all-below-distinct, member-all-below}
-use Rattle.tree_laws.proofs.Labels.{Rising, rising-from, good-rising, power-widths}
+use Rattle.tree_laws.proofs.Labels.{Rising, rising-from, good-rising}
 use Rattle.calls.specs.Kind.{code, kind-of, kind-word}
-use Rattle.calls.specs.Store.{Store, no-fact, fact, count}
-use Rattle.calls.specs.Words.{Says, read-fact}
+use Rattle.calls.specs.Store.{Store, no-fact, fact, count, width}
+use Rattle.calls.specs.Words.{Says, read-fact, header-width}
 use Rattle.calls_laws.proofs.Tests.{Sound, sound-of}
 use Rattle.calls_laws.proofs.Fields.{Tag-says, Header-says}
 use Rattle.calls_laws.proofs.Reader.{getD-map}
 use Rattle.walk_model.specs.Walk.{kind-fits, open-after}
 use Rattle.walk_model.proofs.Passes.{Linked, kinds-pass, total, mark-word}
-use Rattle.walk_model.proofs.Shapes.{Header}
+use Rattle.walk_model.proofs.Shapes.{Header, widths-given}
 use Rattle.walk_model.proofs.Links.{first-linked, below-linked, next-linked, prior-linked}
 use Rattle.walk_model.proofs.KindPass.{kinds-same}
 use Rattle.walk_model.proofs.Counts.{marks-same}
@@ -96,7 +96,7 @@ found ws s r u n f =
     }
 
 module _ {s r u n : ℕ} (ws : List ℕ) (h : Header ws s r u n) (f : Forest) (good : Good s r f u) (long : size f ≡ n)
-    (links : Linked ws n (word-at ws at-first) no-tag (leaves f)) (labels-are : labels f (power-width s r) u 0 ≡ map (label-at ws) (leaves f))
+    (links : Linked ws n (word-at ws at-first) no-tag (leaves f)) (labels-are : labels f (header-width ws) u 0 ≡ map (label-at ws) (leaves f))
     (kinds : kinds-pass ws n no-tag (leaves f) ≡ true) where
   abbrev st : Store
   st = found ws s r u n f
@@ -109,7 +109,7 @@ module _ {s r u n : ℕ} (ws : List ℕ) (h : Header ws s r u n) (f : Forest) (g
   distinct : Distinct (leaves f)
   distinct =
       distinct-rising (label-at ws) (leaves f) 0 _
-      (rw labels-are at (good-rising (h .degrees .s-least) (h .degrees .r-least) (power-widths s r) f u 0 good))
+      (rw labels-are at (good-rising (h .degrees .s-least) (h .degrees .r-least) (widths-given h) f u 0 good))
 
   below : (x : ℕ) → member x (leaves f) ≡ true → x < n
   below x m = below-linked ws n (leaves f) (word-at ws at-first) no-tag x links m
@@ -123,10 +123,15 @@ module _ {s r u n : ℕ} (ws : List ℕ) (h : Header ws s r u n) (f : Forest) (g
   fact-is x l =
       getD-map (read-fact ws) (numbers 0 n) x 0 no-fact (omega (arith, length-numbers 0 n)) ∙ rw (getD-numbers 0 n x 0 l, zero-add)
 
-  label-is : (x : ℕ) → member x (leaves f) ≡ true → label-at ws x ≡ getD (labels f (power-width s r) u 0) (place x (leaves f)) 0
+  -- the header gives its widths
+  width-is : width st ≡ header-width ws
+  unfolding found header-width
+  width-is = rw (h .degree-s, h .degree-r)
+
+  label-is : (x : ℕ) → member x (leaves f) ≡ true → label-at ws x ≡ getD (labels f (width st) u 0) (place x (leaves f)) 0
   unfolding label-at
   label-is x m =
-      rw (labels-are, getD-map (label-at ws) (leaves f) (place x (leaves f)) 0 0 (place-of-member x (leaves f) m), getD-place x (leaves f) 0 m)
+      rw (width-is, labels-are, getD-map (label-at ws) (leaves f) (place x (leaves f)) 0 0 (place-of-member x (leaves f) m), getD-place x (leaves f) 0 m)
 
   says : (x : ℕ) → x < count st → Tag-says ws st x
   unfolding found label-of read-fact
@@ -171,7 +176,7 @@ module _ {s r u n : ℕ} (ws : List ℕ) (h : Header ws s r u n) (f : Forest) (g
       let as-many = long ∙ sym issued in
       record {
         degrees = h .degrees;
-        labels-fit = h .labels-fit;
+        labels-fit = rw width-is (h .labels-fit);
         within = within;
         few = few;
         as-many = as-many;

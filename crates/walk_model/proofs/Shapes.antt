@@ -1,22 +1,25 @@
 -- The header's test as facts, and that the walk's tables are right where it is passed. Assumes nothing.
-use mathlib.Core.Path.{_≡_, refl, _∙_}
+use mathlib.Core.Path.{_≡_, refl, sym, _∙_}
 use mathlib.Core.Bool.{true, _&&_, _||_}
 use mathlib.Core.List.{List}
 use Prim.Native.Nat.{ℕ, suc, pred, _*_, _-_, _^_, _≤_, _<_}
-use native.Mathlib.Nat.{one-mul, mul-le-mul}
+use native.Mathlib.Nat.{one-mul}
 use native.Mathlib.Omega.{arith}
 use borrow.Author.Tests.{ltb-true, leb-true, eqb-true, lt-ltb, le-leb}
 use lib.Dec.{ltb, leb, eqb, eqb·suc-suc}
 use lib.ListN.{length}
-use Rattle.store_types.specs.Limits.{most-tags, label-limit}
+use Rattle.store_types.specs.Limits.{most-tags, most-levels}
 use Rattle.store_types.specs.Layout.{at-version, at-s, at-r, at-height, at-count, header-words, word-at, words-for}
 use Rattle.lists.proofs.Tests.{and-left, and-right, and-both}
 use Rattle.words.proofs.Fields.{header-fits}
 use Rattle.shape.proofs.TableLaws.{table-at, length-table}
-use Rattle.shape.proofs.Fits.{height-range}
 use Rattle.shape.specs.Tables.{widths-of, lows-of, highs-of}
-use Rattle.tree.specs.Book.{base, power-width}
+use Rattle.tree.specs.Book.{base}
+use Rattle.tree.specs.Promise.{Widths}
+use Rattle.calls.specs.Store.{labels-fit}
 use Rattle.calls.specs.Sound.{degrees-fit}
+use Rattle.calls.specs.Words.{header-width}
+use Rattle.calls_laws.proofs.Widths.{header-widths, header-powers}
 use Rattle.calls_laws.proofs.Tests.{Degrees, degrees-of, degrees-test}
 use Rattle.walk_model.specs.Walk.{header-passes, shape-of}
 use Rattle.walk_model.specs.Promise.{Tables-right}
@@ -29,10 +32,11 @@ pub record Header (ws : List ℕ) (s r u n : ℕ) : Type 0 where
   pub degree-r : word-at ws at-r ≡ r
   pub levels : word-at ws at-height ≡ suc u
   pub issued : word-at ws at-count ≡ n
+  pub high : suc u ≤ most-levels
   pub degrees : Degrees s r
   pub few : n ≤ most-tags
   pub room : words-for header-words n ≤ length ws
-  pub labels-fit : power-width s r (suc u) ≤ label-limit
+  pub labels-fit : labels-fit (header-width ws) (suc u) ≡ true
   pub below : n < s * r ^ suc u
   pub least : (eqb u 0 || leb (2 * r ^ u) n) ≡ true
 
@@ -46,23 +50,26 @@ header-facts ws e =
     let version = eqb (word-at ws at-version) 1 in
     let few = leb n most-tags in
     let room = leb (words-for header-words n) (length ws) in
-    let labels = leb (power-width s r h) label-limit in
+    let labels = labels-fit (header-width ws) h in
+    let range = leb 1 h && leb h most-levels in
     let below = ltb n (s * r ^ h) in
     let least = eqb h 1 || leb (2 * r ^ pred h) n in
     let f =
-    four (leb header-words (length ws) && version) (degrees-fit s r && leb 1 h) (few && room) (labels && (below && least)) e in
+    four (leb header-words (length ws) && version) (degrees-fit s r && range) (few && room) (labels && (below && least)) e in
     let tree = and-right labels (below && least) (f .fourth) in
-    let levels : h ≡ suc (pred h) = omega (arith, leb-true 1 h (and-right (degrees-fit s r) (leb 1 h) (f .second))) in
+    let in-range = and-right (degrees-fit s r) range (f .second) in
+    let levels : h ≡ suc (pred h) = omega (arith, leb-true 1 h (and-left (leb 1 h) (leb h most-levels) in-range)) in
     record {
       version = eqb-true _ _ (and-right (leb header-words (length ws)) version (f .first));
       degree-s = refl;
       degree-r = refl;
       levels = levels;
       issued = refl;
-      degrees = degrees-of s r (and-left (degrees-fit s r) (leb 1 h) (f .second));
+      high = rw (← levels) (leb-true h most-levels (and-right (leb 1 h) (leb h most-levels) in-range));
+      degrees = degrees-of s r (and-left (degrees-fit s r) range (f .second));
       few = leb-true _ _ (and-left few room (f .third));
       room = leb-true _ _ (and-right few room (f .third));
-      labels-fit = rw (← levels) (leb-true _ _ (and-left labels (below && least) (f .fourth)));
+      labels-fit = rw (← levels) (and-left labels (below && least) (f .fourth));
       below = rw (← levels) (ltb-true _ _ (and-left below least tree));
       least = rw (← eqb·suc-suc (pred h) 0, ← levels) (and-right below least tree);
     }
@@ -72,20 +79,22 @@ unfolding header-passes
 header-test {ws} {s} {r} {u} {n} h =
     let head : header-words ≤ length ws = omega (arith, h .room, header-fits n) in
     rw (h .version, h .degree-s, h .degree-r, h .levels, h .issued, eqb·suc-suc u 0)
-    (and-both (and-both (and-both (le-leb _ _ head) refl) (and-both (degrees-test s r (h .degrees)) (le-leb 1 (suc u) (omega arith))))
+    (and-both (and-both (and-both (le-leb _ _ head) refl) (and-both (degrees-test s r (h .degrees)) (and-both (le-leb 1 (suc u) (omega arith)) (le-leb (suc u) most-levels (h .high)))))
     (and-both (and-both (le-leb _ _ (h .few)) (le-leb _ _ (h .room)))
-    (and-both (le-leb _ _ (h .labels-fit)) (and-both (lt-ltb _ _ (h .below)) (h .least)))))
+    (and-both (h .labels-fit) (and-both (lt-ltb _ _ (h .below)) (h .least)))))
 
--- THE TABLES of such a header
-pub tables-right : {ws : List ℕ} {s r u n : ℕ} → Header ws s r u n → Tables-right s r (power-width s r) (suc u) (shape-of ws .tables)
-unfolding shape-of widths-of lows-of highs-of power-width base
+-- THE WIDTHS of such a header, and its tables
+pub widths-given : {ws : List ℕ} {s r u n : ℕ} → Header ws s r u n → Widths s r (header-width ws)
+widths-given {ws} h = rw (h .degree-s, h .degree-r) at (header-widths ws)
+
+pub tables-right : {ws : List ℕ} {s r u n : ℕ} → Header ws s r u n → Tables-right s r (header-width ws) (suc u) (shape-of ws .tables)
+unfolding shape-of widths-of lows-of highs-of base
 tables-right {ws} {s} {r} {u} {n} h =
-    let least : 3 ≤ s * r - 1 = omega (arith, mul-le-mul (h .degrees .s-least) (h .degrees .r-least)) in
-    let low : suc u < 24 = omega (arith, height-range (s * r - 1) (suc u) least (h .labels-fit)) in
+    let low : suc u < 24 = omega (arith, h .high) in
     rw (h .degree-s, h .degree-r, h .levels) (record {
       top-fits = low;
       long = length-table 1 _ (suc u) low;
-      widths = λ j l. table-at 1 (s * r - 1) (suc u) j l ∙ one-mul ((s * r - 1) ^ j);
+      widths = λ j l. table-at 1 (s * r - 1) (suc u) j l ∙ one-mul ((s * r - 1) ^ j) ∙ sym (rw (h .degree-s, h .degree-r) at (header-powers ws j));
       lows = λ j l. table-at 1 r (suc u) j l ∙ one-mul (r ^ j);
       highs = table-at s r (suc u);
     })

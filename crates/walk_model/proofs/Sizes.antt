@@ -3,8 +3,8 @@
 use mathlib.Core.Path.{_≡_, refl, ap, sym, _∙_}
 use mathlib.Core.Bool.{true, cond}
 use mathlib.Core.List.{List, [], _∷_, map}
-use Prim.Native.Nat.{ℕ, zero, suc, pred, _+_, _*_, _-_, _^_, _≤_, _<_, _∣_}
-use native.Mathlib.Nat.{dvd-zero, dvd-trans, dvd-add, dvd-mul-left, le-refl, pow-zero, pow-succ', zero-add}
+use Prim.Native.Nat.{ℕ, zero, suc, pred, _+_, _*_, _-_, _≤_, _<_, _∣_}
+use native.Mathlib.Nat.{dvd-zero, dvd-trans, dvd-add, dvd-mul-left, le-refl, zero-add}
 use native.Mathlib.Omega.{arith}
 use borrow.Author.Tests.{lt-ltb, le-leb, lt-leb, eq-eqb, ne-eqb, ltb-true, ltb-false, eqb-true, eqb-false}
 use lib.Dec.{ltb, eqb}
@@ -15,20 +15,21 @@ use Rattle.store_types.specs.Layout.{at-height, at-count, at-first, word-at, la
 use Rattle.shape.specs.Tables.{entry}
 use Rattle.tree.specs.Good.{Good}
 use Rattle.tree.specs.Forest.{Forest, size, labels}
-use Rattle.tree.specs.Book.{base, power-width, labels-of}
+use Rattle.tree.specs.Book.{labels-of}
 use Rattle.tree.specs.Reach.{size-in}
 use Rattle.tree.specs.Promise.{Widths}
 use Rattle.tree_laws.proofs.Spread.{some-power}
-use Rattle.tree_laws.proofs.Labels.{trees, Rising, rising-lower, good-rising, power-widths, width-least}
+use Rattle.tree_laws.proofs.Labels.{trees, Rising, rising-lower, good-rising, width-least}
 use Rattle.tree_laws.proofs.Ancestors.{count-in, count-above, number-in, number-top, number-next, found, size-count}
 use Rattle.calls.specs.Store.{Store, count, row, width}
-use Rattle.calls.specs.Words.{Says, follow}
-use Rattle.calls_laws.proofs.WordSteps.{header-said, row-said, labels-said}
+use Rattle.calls.specs.Words.{Says, follow, header-width}
+use Rattle.calls_laws.proofs.Widths.{store-widths, header-unit, header-divides}
+use Rattle.calls_laws.proofs.WordSteps.{header-said, width-said, row-said, labels-said}
 use Rattle.walk_model.specs.Levels.{Tables, Levels, start-levels, place-label, labels-pass}
 use Rattle.walk_model.specs.Walk.{Shape, State, placed, passed, shape-of, start}
 use Rattle.walk_model.specs.Watch.{taken, place-sizes, close-sizes, walk-sizes, watched-label, watched-numbers, sizes-at}
 use Rattle.walk_model.proofs.Levels.{levels-right}
-use Rattle.walk_model.proofs.Shapes.{Header, tables-right}
+use Rattle.walk_model.proofs.Shapes.{Header, widths-given, tables-right}
 use Rattle.walk_model.proofs.WalkRight.{given, facts, good, row-walked}
 use Rattle.walk_model.proofs.Numbers.{numbers-below}
 use Rattle.walk_model.proofs.Aligned.{next-multiple, size-taken, Step, stays, opens, Long, Open-at, Divided, place-steps, nodes-after}
@@ -196,22 +197,24 @@ forest-sizes {s} {r} {w} {u} {t} s-least r-least widths tables long f good p fit
 
 -- IN WORDS THAT SAY A STORE: the sizes of the ancestors of a place p, where the label before it is watched (the first, where
 -- p is 0)
-power-tables : {ws : List ℕ} {s r u n : ℕ} → Header ws s r u n → Divided (power-width s r) u (shape-of ws .tables)
-unfolding power-width
-power-tables {s} {r} h =
+given-tables : {ws : List ℕ} {s r u n : ℕ} → Header ws s r u n → Divided (header-width ws) u (shape-of ws .tables)
+given-tables {ws} h =
     let t = tables-right h in
     record {
       fits = omega (arith, t .top-fits);
       wide = λ g l. t .widths g (omega arith);
-      first = pow-zero (base s r);
-      divides = λ g. rw (pow-succ' (base s r) g) (dvd-mul-left (base s r ^ g) (base s r));
-      least = λ g. width-least (h .degrees .s-least) (h .degrees .r-least) (power-widths s r) g;
+      first = header-unit ws;
+      divides = header-divides ws;
+      least = λ g. width-least (h .degrees .s-least) (h .degrees .r-least) (widths-given h) g;
     }
 
 module _ (ws : List ℕ) (st : Store) (said : Says ws st) (p y : ℕ) (fits : p ≤ count st) (some : 1 ≤ count st)
     (label-is : watched-label ws y ≡ getD (labels-of (width st) (st .book)) (p - 1) 0) where
   under-is : pred (word-at ws at-height) ≡ st .book .under
   under-is = ap pred (header-said ws st said .levels)
+
+  tables-said : Divided (width st) (st .book .under) (shape-of ws .tables)
+  tables-said = rw (width-said ws st said) at (given-tables (facts ws st said))
 
   -- the numbers that are watched
   numbers-watched : (h : ℕ) → 1 ≤ h → h ≤ st .book .under → entry (watched-numbers ws y) h ≡ number-in (st .book .root) (width st) (st .book .under) h p 0
@@ -221,8 +224,8 @@ module _ (ws : List ℕ) (st : Store) (said : Says ws st) (p y : ℕ) (fits : p 
       let as-many = given ws st said .as-many in
       let head = facts ws st said in
       rw (under-is, label-is)
-      (numbers-below (head .degrees .s-least) (head .degrees .r-least) (power-widths (k .s) (k .r)) (shape-of ws .tables .widths) (k .root) (k .under) p
-      (good ws st said) (omega arith) (omega arith) (power-tables head .wide) (omega (arith, tables-right head .top-fits)))
+      (numbers-below (head .degrees .s-least) (head .degrees .r-least) (store-widths st) (shape-of ws .tables .widths) (k .root) (k .under) p
+      (good ws st said) (omega arith) (omega arith) (tables-said .wide) (omega (arith, tables-right head .top-fits)))
 
   -- the labels that the walk meets
   labels-met : map (label-at ws) (follow (word-at ws at-count) ws (word-at ws at-first)) ≡ labels-of (width st) (st .book)
@@ -243,5 +246,5 @@ module _ (ws : List ℕ) (st : Store) (said : Says ws st) (p y : ℕ) (fits : p 
       rw (labels-said ws st said, under-is) at (row-walked ws st said levels-right .labels) in
       ap (λ (z : List ℕ). entry z (suc g)) (walk-labels ws (shape-of ws) (watched-numbers ws y) (word-at ws at-count) 0 (start ws) sz (zero-add _))
       ∙ rw (labels-met, under-is)
-      (forest-sizes (head .degrees .s-least) (head .degrees .r-least) (power-widths (k .s) (k .r)) (power-tables head) (tables-right head .long) (k .root)
+      (forest-sizes (head .degrees .s-least) (head .degrees .r-least) (store-widths st) tables-said (tables-right head .long) (k .root)
       (good ws st said) p (omega arith) (omega arith) pass (watched-numbers ws y) sz long g high (numbers-watched (suc g) low high))

@@ -13,21 +13,21 @@ use Rattle.lists.proofs.Tests.{and-left, and-right, and-both}
 use Rattle.store_types.specs.Layout.{at-s, at-r, at-height, at-count, at-first, at-next, word-at, field, label-at}
 use Rattle.tree.specs.Good.{Good}
 use Rattle.tree.specs.Forest.{Forest, leaves, labels, within-limits}
-use Rattle.tree.specs.Book.{power-width, root-within, book-within}
+use Rattle.tree.specs.Book.{root-within, book-within}
 use Rattle.tree_laws.proofs.Good.{good-of}
 use Rattle.tree_laws.proofs.Rows.{distinct-all-below}
-use Rattle.tree_laws.proofs.Labels.{power-widths}
 use Rattle.calls.specs.Store.{Store, count, row}
-use Rattle.calls.specs.Words.{Says, follow}
+use Rattle.calls.specs.Words.{Says, follow, header-width}
 use Rattle.calls_laws.proofs.Tests.{Sound, root-limits, facts-of}
+use Rattle.calls_laws.proofs.Heights.{sound-height}
 use Rattle.calls_laws.proofs.Fields.{Tag-says, tag-says}
-use Rattle.calls_laws.proofs.WordSteps.{words-fit, header-said, labels-said}
+use Rattle.calls_laws.proofs.WordSteps.{words-fit, header-said, width-said, labels-said}
 use Rattle.walk_model.specs.Levels.{start-levels, labels-pass}
 use Rattle.walk_model.specs.Walk.{header-passes, shape-of, start, walk, words-pass}
 use Rattle.walk_model.specs.Promise.{Levels-right, Walk-right}
 use Rattle.walk_model.proofs.Levels.{levels-right}
 use Rattle.walk_model.proofs.Passes.{Walked, walked, walks}
-use Rattle.walk_model.proofs.Shapes.{Header, header-facts, header-test, tables-right}
+use Rattle.walk_model.proofs.Shapes.{Header, header-facts, header-test, widths-given, tables-right}
 use Rattle.walk_model.proofs.Links.{linked}
 use Rattle.walk_model.proofs.KindPass.{kinds-same}
 use Rattle.walk_model.proofs.Counts.{marks-same}
@@ -41,11 +41,11 @@ some-tag {ws} {s} {r} {u} {n} h high =
 -- LABELS along a row of n tags
 row-labels : Levels-right → {ws : List ℕ} {s r u n : ℕ} → Header ws s r u n → (xs : List ℕ) → length xs ≡ n →
     (labels-pass (shape-of ws .tables) u 0 0 (start-levels (shape-of ws .tables)) (map (label-at ws) xs) ≡ true)
-    ↔ ((f : Forest) × Good s r f u × (leaves f ≡ xs) × (labels f (power-width s r) u 0 ≡ map (label-at ws) xs))
+    ↔ ((f : Forest) × Good s r f u × (leaves f ≡ xs) × (labels f (header-width ws) u 0 ≡ map (label-at ws) xs))
 unfolding Levels-right
 row-labels levels {ws} {s} {r} {u} {n} h xs l =
     let many : length (map (label-at ws) xs) ≡ n = length-map xs (label-at ws) ∙ l in
-    levels s r (power-width s r) (shape-of ws .tables) u xs (map (label-at ws) xs) (h .degrees .s-least) (h .degrees .r-least) (power-widths s r)
+    levels s r (header-width ws) (shape-of ws .tables) u xs (map (label-at ws) xs) (h .degrees .s-least) (h .degrees .r-least) (widths-given h)
     (tables-right h) (l ∙ sym many) (rw many (h .below)) (rw many (some-tag h))
 
 length-follow : (n : ℕ) (ws : List ℕ) (x : ℕ) → length (follow n ws x) ≡ n
@@ -87,10 +87,11 @@ module _ (ws : List ℕ) (st : Store) (h : Says ws st) where
         degree-r = head .degree-r;
         levels = head .levels;
         issued = head .issued;
+        high = sound-height given;
         degrees = given .degrees;
         few = given .few;
         room = words-fit ws st h;
-        labels-fit = given .labels-fit;
+        labels-fit = rw (width-said ws st h) (given .labels-fit);
         below = root-limits given .0;
         least = root-limits given .1;
       }
@@ -113,7 +114,7 @@ module _ (ws : List ℕ) (st : Store) (h : Says ws st) where
         links = rw (head .issued, head .first)
             (linked ws (count st) (row st) once below (λ x l. says x l .next-word) (λ x l. says x l .prior-word));
         labels = rw under
-            (row-labels levels facts (row st) (given .as-many) .1 (st .book .root, good, refl, sym (labels-said ws st h)));
+            (row-labels levels facts (row st) (given .as-many) .1 (st .book .root, good, refl, rw (width-said ws st h) (sym (labels-said ws st h))));
         kinds = rw (head .issued, kinds-same ws st (given .few) says (row st) below) (given .nesting);
         stamp = rw (head .issued, head .stamp, marks) (omega (arith, given .stamp-fits));
       }

@@ -5,10 +5,11 @@ use mathlib.Core.List.{List}
 use Prim.Native.Nat.{ℕ, zero, suc, pred, _+_, _*_, _-_, _^_, _%_}
 use lib.Dec.{ltb, leb, eqb}
 use lib.ListN.{length, replicate}
-use Rattle.store_types.specs.Limits.{no-tag, most-tags, label-limit}
+use Rattle.store_types.specs.Limits.{no-tag, most-tags, most-levels}
 use Rattle.store_types.specs.Layout.{at-version, at-s, at-r, at-height, at-count, at-first, at-stamp, header-words, at-next, at-prior, at-mate, at-up, at-kind, word-at, words-for, field, label-at}
-use Rattle.tree.specs.Book.{power-width}
+use Rattle.calls.specs.Store.{labels-fit}
 use Rattle.calls.specs.Sound.{degrees-fit}
+use Rattle.calls.specs.Words.{header-width}
 use Rattle.shape.specs.Tables.{entry, widths-of, lows-of, highs-of}
 use Rattle.walk_model.specs.Levels.{Tables, Levels, Settled, place-label, all-close}
 
@@ -88,9 +89,9 @@ header-passes ws =
     let r = word-at ws at-r in
     let h = word-at ws at-height in
     let n = word-at ws at-count in
-    ((leb header-words (length ws) && eqb (word-at ws at-version) 1) && (degrees-fit s r && leb 1 h))
+    ((leb header-words (length ws) && eqb (word-at ws at-version) 1) && (degrees-fit s r && (leb 1 h && leb h most-levels)))
     && ((leb n most-tags && leb (words-for header-words n) (length ws))
-    && (leb (power-width s r h) label-limit && (ltb n (s * r ^ h) && (eqb h 1 || leb (2 * r ^ pred h) n))))
+    && (labels-fit (header-width ws) h && (ltb n (s * r ^ h) && (eqb h 1 || leb (2 * r ^ pred h) n))))
 
 unfoldable pub shape-of : List ℕ → Shape
 shape-of ws =

@@ -41,20 +41,20 @@ returns-2 c = let start = c .before .before .before .before in room-short _ (sta
 shared-slice-read-s : tie.Need-shared-slice-read-s
 shared-slice-read-s c = search needs
 
-cast-s : tie.Need-cast-s
-cast-s c = omega (arith, fits (c .before .before .before .before .before))
-
 shared-slice-read-r : tie.Need-shared-slice-read-r
 shared-slice-read-r c = search needs
-
-cast-r : tie.Need-cast-r
-cast-r c = omega (arith, fits (c .before .before .before .before .before .before))
 
 shared-slice-read-h : tie.Need-shared-slice-read-h
 shared-slice-read-h c = search needs
 
 cast-table : tie.Need-cast-table
 cast-table c = omega (arith, fits (c .before .before .before .before .before .before .before))
+
+cast-table-2 : tie.Need-cast-table-2
+cast-table-2 c = omega (arith, fits (c .before .before .before .before .before .before .before))
+
+cast-table-3 : tie.Need-cast-table-3
+cast-table-3 c = omega (arith, fits (c .before .before .before .before .before .before .before))
 
 table-requires : tie.Need-table-requires
 table-requires c κs = highs-fit (fits-of (fits (c .before .before .before .before .before .before .before)))
@@ -77,30 +77,24 @@ returns-3 c =
     let start = tests .before .before .before .before in
     room-below _ (start .pre .0) _ (tests .before .if1 .left) (tests .if2 .left) (rw (last-power _ _ _ (c .before .table .ensures)) at (c .if3 .taken))
 
-mul-power-fits : tie.Need-mul-power-fits
-mul-power-fits c = omega (arith, fits (c .before .before .before .before .before .before .before .before .before))
+add-height-fits : tie.Need-add-height-fits
+add-height-fits c = omega (arith, fits (c .before .before .before .before .before .before .before .before .before))
 
-sub-power-fits : tie.Need-sub-power-fits
-sub-power-fits c = omega (arith, fits (c .before .before .before .before .before .before .before .before .before))
-
-add-power-fits : tie.Need-add-power-fits
-add-power-fits c = omega (arith, fits (c .before .before .before .before .before .before .before .before .before))
-
-power-fits-requires : tie.Need-power-fits-requires
-power-fits-requires c κs = omega (arith, fits (c .before .before .before .before .before .before .before .before .before))
+height-fits-requires : tie.Need-height-fits-requires
+height-fits-requires c κs = fits (c .before .before .before .before .before .before .before .before .before) .product
 
 returns-4 : tie.Need-returns-4
 returns-4 c =
     let tests = c .before .before .before .before .before .before .before in
     let start = tests .before .before .before .before in
-    room-fits _ (start .pre .0) _ (tests .before .if1 .left) (tests .if2 .left) (c .before .power-fits .ensures) (c .if4 .taken)
+    room-fits _ (start .pre .0) _ (tests .before .if1 .left) (tests .if2 .left) (c .before .height-fits .ensures) (c .if4 .taken)
 
 returns-5 : tie.Need-returns-5
 returns-5 c =
     let limit = c .before .before in
     let tests = limit .before .before .before .before .before in
     let start = tests .before .before .before .before in
-    room-none _ (start .pre .0) _ (tests .before .if1 .left) (tests .if2 .left) (c .before .power-fits .ensures) (c .if4 .left)
+    room-none _ (start .pre .0) _ (tests .before .if1 .left) (tests .if2 .left) (c .before .height-fits .ensures) (c .if4 .left)
     (rw (last-power _ _ _ (limit .before .table .ensures)) at (limit .if3 .left))
 
 pub room-refused-spec : {M : Type 1} → statement M
@@ -115,20 +109,18 @@ room-refused-spec =
     add-if2
     returns-2
     shared-slice-read-s
-    cast-s
     shared-slice-read-r
-    cast-r
     shared-slice-read-h
     cast-table
+    cast-table-2
+    cast-table-3
     table-requires
     cast-if3
     cast-if3-2
     mul-if3
     array-read-if3
     returns-3
-    mul-power-fits
-    sub-power-fits
-    add-power-fits
-    power-fits-requires
+    add-height-fits
+    height-fits-requires
     returns-4
     returns-5)

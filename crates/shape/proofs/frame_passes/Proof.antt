@@ -1,9 +1,7 @@
 -- `shape::frame_passes` meets its contract. Assumes nothing.
-use Prim.Native.Nat.{_*_, _≤_}
-use native.Mathlib.Omega.{arith}
 use borrow.Author.Needs.{needs}
-use Rattle.store_types.specs.Layout.{at-s, at-r, word-at}
-use Rattle.shape.proofs.HeaderLaws.{degree-range, degrees-product, frame-short, frame-version, frame-s, frame-r, frame-height, frame-count, frame-words, frame-power}
+use Rattle.shape.proofs.Fits.{degrees-product}
+use Rattle.shape.proofs.HeaderLaws.{degree-range, frame-short, frame-version, frame-s, frame-r, frame-height, frame-levels, frame-count, frame-words, frame-labels}
 use Rattle.shape.proofs.frame_passes.Statement.{statement}
 use Rattle.shape.proofs.frame_passes.Tie as tie
 
@@ -40,53 +38,39 @@ shared-slice-read-h c = search needs
 returns-5 : tie.Need-returns-5
 returns-5 c = frame-height _ (c .if5 .taken)
 
+returns-6 : tie.Need-returns-6
+returns-6 c = frame-levels _ (c .if6 .taken)
+
 shared-slice-read-n : tie.Need-shared-slice-read-n
 shared-slice-read-n c = search needs
 
-returns-6 : tie.Need-returns-6
-returns-6 c = frame-count _ (c .if6 .taken)
-
-cast-if7 : tie.Need-cast-if7
-cast-if7 c = search needs
-
-mul-if7 : tie.Need-mul-if7
-mul-if7 c = search needs
-
-add-if7 : tie.Need-add-if7
-add-if7 c = search needs
-
 returns-7 : tie.Need-returns-7
-returns-7 c = frame-words _ (c .if7 .taken)
+returns-7 c = frame-count _ (c .if7 .taken)
 
--- what the tests say of s, r and f
-degrees : (c : tie.Else7) → let ws = c .before .before .before .before .before .before .before .before .before .before .before .before .before .before .before .args .words .now in (word-at ws at-s ≤ 16) × (word-at ws at-r ≤ 16) × (4 ≤ word-at ws at-s * word-at ws at-r) × (word-at ws at-s * word-at ws at-r ≤ 256)
-degrees c =
-    let second = c .before .before .before .before .before .before in
-    let s = degree-range _ (second .before .before .before .degree-fits .ensures) (second .before .before .if3 .left) in
-    let r = degree-range _ (second .degree-fits2 .ensures) (c .before .before .before .before .before .if4 .left) in
-    let f = degrees-product (s .0) (s .1) (r .0) (r .1) in
-    (s .1, r .1, f .0, f .1)
+cast-if8 : tie.Need-cast-if8
+cast-if8 c = search needs
 
-cast-power-fits : tie.Need-cast-power-fits
-cast-power-fits c = omega (arith, degrees c)
+mul-if8 : tie.Need-mul-if8
+mul-if8 c = search needs
 
-cast-power-fits-2 : tie.Need-cast-power-fits-2
-cast-power-fits-2 c = omega (arith, degrees c)
-
-mul-power-fits : tie.Need-mul-power-fits
-mul-power-fits c = omega (arith, degrees c)
-
-sub-power-fits : tie.Need-sub-power-fits
-sub-power-fits c = omega (arith, degrees c)
-
-power-fits-requires : tie.Need-power-fits-requires
-power-fits-requires c κs = omega (arith, degrees c)
+add-if8 : tie.Need-add-if8
+add-if8 c = search needs
 
 returns-8 : tie.Need-returns-8
-returns-8 c =
-    let d = c .before .before .before .before .before .before .before in
+returns-8 c = frame-words _ (c .if8 .taken)
+
+height-fits-requires : tie.Need-height-fits-requires
+height-fits-requires c κs =
+    let second = c .before .before .before .before .before .before .before in
+    let s = degree-range _ (second .before .before .before .degree-fits .ensures) (second .before .before .if3 .left) in
+    let r = degree-range _ (second .degree-fits2 .ensures) (c .before .before .before .before .before .before .if4 .left) in
+    degrees-product (s .0) (s .1) (r .0) (r .1)
+
+returns-9 : tie.Need-returns-9
+returns-9 c =
+    let d = c .before .before .before .before .before .before .before .before in
     let e = d .before .before .before in
-    frame-power _ (e .before .before .before .before .if1 .left) (e .before .before .if2 .left) (e .degree-fits .ensures) (d .before .before .if3 .left) (d .degree-fits2 .ensures) (c .before .before .before .before .before .before .if4 .left) (c .before .before .before .before .if5 .left) (c .before .before .if6 .left) (c .before .if7 .left) (c .power-fits .ensures)
+    frame-labels _ (e .before .before .before .before .if1 .left) (e .before .before .if2 .left) (e .degree-fits .ensures) (d .before .before .if3 .left) (d .degree-fits2 .ensures) (c .before .before .before .before .before .before .before .if4 .left) (c .before .before .before .before .before .if5 .left) (c .before .before .before .before .if6 .left) (c .before .before .if7 .left) (c .before .if8 .left) (c .height-fits .ensures)
 
 pub frame-passes-spec : {M : Type 1} → statement M
 frame-passes-spec =
@@ -103,15 +87,12 @@ frame-passes-spec =
     returns-4
     shared-slice-read-h
     returns-5
-    shared-slice-read-n
     returns-6
-    cast-if7
-    mul-if7
-    add-if7
+    shared-slice-read-n
     returns-7
-    cast-power-fits
-    cast-power-fits-2
-    mul-power-fits
-    sub-power-fits
-    power-fits-requires
-    returns-8)
+    cast-if8
+    mul-if8
+    add-if8
+    returns-8
+    height-fits-requires
+    returns-9)

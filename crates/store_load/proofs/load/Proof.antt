@@ -3,9 +3,8 @@ use mathlib.Core.Path.{_≡_, sym, _∙_}
 use Prim.Native.Nat.{_*_, _≤_}
 use borrow.Author.Tests.{not-true, not-false}
 use lib.ListN.{length}
-use Rattle.tree.specs.Book.{base}
 use Rattle.calls.specs.Load.{load-refusal}
-use Rattle.shape.proofs.HeaderLaws.{degrees-product}
+use Rattle.shape.proofs.Fits.{degrees-product}
 use Rattle.load_refuse.proofs.Height.{height-most}
 use Rattle.store_load.proofs.Outcome.{Passed, passed, early, too-wide, none-refused, refused-with, header-room, tags-fit, accepted-reply, room-for-trees, all-written}
 use borrow.Author.Needs.{needs}
@@ -27,9 +26,9 @@ f-range : (c : tie.Else1) → let a = c .before .before .before .before .args in
 f-range c = let d = ok c .degrees in degrees-product (d .s-least) (d .s-most) (d .r-least) (d .r-most)
 
 -- and so has the last
-none : (c : tie.Else2) → let a = c .before .before .before .before .before .before .before .before .args in load-refusal (length (a .words .now)) (a .s) (a .r) (a .kinds .now) ≡ 0
+none : (c : tie.Else2) → let a = c .before .before .before .before .before .before .before .args in load-refusal (length (a .words .now)) (a .s) (a .r) (a .kinds .now) ≡ 0
 none c =
-    none-refused _ _ _ _ (ok (c .before .before .before .before)) _ _ (c .before .before .before .load-under .ensures) (c .before .before .base .ensures) (sym (c .before .power-fits .ensures) ∙ not-false _ (c .if2 .left))
+    none-refused _ _ _ _ (ok (c .before .before .before)) _ (c .before .before .load-under .ensures) (sym (c .before .height-fits .ensures) ∙ not-false _ (c .if2 .left))
 
 cast-n : tie.Need-cast-n
 cast-n c = omega (arith, ok c .few)
@@ -50,18 +49,17 @@ height-few c =
 add-h : tie.Need-add-h
 add-h c = omega (arith, height-few c)
 
-base-requires : tie.Need-base-requires
-base-requires c κs = f-range (c .before)
-
-power-fits-requires : tie.Need-power-fits-requires
-unfolding base
-power-fits-requires c κs = omega (arith, c .base .ensures, f-range (c .before .before))
+height-fits-requires : tie.Need-height-fits-requires
+height-fits-requires c κs = f-range (c .before)
 
 returns-2 : tie.Need-returns-2
 returns-2 c =
     refused-with _ _ _ _ _ _
-    (too-wide _ _ _ _ (ok (c .before .before .before .before)) _ _ (c .before .before .before .load-under .ensures) (c .before .before .base .ensures) (sym (c .before .power-fits .ensures) ∙ not-true _ (c .if2 .taken)))
+    (too-wide _ _ _ _ (ok (c .before .before .before)) _ (c .before .before .load-under .ensures) (sym (c .before .height-fits .ensures) ∙ not-true _ (c .if2 .taken)))
     (λ e. omega arith)
+
+base-requires : tie.Need-base-requires
+base-requires c κs = f-range (c .before .before .before)
 
 write-header-requires : tie.Need-write-header-requires
 write-header-requires c κs = header-room (ok (c .before .before .before .before .before))
@@ -73,7 +71,7 @@ write-tags-requires : tie.Need-write-tags-requires
 write-tags-requires c κs =
     let a = c .before .before .before .before .before .before .before .before .before .before .before .before .before .args in (
       tags-fit _ _ _ _ _ _ _ (ok (c .before .before .before .before .before .before .before .before .before)) (c .before .before .before .write-header .ensures),
-      room-for-trees _ _ (a .book) (a .kinds .now) (a .words .now) _ _ (c .before .before .before .before .before .before .before .before .load-under .ensures) (c .before .before .before .before .before .before .before .base .ensures) (none (c .before .before .before .before .before)),
+      room-for-trees _ _ (a .book) (a .kinds .now) (a .words .now) _ _ (c .before .before .before .before .before .before .before .before .load-under .ensures) (c .before .before .before .before .before .base .ensures) (none (c .before .before .before .before .before .before)),
     )
 
 same-length : tie.Need-same-length
@@ -82,8 +80,8 @@ same-length c = search needs
 returns-3 : tie.Need-returns-3
 returns-3 c =
     let height = c .before .before .before .before .before .before .before .before .before .before .before .load-under .ensures in
-    let of-base = c .before .before .before .before .before .before .before .before .before .before .base .ensures in
-    let free = none (c .before .before .before .before .before .before .before .before) in (
+    let of-base = c .before .before .before .before .before .before .before .before .base .ensures in
+    let free = none (c .before .before .before .before .before .before .before .before .before) in (
       accepted-reply _ _ _ _ _ _ _ height of-base free,
       all-written _ _ _ _ _ _ _ height of-base free _ _ (c .before .before .before .before .before .before .write-header .ensures) (c .before .before .write-tags .ensures),
     )
@@ -98,9 +96,9 @@ load-spec =
     cast-load-under
     load-under-requires
     add-h
-    base-requires
-    power-fits-requires
+    height-fits-requires
     returns-2
+    base-requires
     write-header-requires
     cast-write-tags
     write-tags-requires

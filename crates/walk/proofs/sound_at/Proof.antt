@@ -5,7 +5,7 @@ use mathlib.Core.Path.{sym}
 use native.Mathlib.Omega.{arith}
 use Rattle.walk_levels.proofs.SizeLaws.{never}
 use Rattle.shape.proofs.Fits.{widths-fit, lows-fit, highs-fit}
-use Rattle.walk.proofs.SoundLaws.{framed-fits, Frame, frame, high, f-range, root-fits, ancestors-fit, pass-fits, frame-refuses, root-refuses, pass-decides, sizes-taken}
+use Rattle.walk.proofs.SoundLaws.{framed-fits, Frame, frame, f-range, root-fits, ancestors-fit, pass-fits, frame-refuses, root-refuses, pass-decides, sizes-taken}
 use Rattle.walk.proofs.sound_at.Statement.{statement}
 use Rattle.walk.proofs.sound_at.Tie as tie
 
@@ -34,7 +34,7 @@ shared-slice-read-h : tie.Need-shared-slice-read-h
 shared-slice-read-h c = omega (arith, framed (c .before .before .before))
 
 cast-h : tie.Need-cast-h
-cast-h c = omega (arith, high _ (framed (c .before .before .before)))
+cast-h c = omega (arith, framed (c .before .before .before) .high)
 
 shared-slice-read-n : tie.Need-shared-slice-read-n
 shared-slice-read-n c = omega (arith, framed (c .before .before .before .before))
