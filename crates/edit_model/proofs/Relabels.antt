@@ -2,8 +2,7 @@
 use mathlib.Core.Path.{_≡_, refl, ap, sym, _∙_}
 use mathlib.Core.Bool.{true, false, _||_, cond, or-true}
 use mathlib.Core.List.{List, [], _∷_, _++_, map, append-assoc, map-append}
-use Prim.Native.Nat.{ℕ, zero, suc, pred, _+_, _-_, _%_, _≤_, _<_}
-use native.Mathlib.Nat.{mod-eq-of-lt, mod-mod, mod-add-mod}
+use Prim.Native.Nat.{ℕ, zero, suc, pred, _+_, _-_, _≤_, _<_}
 use native.Mathlib.Omega.{arith}
 use borrow.Author.Tests.{ltb-true, ltb-false, le-leb, lt-leb}
 use lib.Dec.{leb, ltb, eqb}
@@ -14,7 +13,9 @@ use Rattle.lists.proofs.Tests.{by-test}
 use Rattle.store_types.specs.Layout.{at-next, field, label-at, with-label}
 use Rattle.tree.specs.Forest.{Forest, nil, leaf, node, labels}
 use Rattle.edit_model.specs.Image.{Image, image-words, with-labels}
-use Rattle.edit_model.specs.Relabel.{relabel, cut, shift}
+use Rattle.shape.specs.Sums.{cut}
+use Rattle.shape.proofs.Sums.{cut-below, cut-twice, cut-added}
+use Rattle.edit_model.specs.Relabel.{relabel, shift}
 use Rattle.edit_model.proofs.Image.{Proper, proper-with-labels, tag-below, label-written}
 use Rattle.edit_model.proofs.Along.{label-of-place, next-at}
 use Rattle.edit_model.proofs.Differ.{differ}
@@ -79,23 +80,14 @@ module _ {v : Image} (h : Proper v) (rest ls : List ℕ) (i k : ℕ) (many : len
   pub relabel-moved : relabel (take k (drop i (v .tags))) ls (image-words v ++ rest) .moved ≡ differ (take k (drop i (v .labels))) ls
   relabel-moved = rw (← many, relabel-sets h rest ls i (omega arith))
 
--- LABELS AS WORDS: one that fits is as it was, and so are all of a list
-pub cut-below : (l : ℕ) → l < word-limit → cut l ≡ l
-unfolding cut
-cut-below l small = mod-eq-of-lt small
-
+-- LABELS AS WORDS: where all of a list fit they are as they were
 pub cut-all : (ls : List ℕ) → ((i : ℕ) → i < length ls → getD ls i 0 < word-limit) → map cut ls ≡ ls
 cut-all [] small = refl
 cut-all (l ∷ ls) small = rw (cut-below l (small 0 (omega arith)), cut-all ls (λ i n. small (suc i) (omega arith)))
 
-pub cut-twice : (a : ℕ) → cut (cut a) ≡ cut a
-unfolding cut
-cut-twice a = mod-mod a word-limit
-
 -- numbers of which the same is left, with the same added, and the labels from them
 cut-add : (a c d : ℕ) → cut a ≡ cut c → cut (a + d) ≡ cut (c + d)
-unfolding cut
-cut-add a c d e = sym (mod-add-mod a word-limit d) ∙ ap (λ (n : ℕ). (n + d) % word-limit) e ∙ mod-add-mod c word-limit d
+cut-add a c d e = sym (cut-added a d) ∙ ap (λ (n : ℕ). cut (n + d)) e ∙ cut-added c d
 
 labels-alike : (f : Forest) (w : ℕ → ℕ) (j a c : ℕ) → cut a ≡ cut c → map cut (labels f w j a) ≡ map cut (labels f w j c)
 unfolding labels

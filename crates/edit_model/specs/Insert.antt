@@ -10,7 +10,8 @@ use Rattle.shape.specs.Tables.{entry, widths-of, highs-of}
 use Rattle.tree.specs.Forest.{labels, spread}
 use Rattle.calls.specs.Words.{follow}
 use Rattle.walk_model.specs.Watch.{ancestor-numbers, sizes-at}
-use Rattle.edit_model.specs.Relabel.{Relabelled, relabel, along, cut, shift}
+use Rattle.shape.specs.Sums.{cut}
+use Rattle.edit_model.specs.Relabel.{Relabelled, relabel, along, shift}
 use Rattle.edit_model.specs.Split.{highest-full, left-of}
 
 -- the tag behind a place: the first where the place is the front

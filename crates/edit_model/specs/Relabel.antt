@@ -1,9 +1,9 @@
 -- Labels written along next. Follows the code of crate renumber. Assumes nothing: these are definitions.
 use mathlib.Core.Bool.{_||_, cond}
 use mathlib.Core.List.{List, [], _∷_}
-use Prim.Native.Nat.{ℕ, zero, suc, _+_, _%_}
+use Prim.Native.Nat.{ℕ, zero, suc, _+_}
 use lib.Dec.{leb, eqb}
-use Rattle.store_types.specs.Limits.{word-limit}
+use Rattle.shape.specs.Sums.{cut}
 use Rattle.store_types.specs.Layout.{at-next, field, label-at, with-label}
 
 -- the words afterwards, and how many tags held another label before
@@ -23,10 +23,6 @@ relabel (x ∷ xs) (l ∷ ls) ws =
 unfoldable pub along : (steps : ℕ) → List ℕ → (tag : ℕ) → ℕ
 along zero ws x = x
 along (suc n) ws x = along n ws (field ws x at-next)
-
--- a label as a word: what a sum of numbers leaves of 32 bits (in a sound store every label fits, and this changes nothing)
-unfoldable pub cut : ℕ → ℕ
-cut l = l % word-limit
 
 -- `by` is added to each label from a tag on, as long as the tag is one of n and its label is below
 -- a bound; `most` bounds the steps

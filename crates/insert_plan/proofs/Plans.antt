@@ -16,7 +16,8 @@ use Rattle.store_types.specs.Layout.{at-next, field, label-at, with-label}
 use Rattle.shape.specs.Tables.{entry, entry-limit}
 use Rattle.tree.specs.Forest.{spread}
 use Rattle.calls.specs.Words.{follow}
-use Rattle.edit_model.specs.Relabel.{Relabelled, cut, shift}
+use Rattle.shape.specs.Sums.{cut}
+use Rattle.edit_model.specs.Relabel.{Relabelled, shift}
 use Rattle.walk_model.specs.Watch.{ancestor-numbers}
 use Rattle.edit_model.specs.Split.{highest-full, left-of}
 use Rattle.edit_model.specs.Insert.{Plan, place-label, numbers-at, plain-plan, root-plan, split-plan, plan, behind, applied}

@@ -2,7 +2,7 @@
 use mathlib.Core.List.{List}
 use Prim.Native.Nat.{ℕ, _≤_}
 use Rattle.shape.specs.Tables.{entry, entry-limit}
-use Rattle.edit_model.specs.Relabel.{cut}
+use Rattle.shape.specs.Sums.{cut}
 use Rattle.edit_model.specs.Insert.{Plan, behind}
 use Rattle.walk_levels.specs.Needs.{Ancestors-fit}
 use Rattle.renumber.specs.Needs.{Row-there, Trees-fit}

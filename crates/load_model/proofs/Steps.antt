@@ -3,18 +3,18 @@ use mathlib.Core.Path.{_≡_, refl, ap, sym, _∙_}
 use mathlib.Core.Bool.{cond}
 use mathlib.Core.List.{List}
 use Prim.Native.Nat.{ℕ, zero, suc, _+_, _*_, _-_, _^_, _≤_, _<_}
-use native.Mathlib.Nat.{suc-mul, mul-assoc, zero-add, pow-succ', pow-le-pow-right, mul-le-mul-right, lt-of-mul-lt-mul-right, mod-add-mod}
+use native.Mathlib.Nat.{suc-mul, mul-assoc, zero-add, pow-succ', pow-le-pow-right, mul-le-mul-right, lt-of-mul-lt-mul-right}
 use native.Mathlib.Omega.{arith}
 use borrow.Author.Tests.{le-leb, lt-leb, leb-true, leb-false, eqb-true, eqb-false, eq-eqb, ne-eqb, ltb-true, ltb-false}
 use lib.Dec.{leb, eqb, ltb}
 use lib.ListN.{length, getD, set, length-set}
 use lib.Seq.{getD-set-same, getD-set-other}
-use Rattle.store_types.specs.Limits.{word-limit}
 use Rattle.lists.proofs.Tests.{by-test}
 use Rattle.shape.specs.Tables.{entry}
 use Rattle.tree.specs.Forest.{labels, spread}
 use Rattle.tree_laws.proofs.Spread.{some-power}
-use Rattle.edit_model.specs.Relabel.{cut}
+use Rattle.shape.specs.Sums.{cut}
+use Rattle.shape.proofs.Sums.{cut-added}
 use Rattle.load_model.specs.Begins.{next-begin, begun, First-begins}
 use Rattle.load_model.proofs.Places.{Holds, raised, place-label}
 
@@ -106,10 +106,6 @@ raised-none d (suc u) = omega (arith, raised-none d u)
 first-cut : 0 ≡ cut (0 + 0)
 unfolding cut
 first-cut = refl
-
-cut-added : (a y : ℕ) → cut (cut a + y) ≡ cut (a + y)
-unfolding cut
-cut-added a y = mod-add-mod a word-limit y
 
 -- THE STATE at place i: the nodes of heights up to j that hold it, those above that hold the place before, where the next ones
 -- begin, and the label that all of them give

@@ -7,7 +7,7 @@ use Prim.Native.Nat.{ℕ, zero, suc, _+_, _*_, _≤_, _<_}
 use lib.Dec.{leb, eqb}
 use lib.ListN.{length, set}
 use Rattle.shape.specs.Tables.{entry}
-use Rattle.edit_model.specs.Relabel.{cut}
+use Rattle.shape.specs.Sums.{cut}
 
 -- behind a node over e leaves that begins at place i of n, the place where the next one of its height begins: n where there is
 -- none, since the last takes all that remain

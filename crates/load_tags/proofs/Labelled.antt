@@ -14,7 +14,7 @@ use Rattle.tree.specs.Forest.{labels, leaves, spread}
 use Rattle.tree_laws.proofs.Labels.{length-labels}
 use Rattle.tree_laws.proofs.Spread.{leaves-spread-zero, leaves-spread}
 use Rattle.calls_laws.proofs.Reader.{getD-map}
-use Rattle.edit_model.specs.Relabel.{cut}
+use Rattle.shape.specs.Sums.{cut}
 use Rattle.load_model.specs.Begins.{begun, First-begins}
 use Rattle.load_model.proofs.Steps.{Abreast, Tables-say, abreast-first, abreast-next, begun-all, abreast-label}
 use Rattle.load_tags.specs.Tags.{labels-new, Trees-fit, Entries-fit}

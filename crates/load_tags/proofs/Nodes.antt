@@ -11,7 +11,7 @@ use lib.Seq.{getD-set-same, getD-set-other}
 use Rattle.store_types.specs.Limits.{word-limit}
 use Rattle.lists.proofs.Tests.{by-test}
 use Rattle.shape.specs.Tables.{entry}
-use Rattle.edit_model.specs.Relabel.{cut}
+use Rattle.shape.specs.Sums.{cut}
 use Rattle.load_model.specs.Begins.{next-begin, Front, begun, First-begins}
 
 -- BEHIND THE FIRST NODES, height by height

@@ -10,7 +10,7 @@ use Rattle.store_types.specs.Layout.{header-words, at-next, at-prior, at-mate, 
 use Rattle.lists.specs.Lists.{numbers}
 use Rattle.shape.specs.Tables.{entry, entry-limit}
 use Rattle.tree.specs.Forest.{labels, spread}
-use Rattle.edit_model.specs.Relabel.{cut}
+use Rattle.shape.specs.Sums.{cut}
 use Rattle.calls.specs.Kind.{kind-of, kind-word}
 use Rattle.calls.specs.Store.{Fact, fact-in}
 use Rattle.calls.specs.Nesting.{nests, new-facts}

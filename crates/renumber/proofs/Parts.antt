@@ -6,16 +6,18 @@ use native.Mathlib.Nat.{suc-mul, one-mul, add-zero}
 use native.Mathlib.Numerals.{sub-one}
 use native.Mathlib.Omega.{arith}
 use lib.ListN.{length, length-map}
-use Rattle.store_types.specs.Limits.{word-limit}
+use Rattle.store_types.specs.Limits.{label-limit}
 use Rattle.shape.specs.Tables.{entry}
 use Rattle.tree.specs.Forest.{labels, spread, parts}
 use Rattle.tree_laws.proofs.Labels.{length-labels}
 use Rattle.tree_laws.proofs.Spread.{parts-none, parts-one, parts-more, spread-suc, leaves-below, parts-in, some-power, lower-power}
 use Rattle.calls.specs.Words.{follow}
-use Rattle.edit_model.specs.Relabel.{Relabelled, relabel, along, cut}
+use Rattle.shape.specs.Sums.{cut}
+use Rattle.shape.proofs.Sums.{cut-small}
+use Rattle.edit_model.specs.Relabel.{Relabelled, relabel, along}
 use Rattle.edit_model.proofs.Relabels.{relabel-append-words, relabel-append-moved, labels-cut}
 use Rattle.renumber.specs.Needs.{Row-there, Trees-fit, Row-numbered, Part-size, leaves-numbered, trees-numbered}
-use Rattle.renumber.proofs.Rows.{Same-next, follow-same, relabel-keeps-next, length-follow, take-follow, drop-follow, relabel-none, cut-small, follow-add, moved-most, leaf-widths, On-way, on}
+use Rattle.renumber.proofs.Rows.{Same-next, follow-same, relabel-keeps-next, length-follow, take-follow, drop-follow, relabel-none, follow-add, moved-most, leaf-widths, On-way, on}
 
 -- so many parts of e tags over what is left of a row, each a tree of height j
 unfoldable pub parts-numbered : (ws widths : List ℕ) → (r j e p a x left : ℕ) → Relabelled
@@ -148,7 +150,7 @@ module _ {r j a count : ℕ} {w l : List ℕ} (h : Trees-fit r j a count w l) (l
   pub each-parts : Parts-left (count / entry l j) (entry l j) count
   each-parts = all-parts (entry l j) count each-some (omega (arith, each-power, h .least low))
 
-  pub fit-below : (at size : ℕ) → at < word-limit → entry l j ≤ size → Trees-fit r (j - 1) at size w l
+  pub fit-below : (at size : ℕ) → at < label-limit → entry l j ≤ size → Trees-fit r (j - 1) at size w l
   fit-below at size small least =
       let one : suc (j - 1) ≡ j = omega arith in
       record {

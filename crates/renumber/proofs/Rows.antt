@@ -3,17 +3,19 @@ use mathlib.Core.Path.{_≡_, refl, ap, sym, _∙_}
 use mathlib.Core.Bool.{Bool, true, false, cond}
 use mathlib.Core.List.{List, [], _∷_, _++_}
 use Prim.Native.Nat.{ℕ, zero, suc, _+_, _-_, _≤_, _<_}
-use native.Mathlib.Nat.{zero-add, add-zero, suc-add, mod-lt}
+use native.Mathlib.Nat.{zero-add, add-zero, suc-add}
 use native.Mathlib.Omega.{arith}
 use borrow.Author.Tests.{eq-eqb, ne-eqb}
 use lib.Dec.{eqb}
 use lib.ListN.{length, take, drop, take-append-drop}
-use Rattle.store_types.specs.Limits.{word-limit}
+use Rattle.store_types.specs.Limits.{label-limit}
 use Rattle.store_types.specs.Layout.{at-next, field, label-at, with-label, Room}
 use Rattle.words.proofs.Fields.{room, records-kept, field-past-label, length-with-label}
 use Rattle.tree.specs.Forest.{labels, leaf-row}
 use Rattle.calls.specs.Words.{follow}
-use Rattle.edit_model.specs.Relabel.{Relabelled, relabel, along, cut}
+use Rattle.shape.specs.Sums.{cut}
+use Rattle.shape.proofs.Sums.{cut-small}
+use Rattle.edit_model.specs.Relabel.{Relabelled, relabel, along}
 use Rattle.edit_model.proofs.Relabels.{labels-cut}
 use Rattle.renumber.specs.Needs.{Row-there, Row-numbered, leaves-numbered}
 
@@ -87,11 +89,6 @@ same-label {o} {f} {l} e same = rw (eq-eqb f l (sym e ∙ same))
 pub other-label : {o f l : ℕ} → o ≡ f → (o ≡ l → ⊥) → _≡_ {A = ℕ} 1 (cond (eqb f l) 0 1)
 other-label {o} {f} {l} e other = rw (ne-eqb f l (λ same. other (e ∙ same)))
 
--- a number as a label fits a word
-pub cut-small : (a : ℕ) → cut a < word-limit
-unfolding cut
-cut-small a = mod-lt a (omega arith)
-
 -- leaves take the width of height 0
 pub leaf-widths : (xs : List ℕ) (u v : ℕ → ℕ) (a : ℕ) → u 0 ≡ v 0 → labels (leaf-row xs) u 0 a ≡ labels (leaf-row xs) v 0 a
 unfolding leaf-row labels
@@ -102,7 +99,7 @@ leaf-widths (x ∷ xs) u v a e = rw (e, leaf-widths xs u v (a + v 0) e)
 -- moved, comes to the whole
 pub record On-way (whole rest : Relabelled) (before ws : List ℕ) (n first count tag left at done : ℕ) : Type 0 where
   pub row : Row-there ws n tag left
-  pub number : at < word-limit
+  pub number : at < label-limit
   pub counted : done + left ≤ count
   pub words : rest .words ≡ whole .words
   pub moved : done + rest .moved ≡ whole .moved
@@ -114,7 +111,7 @@ pub tag-room : {ws : List ℕ} {n x count : ℕ} → Row-there ws n x count → 
 unfolding along
 tag-room h some = room (h .records) (h .below 0 some)
 
-pub start : (q : Relabelled) (ws : List ℕ) (n x count a : ℕ) → Row-there ws n x count → a < word-limit → On-way q q ws ws n x count x count a 0
+pub start : (q : Relabelled) (ws : List ℕ) (n x count a : ℕ) → Row-there ws n x count → a < label-limit → On-way q q ws ws n x count x count a 0
 start q ws n x count a row small =
     record { row = row; number = small; counted = omega arith; words = refl; moved = omega arith; behind = refl; long = refl }
 
@@ -122,7 +119,7 @@ start q ws n x count a row small =
 module _ {whole rest : Relabelled} {before ws : List ℕ} {n first count tag left at done : ℕ}
     (h : On-way whole rest before ws n first count tag left at done)
     (further : Relabelled) (vs : List ℕ) (size m next here : ℕ) where
-  pub on : size ≤ left → m ≤ size → here < word-limit → next ≡ along size ws tag → Same-next vs ws → length vs ≡ length ws →
+  pub on : size ≤ left → m ≤ size → here < label-limit → next ≡ along size ws tag → Same-next vs ws → length vs ≡ length ws →
       further .words ≡ rest .words → m + further .moved ≡ rest .moved →
       On-way whole further before vs n first count next (left - size) here (done + m)
   on fits few small step same long words moved =

@@ -8,7 +8,8 @@ use borrow.Author.Tests.{le-leb, lt-leb}
 use lib.Dec.{leb}
 use lib.ListN.{length}
 use Rattle.store_types.specs.Layout.{at-next, field, label-at, with-label, Records}
-use Rattle.edit_model.specs.Relabel.{Relabelled, shift, cut}
+use Rattle.shape.specs.Sums.{cut}
+use Rattle.edit_model.specs.Relabel.{Relabelled, shift}
 use Rattle.words.proofs.Fields.{records-kept, length-with-label}
 use Rattle.renumber.proofs.Rows.{label-keeps-next}
 

@@ -2,12 +2,13 @@
 use mathlib.Core.Path.{_≡_}
 use mathlib.Core.List.{List, map}
 use Prim.Native.Nat.{ℕ, _^_, _≤_, _<_}
-use Rattle.store_types.specs.Limits.{most-tags, word-limit}
+use Rattle.store_types.specs.Limits.{most-tags, label-limit}
 use Rattle.store_types.specs.Layout.{Records}
 use Rattle.shape.specs.Tables.{entry, entry-limit}
 use Rattle.tree.specs.Forest.{labels, leaf-row, spread}
 use Rattle.calls.specs.Words.{follow}
-use Rattle.edit_model.specs.Relabel.{Relabelled, relabel, along, cut}
+use Rattle.shape.specs.Sums.{cut}
+use Rattle.edit_model.specs.Relabel.{Relabelled, relabel, along}
 
 -- so many tags along next are tags of n
 pub record Row-there (ws : List ℕ) (n x count : ℕ) : Type 0 where
@@ -20,7 +21,7 @@ pub record Trees-fit (r j a count : ℕ) (w l : List ℕ) : Type 0 where
   pub degree : 2 ≤ r
   pub height : j ≤ 22
   pub least : 1 ≤ j → r ^ j ≤ count
-  pub number : a < word-limit
+  pub number : a < label-limit
   pub widths : (k : ℕ) → entry w k ≤ entry-limit
   pub lows : (k : ℕ) → k ≤ j → entry l k ≡ r ^ k
 

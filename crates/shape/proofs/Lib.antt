@@ -1,3 +1,4 @@
 pub mod TableLaws
 pub mod Fits
 pub mod HeaderLaws
+pub mod Sums

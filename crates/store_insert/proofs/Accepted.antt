@@ -34,7 +34,7 @@ use Rattle.edit_model.proofs.Plans.{sound-said, image-said, behind-said}
 use Rattle.edit_model.proofs.Single.{single-row}
 use Rattle.edit_model.proofs.Renumbered.{Words-in, Row-in}
 use Rattle.edit_model.proofs.Inserted.{place-said, position-said, few-said, room-said, labels-said}
-use Rattle.renumber.proofs.Rows.{cut-small}
+use Rattle.shape.proofs.Sums.{cut-small}
 use Rattle.store_refuse.proofs.Laws.{accepted-says, accepted-store}
 use Rattle.insert_link.specs.Needs.{Tag-or-none, Place-there, New-tag-fits}
 use Rattle.insert_plan.specs.Needs.{Plan-reads, Applicable}

@@ -15,9 +15,10 @@ use Rattle.store_types.specs.Layout.{at-count, at-first, header-words, at-next,
 use Rattle.lists.proofs.Tests.{by-test}
 use Rattle.shape.specs.Tables.{entry, entry-limit}
 use Rattle.words.proofs.Fields.{header-fits, room, room-same, records-kept, field-same, field-other-word, header-kept, header-kept-label, length-with-field, length-with-label, field-past-header}
-use Rattle.edit_model.specs.Relabel.{relabel, along, cut, shift}
+use Rattle.shape.specs.Sums.{cut}
+use Rattle.edit_model.specs.Relabel.{relabel, along, shift}
 use Rattle.edit_model.specs.Insert.{Plan, behind, with-record, linked-place, linked-next, added, plain-plan, applied}
-use Rattle.renumber.proofs.Rows.{cut-small}
+use Rattle.shape.proofs.Sums.{cut-small}
 use Rattle.insert_link.specs.Needs.{New-tag-fits}
 use Rattle.insert_plan.specs.Needs.{Applicable}
 use Rattle.insert_link.proofs.Links.{behind-front, behind-tag, linked-front, linked-tag}

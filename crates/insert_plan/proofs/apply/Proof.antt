@@ -1,7 +1,7 @@
 -- `insert_plan::apply` meets its contract. Assumes nothing.
 use borrow.Author.Needs.{needs}
 use native.Mathlib.Omega.{arith}
-use Rattle.edit_model.specs.Relabel.{cut}
+use Rattle.shape.specs.Sums.{cut}
 use Rattle.insert_plan.proofs.Plans.{applied-by, moved-few}
 use Rattle.insert_plan.specs.Parts.{plan-record}
 use Rattle.insert_plan.proofs.apply.Statement.{statement}

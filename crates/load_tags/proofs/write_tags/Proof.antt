@@ -4,7 +4,7 @@ use mathlib.Core.List.{List}
 use Prim.Native.Nat.{ℕ, _-_, _≤_, _<_}
 use lib.ListN.{length}
 use Rattle.store_types.specs.Limits.{word-limit}
-use Rattle.edit_model.specs.Relabel.{cut}
+use Rattle.shape.specs.Sums.{cut}
 use Rattle.load_model.proofs.Steps.{Abreast}
 use Rattle.load_tags.specs.Tags.{labels-new}
 use Rattle.load_tags.proofs.Row.{Filling, row-starts, tag-fits, row-turns, row-ends}

@@ -5,7 +5,7 @@ use mathlib.Core.Path.{_≡_}
 use Prim.Native.Nat.{ℕ, _≤_, _<_}
 use native.Mathlib.Omega.{arith}
 use Rattle.shape.specs.Tables.{entry}
-use Rattle.edit_model.specs.Relabel.{cut}
+use Rattle.shape.specs.Sums.{cut}
 use Rattle.renumber.specs.Needs.{trees-numbered}
 use Rattle.renumber.proofs.Rows.{On-way, start, arrived}
 use Rattle.renumber.proofs.Parts.{parts-numbered, Parts-left, parts-start, parts-end, trees-zero, row-part, each-power, each-some, each-parts, fit-below, Next-part, next-part, part-counted, part-on}

@@ -1,7 +1,7 @@
 -- `renumber::number_leaf` meets its contract. Assumes nothing.
 use borrow.Author.Needs.{needs}
 use Rattle.words.proofs.Fields.{room}
-use Rattle.edit_model.specs.Relabel.{cut}
+use Rattle.shape.specs.Sums.{cut}
 use Rattle.renumber.proofs.Rows.{same-label, other-label}
 use Rattle.renumber.proofs.number_leaf.Statement.{statement}
 use Rattle.renumber.proofs.number_leaf.Tie as tie

@@ -5,7 +5,7 @@ use native.Mathlib.Omega.{arith}
 use lib.Dec.{eqb}
 use Rattle.words.proofs.Fields.{room-with-label}
 use Rattle.store_types.specs.Layout.{label-at}
-use Rattle.edit_model.specs.Relabel.{cut}
+use Rattle.shape.specs.Sums.{cut}
 use Rattle.renumber.specs.Needs.{leaves-numbered}
 use Rattle.renumber.proofs.Rows.{On-way, start, tag-room, moved-one, leaf-on, leaves-end, arrived}
 use Rattle.renumber.proofs.number_leaves.Statement.{statement}

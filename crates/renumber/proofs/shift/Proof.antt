@@ -4,7 +4,8 @@ use Prim.Native.Nat.{_-_, _≤_, _<_}
 use native.Mathlib.Omega.{arith}
 use borrow.Author.Tests.{ltb-true, ltb-false}
 use Rattle.store_types.specs.Layout.{label-at, Room}
-use Rattle.edit_model.specs.Relabel.{shift, cut}
+use Rattle.shape.specs.Sums.{cut}
+use Rattle.edit_model.specs.Relabel.{shift}
 use Rattle.words.proofs.Fields.{room, room-with-label}
 use Rattle.renumber.proofs.Shifts.{Shifting, shift-start, shift-on, shift-end, shift-spent, shift-out, shift-far}
 use Rattle.renumber.proofs.shift.Statement.{statement}
