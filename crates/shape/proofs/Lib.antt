@@ -2,3 +2,4 @@ pub mod TableLaws
 pub mod Fits
 pub mod HeaderLaws
 pub mod Sums
+pub mod PartLaws

@@ -1,3 +1,4 @@
 pub mod Tables
 pub mod Needs
 pub mod Sums
+pub mod Packed

@@ -1,9 +1,11 @@
 // The shape of a store, s, r and H: the tables by height that they give, and the limits of the header and of the root
 // (document 01, "The book in words", "The tree").
+pub mod tables;
+
 ghost use mathlib.Core.Path.{_≡_};
 ghost use Prim.Native.Nat.{_+_, _*_, _≤_};
 ghost use Rattle.shape.specs.Tables.{Table-fits, entry-limit, table as power-table};
-ghost use Rattle.shape.specs.Sums.{cut};
+ghost use Rattle.shape.specs.Sums.{cut as label-part};
 ghost use Rattle.calls.specs.Store.{power-fits};
 ghost use Rattle.shape.specs.Needs.{Root-fits, frame-passes, root-passes, degree-fits};
 
@@ -28,12 +30,19 @@ pub fn table(v: u64, b: u64, top: usize) -> [u64; TABLE_LENGTH]
     t
 }
 
-// A label or the number of a node with a width added, by what a label holds of it: all, in a sound store.
+// A number by what a label holds of it: all, in a sound store.
+pub fn cut(number: u64) -> u64
+    ensures { λ l. ⌜ l ≡ label-part number ⌝ }
+{
+    number % 4294967296
+}
+
+// A label or the number of a node with a width added.
 pub fn sum(label: u64, width: u64) -> u64
     requires { ⌜ (label ≤ entry-limit) × (width ≤ entry-limit) ⌝ }
-    ensures { λ l. ⌜ l ≡ cut (label + width) ⌝ }
+    ensures { λ l. ⌜ l ≡ label-part (label + width) ⌝ }
 {
-    (label + width) % 4294967296
+    cut(label + width)
 }
 
 // Whether labels of a tree of height h fit: b^h is at most 2^32.

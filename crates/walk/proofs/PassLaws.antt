@@ -21,7 +21,8 @@ use Rattle.walk_model.specs.Watch.{place-sizes, settle-sizes, close-sizes, walk
 use Rattle.walk_tags.specs.Needs.{Open, none, begin, Tag-reads, fits-at, marks-at}
 use Rattle.walk_tags.proofs.TagLaws.{kind-fitting, begin-of, open-cases}
 use Rattle.walk_tags.proofs.TestLaws.{fits-small, inner-up}
-use Rattle.walk_levels.specs.Needs.{widths-in, lows-in, highs-in, numbers-in, tables-of, levels-of, settle-from, place-from, close-from, expected-label}
+use Rattle.shape.specs.Packed.{widths-in, lows-in, highs-in, numbers-in}
+use Rattle.walk_levels.specs.Needs.{tables-of, levels-of, settle-from, place-from, close-from, expected-label}
 use Rattle.walk_levels.proofs.LevelLaws.{place-waited, place-settled}
 use Rattle.walk_levels.proofs.SizeLaws.{place-sizes-waited, place-sizes-settled}
 use Rattle.walk.specs.Needs.{Pass-fits, Standing, Behind, ends-from, label-passes, shape-with, shape-in, next-label, state-with, start-with}

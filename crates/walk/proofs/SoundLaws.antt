@@ -19,7 +19,8 @@ use Rattle.calls.specs.Sound.{degrees-fit}
 use Rattle.calls.specs.Words.{header-width}
 use Rattle.walk_model.specs.Walk.{shape-of, start, walk, header-passes, words-pass}
 use Rattle.walk_model.specs.Watch.{ancestor-numbers, watched-label, watched-numbers, walk-sizes, sizes-at}
-use Rattle.walk_levels.specs.Needs.{Ancestors-fit, Packed, widths-in, numbers-in, tables-of, levels-of}
+use Rattle.shape.specs.Packed.{Packed, widths-in, numbers-in}
+use Rattle.walk_levels.specs.Needs.{Ancestors-fit, tables-of, levels-of}
 use Rattle.shape.specs.Needs.{Root-fits, frame-passes, root-passes}
 use Rattle.walk.specs.Needs.{Pass-fits, shape-with, shape-in, start-with}
 use Rattle.walk_levels.proofs.AncestorNumbers.{numbers-fit}
@@ -97,14 +98,14 @@ module _ (ws lo : List ℕ) (a : Frame ws) (of-lo : lo ≡ table 1 (r-of ws) (h-
         tables-fit = (
           record {
             height = omega (arith, a .high);
-            widths = λ k. rw (p .widths) (entries-fit (widths-fit (framed-fits ws a)) of-w k);
-            lows = λ k. rw (p .lows) (entries-fit (lows-fit (framed-fits ws a)) of-lo k);
-            highs = λ k. rw (p .highs) (entries-fit (highs-fit (framed-fits ws a)) of-hi k);
+            widths = λ k. rw (p .widths-are) (entries-fit (widths-fit (framed-fits ws a)) of-w k);
+            lows = λ k. rw (p .lows-are) (entries-fit (lows-fit (framed-fits ws a)) of-lo k);
+            highs = λ k. rw (p .highs-are) (entries-fit (highs-fit (framed-fits ws a)) of-hi k);
           },
-          λ k. rw (p .numbers) (numbers-fit w (h-of ws - 1) of-ns fits k),
+          λ k. rw (p .numbers-are) (numbers-fit w (h-of ws - 1) of-ns fits k),
         );
-        unit = rw (p .widths, of-w, table-at 1 b (h-of ws) 0 (omega arith), one-mul) (pow-zero b);
-        wide = rw (p .widths, of-w, table-at 1 b (h-of ws) 1 (omega (arith, a .low)), one-mul) (one-le-pow 1 b (omega (arith, f-range ws a)));
+        unit = rw (p .widths-are, of-w, table-at 1 b (h-of ws) 0 (omega arith), one-mul) (pow-zero b);
+        wide = rw (p .widths-are, of-w, table-at 1 b (h-of ws) 1 (omega (arith, a .low)), one-mul) (one-le-pow 1 b (omega (arith, f-range ws a)));
       }
 
 -- THE PARTS DECIDE
@@ -133,7 +134,7 @@ module _ (ws : List ℕ) where
       unfolding words-pass shape-of widths-of lows-of highs-of start shape-with start-with tables-of levels-of
       pass-decides p of-w a b c d e =
           rw (header-split, sym a ∙ not-false _ b, ← of-lo, ← of-hi, ← of-w, sym c ∙ not-false _ d, ← sub-one (h-of ws))
-          (rw (p .widths, p .lows, p .highs) at e)
+          (rw (p .widths-are, p .lows-are, p .highs-are) at e)
 
 -- THE SIZES where they pass: l is the label at the place, and ns are the numbers of its ancestors
 module _ (ws lo hi w : List ℕ) (of-lo : lo ≡ table 1 (r-of ws) (h-of ws)) (of-hi : hi ≡ table (s-of ws) (r-of ws) (h-of ws)) (of-w : w ≡ table 1 (s-of ws * r-of ws - 1) (h-of ws)) where
@@ -141,4 +142,4 @@ module _ (ws lo hi w : List ℕ) (of-lo : lo ≡ table 1 (r-of ws) (h-of ws)) (o
       sz′ ≡ walk-sizes ws (shape-in tables (h-of ws - 1) (n-of ws)) (numbers-in tables) (n-of ws) 0 (start-with ws (widths-in tables)) sz → sz′ ≡ sizes-at ws y sz
   unfolding sizes-at watched-numbers shape-of widths-of lows-of highs-of start shape-with start-with tables-of levels-of
   sizes-taken y l ns sz p label numbers e =
-      rw (← label, ← of-lo, ← of-hi, ← of-w, ← sub-one (h-of ws), ← numbers) (rw (p .widths, p .lows, p .highs, p .numbers) at e)
+      rw (← label, ← of-lo, ← of-hi, ← of-w, ← sub-one (h-of ws), ← numbers) (rw (p .widths-are, p .lows-are, p .highs-are, p .numbers-are) at e)

@@ -11,7 +11,8 @@ use Rattle.store_types.specs.Layout.{at-first, at-stamp, header-words, at-next,
 use Rattle.words.specs.Offsets.{offset-of}
 use Rattle.walk_model.specs.Walk.{Shape, State, open-after, placed}
 use Rattle.walk_tags.specs.Needs.{Open, marks-at}
-use Rattle.walk_levels.specs.Needs.{Tables-fit, widths-in, lows-in, highs-in, tables-of, levels-of, close-from, expected-label}
+use Rattle.shape.specs.Packed.{widths-in, lows-in, highs-in}
+use Rattle.walk_levels.specs.Needs.{Tables-fit, tables-of, levels-of, close-from, expected-label}
 use Rattle.walk.specs.declared.State as code
 
 -- labels of two leaves of one node are 1 apart, and a node of height 1 has room for one

@@ -6,7 +6,8 @@ ghost use Rattle.store_types.specs.Layout.{at-kind, field, label-at};
 ghost use Rattle.walk_model.specs.Walk.{kind-fits, placed, walk, words-pass};
 ghost use Rattle.walk_model.specs.Watch.{place-sizes, close-sizes, walk-sizes, sizes-at};
 ghost use Rattle.walk_tags.specs.Needs.{Tag-reads};
-ghost use Rattle.walk_levels.specs.Needs.{widths-in, lows-in, highs-in, numbers-in, levels-of};
+ghost use Rattle.shape.specs.Packed.{widths-in, lows-in, highs-in, numbers-in};
+ghost use Rattle.walk_levels.specs.Needs.{levels-of};
 ghost use Rattle.walk.specs.Needs.{Pass-fits, Standing, Ends-fit, Behind, ends-from, label-passes, shape-in, next-label, state-with, start-with};
 use store_types::TagId;
 use words::Offset;
@@ -166,7 +167,7 @@ pub fn sound_at(words: &[u32], place: TagId, sizes: &mut [u32; 24]) -> bool
     }
     let label = walk_levels::ancestors::watched_label(words, place);
     let numbers = walk_levels::ancestors::numbers(label, h - 1, &widths);
-    let tables = walk_levels::tables(widths, lows, highs, numbers);
+    let tables = shape::tables::packed(widths, lows, highs, numbers);
     let size = Extent { n, under: h - 1 };
     pass(words, size, widths, &tables, sizes)
 }

@@ -13,7 +13,8 @@ use lib.Dec.{eqb, ltb, leb}
 use lib.ListN.{getD, set}
 use Rattle.walk_model.specs.Levels.{Levels, Settled, closes, settle, place-label, all-close}
 use Rattle.store_types.specs.Limits.{label-limit}
-use Rattle.walk_levels.specs.Needs.{Levels-fit, Tables-fit, widths-in, lows-in, highs-in, tables-of, levels-of, closes-from, settle-from, place-from, close-from, expected-label}
+use Rattle.shape.specs.Packed.{widths-in, lows-in, highs-in}
+use Rattle.walk_levels.specs.Needs.{Levels-fit, Tables-fit, tables-of, levels-of, closes-from, settle-from, place-from, close-from, expected-label}
 
 -- what is asked of the tables at a height that is no higher
 pub levels-below : {u : ℕ} {w l hi : List ℕ} (h : ℕ) → h ≤ u → Levels-fit u w l hi → Levels-fit h w l hi

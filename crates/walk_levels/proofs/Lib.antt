@@ -1,4 +1,3 @@
-pub mod PartLaws
 pub mod LevelLaws
 pub mod SizeLaws
 pub mod AncestorNumbers

@@ -1,41 +1,14 @@
 -- What the tests of labels ask of their callers, and the parts of the walk that each decides.
 -- Assumes nothing: these are definitions.
-use mathlib.Core.Path.{_≡_}
 use mathlib.Core.Bool.{Bool, false, cond}
 use mathlib.Core.List.{List}
-use Prim.Native.Nat.{ℕ, _*_, _≤_, _<_}
+use Prim.Native.Nat.{ℕ, _≤_}
 use lib.Dec.{ltb}
-use lib.ListN.{getD, take, drop}
+use lib.ListN.{getD}
 use Rattle.store_types.specs.Limits.{label-limit}
 use Rattle.shape.specs.Tables.{entry-limit, entry}
+use Rattle.shape.specs.Packed.{widths-in, lows-in, highs-in, numbers-in}
 use Rattle.walk_model.specs.Levels.{Tables, Levels, Settled, closes, settle, place-label, all-close}
-
--- FOUR TABLES by height in one array: widths, least leaves, limits, and the numbers of the watched nodes
-unfoldable pub part : (k : ℕ) → List ℕ → List ℕ
-part k t = take 24 (drop (24 * k) t)
-
-abbrev pub widths-in : List ℕ → List ℕ
-widths-in t = part 0 t
-
-abbrev pub lows-in : List ℕ → List ℕ
-lows-in t = part 1 t
-
-abbrev pub highs-in : List ℕ → List ℕ
-highs-in t = part 2 t
-
-abbrev pub numbers-in : List ℕ → List ℕ
-numbers-in t = part 3 t
-
--- u is t with one part replaced
-pub record With-part (t : List ℕ) (k : ℕ) (from u : List ℕ) : Type 0 where
-  pub new : part k u ≡ from
-  pub kept : (j : ℕ) → j < 4 → (j ≡ k → ⊥) → part j u ≡ part j t
-
-pub record Packed (t w l h ns : List ℕ) : Type 0 where
-  pub widths : widths-in t ≡ w
-  pub lows : lows-in t ≡ l
-  pub highs : highs-in t ≡ h
-  pub numbers : numbers-in t ≡ ns
 
 unfoldable pub tables-of : (widths lows highs : List ℕ) → Tables
 tables-of w l h = record { widths = w; lows = l; highs = h }

@@ -7,56 +7,16 @@ ghost use Prim.Native.Nat.{_+_, _-_, _≤_, _<_};
 ghost use lib.Dec.{eqb};
 ghost use lib.ListN.{getD};
 ghost use Rattle.walk_model.specs.Watch.{settle-sizes, close-sizes};
-ghost use Rattle.walk_levels.specs.Needs.{Levels-fit, Tables-fit, Packed, With-part, part, widths-in, lows-in, highs-in, numbers-in, levels-of, closes-from, settle-from, close-from, expected-label};
+ghost use Rattle.shape.specs.Packed.{widths-in, lows-in, highs-in, numbers-in};
+ghost use Rattle.walk_levels.specs.Needs.{Levels-fit, Tables-fit, levels-of, closes-from, settle-from, close-from, expected-label};
 use store_types::Label;
-
-// Four tables by height in one array: widths, least leaves, limits, and the numbers of the watched nodes.
-const WIDTHS: usize = 0;
-
-const LOWS: usize = 1;
-
-const HIGHS: usize = 2;
-
-const NUMBERS: usize = 3;
-
-// The same four tables with one of them replaced.
-fn with_part(tables: [u64; 96], k: usize, from: [u64; 24]) -> [u64; 96]
-    requires { ⌜ k < 4 ⌝ }
-    ensures { λ t. ⌜ With-part tables k from t ⌝ }
-{
-    let mut t = tables;
-    let mut h: usize = 0;
-    while h < 24 {
-        t[24 * k + h] = from[h];
-        h += 1;
-    }
-    t
-}
-
-pub fn tables(widths: [u64; 24], lows: [u64; 24], highs: [u64; 24], numbers: [u64; 24]) -> [u64; 96]
-    ensures { λ t. ⌜ Packed t widths lows highs numbers ⌝ }
-{
-    let none = [0u64; 96];
-    let one = with_part(none, WIDTHS, widths);
-    let two = with_part(one, LOWS, lows);
-    let three = with_part(two, HIGHS, highs);
-    with_part(three, NUMBERS, numbers)
-}
-
-// The entry of a height in one of the four tables.
-fn entry(tables: &[u64; 96], k: usize, h: usize) -> u64
-    requires { ⌜ (k < 4) × (h < 24) ⌝ }
-    ensures { λ v. ⌜ v ≡ getD (part k (now (tables .entry))) h 0 ⌝ }
-{
-    tables[24 * k + h]
-}
 
 // Where the watched node of a height ends.
 fn watched_end(tables: &[u64; 96], h: usize) -> u64
     requires { ⌜ (h < 24) × Tables-fit h (now tables) ⌝ }
     ensures { λ v. ⌜ v ≡ getD (numbers-in (now (tables .entry))) h 0 + getD (widths-in (now (tables .entry))) h 0 ⌝ }
 {
-    entry(tables, NUMBERS, h) + entry(tables, WIDTHS, h)
+    shape::tables::number(tables, h) + shape::tables::width(tables, h)
 }
 
 // Whether a node of height h whose first leaf is at place first is within its limits where the next leaf is at place.
@@ -66,7 +26,7 @@ fn closes(first: u32, place: u32, h: usize, tables: &[u64; 96]) -> bool
 {
     let f = first as u64;
     let i = place as u64;
-    f + entry(tables, LOWS, h) <= i && i < f + entry(tables, HIGHS, h)
+    f + shape::tables::low(tables, h) <= i && i < f + shape::tables::high(tables, h)
 }
 
 // The size that stands behind a node which closes before place: its own where it ends as the watched one does, so that
@@ -106,7 +66,7 @@ pub fn settle(
         }
         sizes[h] = watched(end, watched_end(tables, h), firsts[h], place, sizes[h]);
         exact = end == l;
-        ends[h] = l + entry(tables, WIDTHS, h);
+        ends[h] = l + shape::tables::width(tables, h);
         firsts[h] = place;
         h += 1;
     }

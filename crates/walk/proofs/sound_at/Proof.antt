@@ -69,20 +69,20 @@ sub-numbers c = omega (arith, framed (c .before .before .before .before .before 
 numbers-requires : tie.Need-numbers-requires
 numbers-requires c κs = let tables = c .before .before .before .before .before .before .before .before in ancestors-fit _ (framed (tables .before .before .before .before .before)) (tables .table .ensures)
 
-tables-requires : tie.Need-tables-requires
-tables-requires c κs = search needs
+packed-requires : tie.Need-packed-requires
+packed-requires c κs = search needs
 
 sub-t27 : tie.Need-sub-t27
 sub-t27 c = omega (arith, framed (c .before .before .before .before .before .before .before .before .before .before .before .before .before .before .before))
 
 pass-requires : tie.Need-pass-requires
-pass-requires c κs = let packed = c .before .before .tables .ensures in
+pass-requires c κs = let packed = c .before .before .packed .ensures in
     let numbers = c .before .before .before in
     let tables = c .before .before .before .before .before .before .before .before .before .before .before .before in
-    (pass-fits _ _ (framed (tables .before .before .before .before .before)) (c .before .before .before .before .before .before .before .before .before .before .before .table2 .ensures) packed (tables .table .ensures) (c .before .before .before .before .before .before .before .before .before .before .table3 .ensures) (numbers .numbers .ensures) (omega (arith, c .before .before .before .before .before .watched-label .ok)), sym (packed .widths))
+    (pass-fits _ _ (framed (tables .before .before .before .before .before)) (c .before .before .before .before .before .before .before .before .before .before .before .table2 .ensures) packed (tables .table .ensures) (c .before .before .before .before .before .before .before .before .before .before .table3 .ensures) (numbers .numbers .ensures) (omega (arith, c .before .before .before .before .before .watched-label .ok)), sym (packed .widths-are))
 
 returns-3 : tie.Need-returns-3
-returns-3 c = let packed = c .before .before .before .tables .ensures in
+returns-3 c = let packed = c .before .before .before .packed .ensures in
     let root = c .before .before .before .before .before .before .before in
     let tables = c .before .before .before .before .before .before .before .before .before .before .before .before .before in
     let lows = c .before .before .before .before .before .before .before .before .before .before .before .before .table2 .ensures in
@@ -115,7 +115,7 @@ sound-at-spec =
     watched-label-requires
     sub-numbers
     numbers-requires
-    tables-requires
+    packed-requires
     sub-t27
     pass-requires
     returns-3)

@@ -4,7 +4,8 @@ use mathlib.Core.Path.{_≡_}
 use Prim.Native.Nat.{_+_, _-_, _≤_}
 use native.Mathlib.Omega.{arith}
 use Rattle.walk_model.specs.Watch.{close-sizes}
-use Rattle.walk_levels.specs.Needs.{widths-in, lows-in, highs-in, numbers-in, levels-of, close-from}
+use Rattle.shape.specs.Packed.{widths-in, lows-in, highs-in, numbers-in}
+use Rattle.walk_levels.specs.Needs.{levels-of, close-from}
 use Rattle.walk_levels.proofs.LevelLaws.{levels-below, tables-below, node-first, close-at, close-start, close-fails, close-more, close-end}
 use Rattle.walk_levels.proofs.SizeLaws.{never, close-sizes-at, close-sizes-start, close-sizes-more, close-sizes-end}
 use Rattle.walk_levels.proofs.all_close.Statement.{statement}

@@ -4,7 +4,8 @@ use mathlib.Core.Path.{_≡_}
 use Prim.Native.Nat.{_+_, _-_, _≤_}
 use native.Mathlib.Omega.{arith}
 use Rattle.walk_model.specs.Watch.{settle-sizes}
-use Rattle.walk_levels.specs.Needs.{widths-in, lows-in, highs-in, numbers-in, levels-of, settle-from}
+use Rattle.shape.specs.Packed.{widths-in, lows-in, highs-in, numbers-in}
+use Rattle.walk_levels.specs.Needs.{levels-of, settle-from}
 use Rattle.walk_levels.proofs.LevelLaws.{levels-below, tables-below, node-first, settle-at, settle-start, settle-stays, settle-fails, settle-more, settle-end-exact, settle-end-not}
 use Rattle.walk_levels.proofs.SizeLaws.{never, settle-sizes-at, sizes-start, sizes-stay, sizes-more, sizes-end}
 use Rattle.walk_levels.proofs.settle.Statement.{statement}
@@ -76,11 +77,11 @@ mul-sizes c = omega arith
 element-write-sizes : tie.Need-element-write-sizes Inv-loop μ-loop
 element-write-sizes c = omega arith
 
-entry-requires : tie.Need-entry-requires Inv-loop μ-loop
-entry-requires c κs = let at = c .before .before .before .before .before .before .before .before .before in (omega arith, omega (arith, at .loop-test .taken, at .before .before .before .pre .0 .height))
+width-requires : tie.Need-width-requires Inv-loop μ-loop
+width-requires c κs = let at = c .before .before .before .before .before .before .before .before .before in omega (arith, at .loop-test .taken, at .before .before .before .pre .0 .height)
 
 add-ends : tie.Need-add-ends Inv-loop μ-loop
-add-ends c = let at = c .before .before .before .before .before .before .before .before .before .before .before in let start = at .before .before in omega (arith, c .entry .ensures, at .before .struct-known .given, start .pre .0 .widths (at .loop .h))
+add-ends c = let at = c .before .before .before .before .before .before .before .before .before .before .before in let start = at .before .before in omega (arith, c .width .ensures, at .before .struct-known .given, start .pre .0 .widths (at .loop .h))
 
 mul-ends : tie.Need-mul-ends Inv-loop μ-loop
 mul-ends c = omega arith
@@ -105,8 +106,8 @@ loop-again c = let at = c .before .before .before .before .before .before .befor
     let test = c .before .before .before .before .before .before .before .before .before .before .loop-test .taken in (
       omega arith,
       omega arith,
-      rw (c .entry .ensures) (settle-more _ _ _ _ _ _ _ _ _ _ (at .loop .inv .2) test (c .before .before .before .before .before .before .before .before .if1 .left) (c .before .before .before .before .before .before .closes .ensures) (c .before .before .before .before .before .if2 .left)),
-      rw (c .entry .ensures) (sizes-more _ _ _ _ _ _ _ _ _ (at .loop .inv .3) test (c .before .before .before .before .before .before .before .before .if1 .left) (rw (c .before .before .before .before .watched-end .ensures) at (c .before .watched .ensures))),
+      rw (c .width .ensures) (settle-more _ _ _ _ _ _ _ _ _ _ (at .loop .inv .2) test (c .before .before .before .before .before .before .before .before .if1 .left) (c .before .before .before .before .before .before .closes .ensures) (c .before .before .before .before .before .if2 .left)),
+      rw (c .width .ensures) (sizes-more _ _ _ _ _ _ _ _ _ (at .loop .inv .3) test (c .before .before .before .before .before .before .before .before .if1 .left) (rw (c .before .before .before .before .watched-end .ensures) at (c .before .watched .ensures))),
     )
 
 mul-result : tie.Need-mul-result Inv-loop μ-loop
@@ -150,7 +151,7 @@ settle-spec =
     watched-requires
     mul-sizes
     element-write-sizes
-    entry-requires
+    width-requires
     add-ends
     mul-ends
     element-write-ends

@@ -1,8 +1,8 @@
--- `walk_levels::tables` meets its contract. Assumes nothing.
+-- `shape::tables::packed` meets its contract. Assumes nothing.
 use borrow.Author.Needs.{needs}
-use Rattle.walk_levels.proofs.PartLaws.{packed}
-use Rattle.walk_levels.proofs.tables.Statement.{statement}
-use Rattle.walk_levels.proofs.tables.Tie as tie
+use Rattle.shape.proofs.PartLaws.{packed}
+use Rattle.shape.proofs.tables.packed.Statement.{statement}
+use Rattle.shape.proofs.tables.packed.Tie as tie
 
 with-part-requires : tie.Need-with-part-requires
 with-part-requires c κs = search needs
@@ -19,8 +19,8 @@ with-part-requires-4 c κs = search needs
 returns : tie.Need-returns
 returns c = packed (c .before .before .before .with-part .ensures) (c .before .before .with-part2 .ensures) (c .before .with-part3 .ensures) (c .with-part4 .ensures)
 
-pub tables-spec : {M : Type 1} → statement M
-tables-spec =
+pub packed-spec : {M : Type 1} → statement M
+packed-spec =
     tie.close
     (tie.spec
     with-part-requires

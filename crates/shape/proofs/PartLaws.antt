@@ -7,7 +7,7 @@ use native.Mathlib.Decide.{ℕ-discrete}
 use native.Mathlib.Omega.{arith}
 use lib.ListN.{length, getD, set, drop, length-set, length-drop}
 use lib.Seq.{getD-take, getD-drop, getD-set-same, getD-set-other, ext-getD, length-take-le}
-use Rattle.walk_levels.specs.Needs.{part, With-part, Packed}
+use Rattle.shape.specs.Packed.{part, With-part, Packed}
 
 pub part-entry : (t : List ℕ) (k h : ℕ) → h < 24 → getD t (24 * k + h) 0 ≡ getD (part k t) h 0
 unfolding part
@@ -50,8 +50,8 @@ module _ (t : List ℕ) (k : ℕ) (from : List ℕ) (few : k < 4) where
 -- ALL FOUR
 pub packed : {a b c d w l h ns none : List ℕ} → With-part none 0 w a → With-part a 1 l b → With-part b 2 h c → With-part c 3 ns d → Packed d w l h ns
 packed p q r s = record {
-  widths = s .kept 0 (omega arith) (λ e. omega arith) ∙ r .kept 0 (omega arith) (λ e. omega arith) ∙ q .kept 0 (omega arith) (λ e. omega arith) ∙ p .new;
-  lows = s .kept 1 (omega arith) (λ e. omega arith) ∙ r .kept 1 (omega arith) (λ e. omega arith) ∙ q .new;
-  highs = s .kept 2 (omega arith) (λ e. omega arith) ∙ r .new;
-  numbers = s .new;
+  widths-are = s .kept 0 (omega arith) (λ e. omega arith) ∙ r .kept 0 (omega arith) (λ e. omega arith) ∙ q .kept 0 (omega arith) (λ e. omega arith) ∙ p .new;
+  lows-are = s .kept 1 (omega arith) (λ e. omega arith) ∙ r .kept 1 (omega arith) (λ e. omega arith) ∙ q .new;
+  highs-are = s .kept 2 (omega arith) (λ e. omega arith) ∙ r .new;
+  numbers-are = s .new;
 }

@@ -1,8 +1,8 @@
--- `walk_levels::entry` meets its contract. Assumes nothing.
+-- `shape::tables::entry` meets its contract. Assumes nothing.
 use borrow.Author.Needs.{needs}
-use Rattle.walk_levels.proofs.PartLaws.{part-entry}
-use Rattle.walk_levels.proofs.entry.Statement.{statement}
-use Rattle.walk_levels.proofs.entry.Tie as tie
+use Rattle.shape.proofs.PartLaws.{part-entry}
+use Rattle.shape.proofs.tables.entry.Statement.{statement}
+use Rattle.shape.proofs.tables.entry.Tie as tie
 
 mul-result : tie.Need-mul-result
 mul-result c = search needs

@@ -1,12 +1,12 @@
--- `walk_levels::with_part` meets its contract. The loop's invariant: the part is written up to height h, and the others are as
+-- `shape::tables::with_part` meets its contract. The loop's invariant: the part is written up to height h, and the others are as
 -- before (Writing). The measure is what is left of the heights. Assumes nothing.
 use mathlib.Core.Path.{refl}
 use Prim.Native.Nat.{_-_}
 use borrow.Author.Needs.{needs}
 use native.Mathlib.Omega.{arith}
-use Rattle.walk_levels.proofs.PartLaws.{Writing, writing-more, writing-end}
-use Rattle.walk_levels.proofs.with_part.Statement.{statement}
-use Rattle.walk_levels.proofs.with_part.Tie as tie
+use Rattle.shape.proofs.PartLaws.{Writing, writing-more, writing-end}
+use Rattle.shape.proofs.tables.with_part.Statement.{statement}
+use Rattle.shape.proofs.tables.with_part.Tie as tie
 
 abbrev Inv-loop : tie.InvT-loop
 Inv-loop k from t₀ h₀ t h = Writing t₀ k from h t

@@ -1,0 +1,32 @@
+-- Four tables by height in one array: widths, least leaves, limits, and the numbers of a place's ancestors. Assumes nothing: these
+-- are definitions.
+use mathlib.Core.Path.{_≡_}
+use mathlib.Core.List.{List}
+use Prim.Native.Nat.{ℕ, _*_, _<_}
+use lib.ListN.{take, drop}
+
+unfoldable pub part : (k : ℕ) → List ℕ → List ℕ
+part k t = take 24 (drop (24 * k) t)
+
+abbrev pub widths-in : List ℕ → List ℕ
+widths-in t = part 0 t
+
+abbrev pub lows-in : List ℕ → List ℕ
+lows-in t = part 1 t
+
+abbrev pub highs-in : List ℕ → List ℕ
+highs-in t = part 2 t
+
+abbrev pub numbers-in : List ℕ → List ℕ
+numbers-in t = part 3 t
+
+-- u is t with one part replaced
+pub record With-part (t : List ℕ) (k : ℕ) (from u : List ℕ) : Type 0 where
+  pub new : part k u ≡ from
+  pub kept : (j : ℕ) → j < 4 → (j ≡ k → ⊥) → part j u ≡ part j t
+
+pub record Packed (t widths lows highs numbers : List ℕ) : Type 0 where
+  pub widths-are : widths-in t ≡ widths
+  pub lows-are : lows-in t ≡ lows
+  pub highs-are : highs-in t ≡ highs
+  pub numbers-are : numbers-in t ≡ numbers
