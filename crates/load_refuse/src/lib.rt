@@ -7,12 +7,16 @@ ghost use lib.ListN.{length, drop};
 ghost use Rattle.tree.specs.Book.{load-under as least-under};
 ghost use Rattle.calls.specs.Kind.{is-kind};
 ghost use Rattle.load_refuse.specs.Refusals.{Height-fits, kinds-refusal, rest-refusal, depth-behind, refusal-before};
+use store_types::BEGIN;
+use store_types::MOST_TAGS;
+use store_types::TEXT;
 
-// 1 begin, 2 end, 3 text.
+const MOST_KINDS: usize = MOST_TAGS as usize;
+
 fn is_a_kind(kind: u8) -> bool
     ensures { λ t. ⌜ t ≡ is-kind kind ⌝ }
 {
-    1 <= kind && kind <= 3
+    BEGIN <= kind && kind <= TEXT
 }
 
 // 4 where a kind from there on is none, else 5: an end before them closes no begin.
@@ -81,7 +85,7 @@ pub fn refused(room: usize, s: u32, r: u32, kinds: &[u8]) -> u32
     if !shape::degree_fits(r) {
         return 3;
     }
-    if 200000 < kinds.len() {
+    if MOST_KINDS < kinds.len() {
         return 6;
     }
     if room < words::HEADER_WORDS + words::TAG_WORDS * kinds.len() {

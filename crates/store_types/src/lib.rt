@@ -13,19 +13,40 @@ impl TagId {
     // Document 01: 4,294,967,295 stands for no tag, and as a place for the front of the book.
     pub const NONE: TagId = TagId(4294967295);
 
-    pub fn of(number: u32) -> TagId
-        ensures { λ t. ⌜ t .0 ≡ number ⌝ }
-    {
-        TagId(number)
-    }
-
     pub fn is_none(self) -> bool
         ensures { λ t. ⌜ t ≡ eqb (self .0) no-tag ⌝ }
     {
         let none = TagId::NONE;
         self.0 == none.0
     }
+
+    pub fn same(self, other: TagId) -> bool
+        ensures { λ t. ⌜ t ≡ eqb (self .0) (other .0) ⌝ }
+    {
+        self.0 == other.0
+    }
 }
+
+impl Label {
+    pub fn same(self, other: Label) -> bool
+        ensures { λ t. ⌜ t ≡ eqb (self .0) (other .0) ⌝ }
+    {
+        self.0 == other.0
+    }
+}
+
+// Document 01's kinds: a begin tag, an end tag, a text.
+pub const BEGIN: u8 = 1;
+
+pub const END: u8 = 2;
+
+pub const TEXT: u8 = 3;
+
+// Document 01: at most so many tags, marked ones counted.
+pub const MOST_TAGS: u32 = 200000;
+
+// Document 01: labels are below this, and the width of a root is at most this.
+pub const LABEL_LIMIT: u64 = 4294967296;
 
 // Document 01's held pair: a section's book number, begin tag (or text) and two labels.
 pub struct HeldPair {

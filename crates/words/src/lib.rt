@@ -41,6 +41,15 @@ pub const AT_UP: usize = 4;
 
 pub const AT_KIND: usize = 5;
 
+// Kinds as words, and what a mark adds to one: the kind word of an unmarked tag is below it.
+pub const KIND_BEGIN: u32 = store_types::BEGIN as u32;
+
+pub const KIND_END: u32 = store_types::END as u32;
+
+pub const KIND_TEXT: u32 = store_types::TEXT as u32;
+
+pub const MARK: u32 = 16;
+
 // Field k of a tag's record.
 pub fn get(words: &[u32], tag: TagId, k: usize) -> u32
     requires { ⌜ Room (now words) (tag .0) × (k < tag-words) ⌝ }
