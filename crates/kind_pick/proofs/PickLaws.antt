@@ -2,7 +2,7 @@
 use mathlib.Core.Path.{_≡_, sym, _∙_}
 use mathlib.Core.Bool.{cond}
 use mathlib.Core.Logic.{by-cases}
-use Prim.Native.Nat.{ℕ, _/_, _%_}
+use Prim.Native.Nat.{ℕ, _/_, _%_, _≤_}
 use native.Mathlib.Decide.{ℕ-discrete}
 use native.Mathlib.Omega.{arith}
 use borrow.Author.Tests.{eq-eqb, ne-eqb}
@@ -27,3 +27,11 @@ module _ (c : ℕ) (k : Kind-word c) (a b : ℕ) where
 
   pub begin-high : (c / 2 % 2 ≡ 0 → ⊥) → b ≡ cond (eqb (c % 16) 1) a b
   begin-high ne = rw (ne-eqb (c % 16) 1 (λ e. ne (omega arith)))
+
+-- a kind is a kind word with no mark
+module _ (c : ℕ) (least : 1 ≤ c) (most : c ≤ 3) where
+  pub no-mark : c % 16 ≡ c
+  no-mark = omega arith
+
+  pub unmarked : Kind-word c
+  unmarked = record { small = omega arith; low = rw no-mark least; high = rw no-mark most }

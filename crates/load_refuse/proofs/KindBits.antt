@@ -8,6 +8,7 @@ use lib.Dec.{eqb, leb}
 use Rattle.lists.proofs.Tests.{by-test, and-left, and-right}
 use Rattle.calls.specs.Kind.{is-kind}
 use Rattle.kind_pick.specs.Needs.{Kind-word}
+use Rattle.kind_pick.proofs.PickLaws as pick
 use Rattle.load_refuse.specs.Refusals.{depth-behind}
 
 -- a kind is a kind word with no mark
@@ -21,10 +22,10 @@ module _ (c : ℕ) (k : is-kind c ≡ true) where
   most = leb-true c 3 (and-right (leb 1 c) (leb c 3) k)
 
   pub no-mark : c % 16 ≡ c
-  no-mark = omega (arith, most)
+  no-mark = pick.no-mark c least most
 
   pub unmarked : Kind-word c
-  unmarked = record { small = omega (arith, most); low = rw no-mark least; high = rw no-mark most }
+  unmarked = pick.unmarked c least most
 
 module _ (d c : ℕ) where
   -- an end where no begin is open, and one that closes a begin

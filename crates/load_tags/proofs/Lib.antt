@@ -1,4 +1,5 @@
 pub mod OneTag
+pub mod Inside
 pub mod Filled
 pub mod Row
 pub mod Nodes

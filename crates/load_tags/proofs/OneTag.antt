@@ -10,7 +10,7 @@ use lib.ListN.{length}
 use Rattle.store_types.specs.Layout.{header-words, label-words, at-next, at-prior, at-mate, at-up, at-kind, tag-words, words-for, field, label-at, with-field, with-label}
 use Rattle.lists.proofs.Tests.{by-test}
 use Rattle.words.proofs.Fields.{record-room, field-same, field-other-tag, field-other-word, label-same, label-other-tag, field-past-label, label-past-field, header-kept, header-kept-label, length-with-field, length-with-label, rest-with-field, rest-with-label}
-use Rattle.load_tags.specs.Tags.{next-number, prior-number, place-written, inner-written, end-written, tag-written, open-behind, Around}
+use Rattle.load_tags.specs.Tags.{next-number, prior-number, place-written, new-mate, new-up, links-written, tag-written, open-behind, Around}
 
 -- OUTSIDE THE RECORDS nothing changes
 pub around-none : (ws : List ℕ) (n : ℕ) → Around ws ws n
@@ -102,9 +102,9 @@ module _ (ws : List ℕ) (x n c a o : ℕ) (below : x < n) (long : words-for hea
 
   -- a begin or text is its own mate so far, and stands under o
   pub inner-more : (c ≡ 2 → ⊥) → One-more n x c a x o x ws (tag-written x n c a o ws)
-  unfolding tag-written place-written inner-written puts
+  unfolding tag-written links-written place-written new-mate new-up puts
   inner-more inner =
-      let ps = common x ((at-up, o) ∷ []) in
+      let ps = common x ((at-mate, x) ∷ (at-up, o) ∷ []) in
       let all : Places ps = omega arith in
       let own = puts-own x n below ps labelled all labelled-long in
       rw (ne-eqb c 2 inner) (record {
@@ -118,6 +118,13 @@ module _ (ws : List ℕ) (x n c a o : ℕ) (below : x < n) (long : words-for hea
         kept = λ y j past f other back. puts-other x n below ps labelled all y j f other ∙ field-past-label ws x y a j past f;
         label-kept = λ y other. puts-label x n below ps labelled all y ∙ label-other-tag ws x y a other;
       })
+
+  -- where the tag stands, nothing is written of another tag
+  pub up-kept : (x ≡ o → ⊥) → field (place-written x n c a ws) o at-up ≡ field ws o at-up
+  unfolding place-written puts
+  up-kept apart =
+      puts-other x n below ((at-kind, c) ∷ (at-next, next-number x n) ∷ (at-prior, prior-number x) ∷ []) labelled (omega arith) o at-up (omega arith) (λ e. apart (sym e))
+      ∙ field-past-label ws x o a at-up (omega arith) (omega arith)
 
   -- an end and its begin o are each other's mates, under what o stands under
   module _ (is-end : c ≡ 2) (begun : o < n) (apart : x ≡ o → ⊥) where
@@ -133,15 +140,9 @@ module _ (ws : List ℕ) (x n c a o : ℕ) (below : x < n) (long : words-for hea
     all-front : Places front
     all-front = omega arith
 
-    up-kept : field (place-written x n c a ws) o at-up ≡ field ws o at-up
-    unfolding place-written puts
-    up-kept =
-        puts-other x n below ((at-kind, c) ∷ (at-next, next-number x n) ∷ (at-prior, prior-number x) ∷ []) labelled (omega arith) o at-up (omega arith) (λ e. apart (sym e))
-        ∙ field-past-label ws x o a at-up (omega arith) (omega arith)
-
     written : tag-written x n c a o ws ≡ with-field second x at-up (field ws o at-up)
-    unfolding tag-written end-written place-written puts
-    written = rw (eq-eqb c 2 is-end) (ap (λ (up : ℕ). with-field second x at-up up) up-kept)
+    unfolding tag-written links-written place-written new-mate new-up puts
+    written = rw (eq-eqb c 2 is-end) (ap (λ (up : ℕ). with-field second x at-up up) (up-kept apart))
 
     first-long : words-for header-words n ≤ length first
     first-long = rw (puts-around x n below front labelled all-front .size) labelled-long
@@ -185,14 +186,14 @@ module _ (ws : List ℕ) (x n c a o : ℕ) (below : x < n) (long : words-for hea
         ∙ field-same first o at-mate x (record-room n o first first-long begun) (omega arith))
 
     pub end-opens : open-behind x n c a o ws ≡ field ws o at-up
-    unfolding open-behind
-    end-opens = rw (eq-eqb c 2 is-end) up-kept
+    unfolding open-behind new-up
+    end-opens = rw is-end (rw is-end at (up-kept apart))
 
 -- the innermost open begin behind a begin is itself, behind a text what it was
 pub begin-opens : (x n c a o : ℕ) (ws : List ℕ) → c ≡ 1 → open-behind x n c a o ws ≡ x
-unfolding open-behind
+unfolding open-behind new-up
 begin-opens x n c a o ws e = rw e
 
 pub text-opens : (x n c a o : ℕ) (ws : List ℕ) → c ≡ 3 → open-behind x n c a o ws ≡ o
-unfolding open-behind
+unfolding open-behind new-up
 text-opens x n c a o ws e = rw e

@@ -22,7 +22,7 @@ use Rattle.calls_laws.proofs.Nesting.{Step, Pass, no-tag-fact}
 use Rattle.calls_laws.proofs.NewFacts.{length-new-facts, pass-new}
 use Rattle.calls_laws.proofs.Reader.{getD-map}
 use Rattle.walk_model.proofs.Found.{code-back}
-use Rattle.load_tags.specs.Tags.{tag-written, open-behind, facts-new, Tag-fits, Tags-fit, Tags-written}
+use Rattle.load_tags.specs.Tags.{Kind-number, tag-written, open-behind, facts-new, Tag-fits, Tags-fit, Tags-written}
 use Rattle.load_tags.proofs.OneTag.{around-none}
 use Rattle.load_tags.proofs.Filled.{Filled, none-open, begun, turned}
 
@@ -47,9 +47,12 @@ kind-at [] i h l = absurd (not-suc-le-zero l)
 kind-at (c ∷ cs) zero h l = and-left (is-kind c) (all-kinds cs) h
 kind-at (c ∷ cs) (suc i) h l = kind-at cs i (and-right (is-kind c) (all-kinds cs) h) (le-of-suc-le-suc l)
 
-code-is : (c : ℕ) → is-kind c ≡ true → code (kind-of c) ≡ c
+kind-fits : (c : ℕ) → is-kind c ≡ true → Kind-number c
 unfolding is-kind
-code-is c h = code-back c (leb-true 1 c (and-left (leb 1 c) (leb c 3) h)) (leb-true c 3 (and-right (leb 1 c) (leb c 3) h))
+kind-fits c h = record { low = leb-true 1 c (and-left (leb 1 c) (leb c 3) h); high = leb-true c 3 (and-right (leb 1 c) (leb c 3) h) }
+
+code-is : (c : ℕ) → is-kind c ≡ true → code (kind-of c) ≡ c
+code-is c h = let k = kind-fits c h in code-back c (k .low) (k .high)
 
 pub count-new : (cs : List ℕ) → length (facts-new cs) ≡ length cs
 count-new cs = length-new-facts no-tag [] 0 (map kind-of cs) ∙ length-map cs kind-of
@@ -93,6 +96,7 @@ module _ (cs ls before : List ℕ) (h : Tags-fit before cs) where
         record {
           records = records-kept (h .records) (f .filled .around .size);
           below = own;
+          number = kind-fits (getD cs x 0) (kind-at cs x (h .kinds) own);
           begun = begun (length cs) (facts-new cs) ls before (h .records .few) x ws u (f .filled) own (getD cs x 0) (getD ls x 0) refl (h .records .long) number (fact-is .unmarked) (step .0) (step .1);
         }
 

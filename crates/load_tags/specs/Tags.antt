@@ -2,6 +2,7 @@
 use mathlib.Core.Path.{_≡_}
 use mathlib.Core.Bool.{true, cond}
 use mathlib.Core.List.{List, [], map}
+use mathlib.Core.Logic.{_⊎_}
 use Prim.Native.Nat.{ℕ, _+_, _*_, _-_, _^_, _≤_, _<_}
 use lib.Dec.{ltb, eqb}
 use lib.ListN.{length, getD, drop}
@@ -15,6 +16,7 @@ use Rattle.calls.specs.Kind.{kind-of, kind-word}
 use Rattle.calls.specs.Store.{Fact, fact-in}
 use Rattle.calls.specs.Nesting.{nests, new-facts}
 use Rattle.calls.specs.Load.{all-kinds}
+use Rattle.load_tags.specs.declared.Open as code
 
 -- the tag behind and the tag before tag x of n, numbered in book order, or no tag
 unfoldable pub next-number : (x n : ℕ) → ℕ
@@ -28,27 +30,50 @@ unfoldable pub place-written : (x n kind label : ℕ) → List ℕ → List ℕ
 place-written x n c a ws =
     with-field (with-field (with-field (with-label ws x a) x at-kind c) x at-next (next-number x n)) x at-prior (prior-number x)
 
--- mate and up of a begin or text, where o is the innermost open begin
-unfoldable pub inner-written : (x o : ℕ) → List ℕ → List ℕ
-inner-written x o ws = with-field (with-field ws x at-mate x) x at-up o
+-- a kind as the caller gives it
+pub record Kind-number (c : ℕ) : Type 0 where
+  pub low : 1 ≤ c
+  pub high : c ≤ 3
 
--- mate and up of an end, and its begin's mate
-unfoldable pub end-written : (x o : ℕ) → List ℕ → List ℕ
-end-written x o ws = with-field (with-field (with-field ws x at-mate o) o at-mate x) x at-up (field ws o at-up)
+-- its mate: of an end the innermost open begin o; any other tag is its own, a begin until its end is met
+unfoldable pub new-mate : (x kind o : ℕ) → ℕ
+new-mate x c o = cond (eqb c 2) o x
+
+-- its up: of an end what stands around o
+unfoldable pub new-up : (kind o : ℕ) → List ℕ → ℕ
+new-up c o ws = cond (eqb c 2) (field ws o at-up) o
+
+-- a tag with this mate and up is the mate of its mate
+unfoldable pub links-written : (x mate up : ℕ) → List ℕ → List ℕ
+links-written x m u ws = with-field (with-field (with-field ws x at-mate m) m at-mate x) x at-up u
 
 -- the whole record
 unfoldable pub tag-written : (x n kind label o : ℕ) → List ℕ → List ℕ
-tag-written x n c a o ws = let placed = place-written x n c a ws in cond (eqb c 2) (end-written x o placed) (inner-written x o placed)
+tag-written x n c a o ws =
+    let placed = place-written x n c a ws in links-written x (new-mate x c o) (new-up c o placed) placed
 
 -- the innermost open begin behind tag x
 unfoldable pub open-behind : (x n kind label o : ℕ) → List ℕ → ℕ
-open-behind x n c a o ws = cond (eqb c 2) (field (place-written x n c a ws) o at-up) (cond (eqb c 1) x o)
+open-behind x n c a o ws = cond (eqb c 1) x (new-up c o (place-written x n c a ws))
 
 -- what a tag is asked of: the records of n tags are there, x is one of them, and an end has a begin
 pub record Tag-fits (ws : List ℕ) (n x kind o : ℕ) : Type 0 where
   pub records : Records ws n
   pub below : x < n
+  pub number : Kind-number kind
   pub begun : kind ≡ 2 → o < n
+
+-- what is carried of the open begins: where it is known, what stands around the innermost one is its up; and then one is open, of
+-- the first x tags
+pub record Around-known (ws : List ℕ) (x : ℕ) (v : code.Open) : Type 0 where
+  pub up : v .known ≡ true → v .around .0 ≡ field ws (v .begin .0) at-up
+  pub below : v .known ≡ true → v .begin .0 < x
+
+-- behind tag x with this up: a begin opens, and stands in what its up says; a text changes nothing
+pub record Opened (x kind up : ℕ) (v q : code.Open) : Type 0 where
+  pub begin-is : q .begin .0 ≡ cond (eqb kind 1) x up
+  pub around-is : q .around .0 ≡ cond (eqb kind 1) up (v .around .0)
+  pub known : q .known ≡ true → (kind ≡ 1) ⊎ ((kind ≡ 3) × (v .known ≡ true))
 
 -- THE ROW: what all tags are asked of
 pub record Tags-fit (ws cs : List ℕ) : Type 0 where

@@ -1,13 +1,14 @@
 // The records of the tags with their labels, in one pass. An open begin's own up word serves as the stack; the label goes from
 // place to place by the nodes that begin there.
 ghost use mathlib.Core.Path.{_≡_};
-ghost use Prim.Native.Nat.{_<_, _≤_};
+ghost use mathlib.Core.Bool.{true};
+ghost use Prim.Native.Nat.{_+_, _<_, _≤_};
 ghost use lib.ListN.{length};
 ghost use Rattle.store_types.specs.Limits.{most-tags, word-limit};
 ghost use Rattle.store_types.specs.Layout.{at-up, field, Room};
 ghost use Rattle.shape.specs.Tables.{entry-limit};
 ghost use Rattle.load_model.specs.Begins.{next-begin, begun, First-begins};
-ghost use Rattle.load_tags.specs.Tags.{Entries-fit, Trees-fit, labels-new, next-number, prior-number, place-written, inner-written, end-written, tag-written, open-behind, Tag-fits, Tags-fit, Tags-written};
+ghost use Rattle.load_tags.specs.Tags.{Entries-fit, Trees-fit, labels-new, next-number, prior-number, place-written, Kind-number, new-mate, new-up, links-written, tag-written, open-behind, Opened, Around-known, Tag-fits, Tags-fit, Tags-written};
 use store_types::Label;
 use store_types::TagId;
 
@@ -43,44 +44,70 @@ fn write_place(words: &mut [u32], i: u32, n: u32, kind: u8, label: Label)
     words::set_prior(words, x, prior_tag(i));
 }
 
+// The innermost open begin, and what stands around it where that is known: behind an end it is not, and only another end
+// asks for it.
+struct Open {
+    begin: TagId,
+    around: TagId,
+    known: bool,
+}
+
+// The up of a tag: the innermost open begin, and of an end what stands around that. It is read only where it is not known, so
+// that no tag waits for the record of the open begin, and no branch is on the kind alone, which no processor can foretell.
+fn up_at(words: &[u32], kind: u8, inside: Open) -> TagId
+    requires { ⌜ (Kind-number kind) × (kind ≡ 2 → Room (now words) (inside .begin .0)) × (inside .known ≡ true → inside .around .0 ≡ field (now words) (inside .begin .0) at-up) ⌝ }
+    ensures { λ u. ⌜ u .0 ≡ new-up kind (inside .begin .0) (now (words .entry)) ⌝ }
+{
+    if kind == 2 && !inside.known {
+        return words::up_of(words, inside.begin);
+    }
+    TagId(kind_pick::at_end(kind as u32, inside.around.0, inside.begin.0))
+}
+
 // A begin is its own mate until its end is met; a text stays so.
-fn write_inner(words: &mut [u32], x: TagId, parent: TagId)
-    requires { ⌜ Room (now words) (x .0) ⌝ }
-    ensures { λ _. ⌜ now (words .exit) ≡ inner-written (x .0) (parent .0) (now (words .entry)) ⌝ }
+fn mate_at(x: TagId, kind: u8, parent: TagId) -> TagId
+    requires { ⌜ Kind-number kind ⌝ }
+    ensures { λ m. ⌜ m .0 ≡ new-mate (x .0) kind (parent .0) ⌝ }
 {
-    words::set_mate(words, x, x);
-    words::set_up(words, x, parent);
+    TagId(kind_pick::at_end(kind as u32, parent.0, x.0))
 }
 
-// An end, and its begin's mate. What stood around the begin stands around both.
-fn write_end(words: &mut [u32], x: TagId, parent: TagId) -> TagId
-    requires { ⌜ Room (now words) (x .0) × Room (now words) (parent .0) ⌝ }
-    ensures words { λ _. ⌜ now (words .exit) ≡ end-written (x .0) (parent .0) (now (words .entry)) ⌝ }
-    ensures up { λ o. ⌜ o .0 ≡ field (now (words .entry)) (parent .0) at-up ⌝ }
+// Behind tag x, which has this up.
+fn open_behind(x: TagId, kind: u8, up: TagId, inside: Open) -> Open
+    requires { ⌜ Kind-number kind ⌝ }
+    ensures { λ q. ⌜ Opened (x .0) kind (up .0) inside q ⌝ }
 {
-    let up = words::up_of(words, parent);
-    words::set_mate(words, x, parent);
-    words::set_mate(words, parent, x);
+    Open {
+        begin: TagId(kind_pick::at_begin(kind as u32, x.0, up.0)),
+        around: TagId(kind_pick::at_begin(kind as u32, up.0, inside.around.0)),
+        known: kind == 1 || (kind != 2 && inside.known),
+    }
+}
+
+// Mate and up of a tag, and it is the mate of its mate: a tag that is no end is written twice as its own, which costs less than
+// a branch.
+fn write_links(words: &mut [u32], x: TagId, mate: TagId, up: TagId)
+    requires { ⌜ Room (now words) (x .0) × Room (now words) (mate .0) ⌝ }
+    ensures { λ _. ⌜ now (words .exit) ≡ links-written (x .0) (mate .0) (up .0) (now (words .entry)) ⌝ }
+{
+    words::set_mate(words, x, mate);
+    words::set_mate(words, mate, x);
     words::set_up(words, x, up);
-    up
 }
 
-// Tag i with its record; the innermost open begin behind it.
-fn write_tag(words: &mut [u32], i: u32, n: u32, kind: u8, label: Label, parent: TagId) -> TagId
-    requires { ⌜ Tag-fits (now words) n i kind (parent .0) ⌝ }
-    ensures words { λ _. ⌜ now (words .exit) ≡ tag-written i n kind (label .0) (parent .0) (now (words .entry)) ⌝ }
-    ensures open { λ o. ⌜ o .0 ≡ open-behind i n kind (label .0) (parent .0) (now (words .entry)) ⌝ }
+// Tag i with its record, and its begin's mate where it is an end; what is open behind it.
+fn write_tag(words: &mut [u32], i: u32, n: u32, kind: u8, label: Label, inside: Open) -> Open
+    requires { ⌜ Tag-fits (now words) n i kind (inside .begin .0) × Around-known (now words) i inside ⌝ }
+    ensures words { λ _. ⌜ now (words .exit) ≡ tag-written i n kind (label .0) (inside .begin .0) (now (words .entry)) ⌝ }
+    ensures begin { λ q. ⌜ q .begin .0 ≡ open-behind i n kind (label .0) (inside .begin .0) (now (words .entry)) ⌝ }
+    ensures around { λ q. ⌜ Around-known (now (words .exit)) (i + 1) q ⌝ }
 {
     write_place(words, i, n, kind, label);
     let x = TagId(i);
-    if kind == 2 {
-        return write_end(words, x, parent);
-    }
-    write_inner(words, x, parent);
-    if kind == 1 {
-        return x;
-    }
-    parent
+    let up = up_at(words, kind, inside);
+    let mate = mate_at(x, kind, inside.begin);
+    write_links(words, x, mate, up);
+    open_behind(x, kind, up, inside)
 }
 
 // Behind a node over `each` leaves at place i of n, where the next of its height begins: n where the last takes all that remain.
@@ -140,12 +167,16 @@ pub fn write_tags(words: &mut [u32], kinds: &[u8], r: u64, b: u64, under: usize)
     let gaps = shape::table(b - r, b, under);
     let lows = shape::table(r, r, under);
     let mut begins = first_begins(n as u64, under, &lows);
-    let mut parent = TagId::NONE;
+    let mut inside = Open {
+        begin: TagId::NONE,
+        around: TagId::NONE,
+        known: false,
+    };
     let mut label: u64 = 0;
     let mut i: u32 = 0;
     while i < n {
         label = begin_nodes(i as u64, n as u64, label, &gaps, &lows, &mut begins);
-        parent = write_tag(words, i, n, kinds[i as usize], Label(label as u32), parent);
+        inside = write_tag(words, i, n, kinds[i as usize], Label(label as u32), inside);
         label = (label + 1) % 4294967296;
         i += 1;
     }

@@ -1,62 +1,60 @@
 -- `load_tags::write_tag` meets its contract. Assumes nothing.
-use borrow.Author.Tests.{eq-eqb, ne-eqb}
 use Rattle.words.proofs.Fields.{room, room-same}
-use Rattle.load_tags.specs.Tags.{tag-written, open-behind}
+use Rattle.load_tags.proofs.Inside.{mate-room, known-placed, whole, begin-behind, known-behind}
 use borrow.Author.Needs.{needs}
 use native.Mathlib.Omega.{arith}
 use Rattle.load_tags.proofs.write_tag.Statement.{statement}
 use Rattle.load_tags.proofs.write_tag.Tie as tie
 
 write-place-requires : tie.Need-write-place-requires
-write-place-requires c κs = (c .before .before .pre .below, room (c .before .before .pre .records) (c .before .before .pre .below))
+write-place-requires c κs = let fits = c .before .before .pre .0 in (fits .below, room (fits .records) (fits .below))
 
-write-end-requires : tie.Need-write-end-requires
-write-end-requires c κs =
-    let asked = c .before .before .before .before .before .before .before .pre in
-    (room-same (room (asked .records) (asked .below)) (omega arith), room-same (room (asked .records) (asked .begun (c .before .if1 .taken))) (omega arith))
+up-at-requires : tie.Need-up-at-requires
+up-at-requires c κs =
+    let asked = c .before .before .before .before .before .before .pre in
+    let written = c .before .before .before .write-place .ensures in (
+      asked .0 .number,
+      (λ e. room-same (room (asked .0 .records) (asked .0 .begun e)) (omega arith)),
+      (λ k. rw written (known-placed _ _ _ _ _ _ (asked .0) (asked .1) k)),
+    )
+
+mate-at-requires : tie.Need-mate-at-requires
+mate-at-requires c κs = search needs
+
+write-links-requires : tie.Need-write-links-requires
+write-links-requires c κs =
+    let fits = c .before .before .before .before .before .before .before .before .before .pre .0 in
+    (room-same (room (fits .records) (fits .below)) (omega arith), room-same (mate-room fits (c .before .mate-at .ensures)) (omega arith))
+
+open-behind-requires : tie.Need-open-behind-requires
+open-behind-requires c κs = search needs
 
 same-length : tie.Need-same-length
 same-length c = search needs
 
 returns : tie.Need-returns
-unfolding tag-written open-behind
 returns c =
-    let e = eq-eqb _ _ (c .before .before .before .before .if1 .taken) in
-    (rw e (cc), rw e (cc))
-
-write-inner-requires : tie.Need-write-inner-requires
-write-inner-requires c κs =
-    let asked = c .before .before .before .before .before .before .before .pre in
-    room-same (room (asked .records) (asked .below)) (omega arith)
-
-same-length-2 : tie.Need-same-length-2
-same-length-2 c = search needs
-
-returns-2 : tie.Need-returns-2
-unfolding tag-written open-behind
-returns-2 c =
-    let e = ne-eqb _ _ (c .before .before .before .before .before .if1 .left) in
-    (rw e (cc), rw (e, eq-eqb _ _ (c .if2 .taken)))
-
-same-length-3 : tie.Need-same-length-3
-same-length-3 c = search needs
-
-returns-3 : tie.Need-returns-3
-unfolding tag-written open-behind
-returns-3 c =
-    let e = ne-eqb _ _ (c .before .before .before .before .before .if1 .left) in
-    (rw e (cc), rw (e, ne-eqb _ _ (c .if2 .left)))
+    let linked = c .before .before .before in
+    let picked = linked .before .before in
+    let placed = picked .before .before .before .before .before in
+    let asked = placed .before .before .before .pre in
+    let up = rw (placed .write-place .ensures) at (picked .before .up-at .ensures) in
+    let words = whole _ _ _ _ _ _ (asked .0) (asked .1) _ _ _ _ (placed .write-place .ensures) (picked .mate-at .ensures) (picked .before .up-at .ensures) (linked .write-links .ensures) in (
+      words,
+      (
+        begin-behind _ _ _ _ _ _ (asked .0) (asked .1) _ _ up (c .open-behind .ensures),
+        rw words (known-behind _ _ _ _ _ _ (asked .0) (asked .1) _ _ up (c .open-behind .ensures)),
+      ),
+    )
 
 pub write-tag-spec : {M : Type 1} → statement M
 write-tag-spec =
     tie.close
     (tie.spec
     write-place-requires
-    write-end-requires
+    up-at-requires
+    mate-at-requires
+    write-links-requires
+    open-behind-requires
     same-length
-    returns
-    write-inner-requires
-    same-length-2
-    returns-2
-    same-length-3
-    returns-3)
+    returns)

@@ -1,12 +1,14 @@
 -- `load_tags::write_tags` meets its contract. The loop's invariant: the first i tags are written, but for the mates of the
 -- open begins, and the label has come to place i. Assumes nothing.
+use mathlib.Core.Path.{sym}
+use mathlib.Core.Bool.{true≢false}
 use mathlib.Core.List.{List}
 use Prim.Native.Nat.{ℕ, _-_, _≤_, _<_}
 use lib.ListN.{length}
 use Rattle.store_types.specs.Limits.{word-limit}
 use Rattle.shape.specs.Sums.{cut}
 use Rattle.load_model.proofs.Steps.{Abreast}
-use Rattle.load_tags.specs.Tags.{labels-new}
+use Rattle.load_tags.specs.Tags.{labels-new, Around-known}
 use Rattle.load_tags.proofs.Row.{Filling, row-starts, tag-fits, row-turns, row-ends}
 use Rattle.load_tags.proofs.Labelled.{gap, gaps-fit, lows-fit, gaps-small, lows-small, small, labels-start, labels-begun, labels-next, label-new}
 use native.Mathlib.Omega.{arith}
@@ -14,13 +16,14 @@ use Rattle.load_tags.proofs.write_tags.Statement.{statement}
 use Rattle.load_tags.proofs.write_tags.Tie as tie
 
 abbrev Inv-loop : tie.InvT-loop
-Inv-loop words₀ kinds r b under n gaps lows begins₀ parent₀ label₀ i₀ words begins parent label i =
+Inv-loop words₀ kinds r b under n gaps lows begins₀ inside₀ label₀ i₀ words begins inside label i =
     (i ≤ length kinds)
     × Abreast r under (length kinds) (gap r b) i 0 label begins
-    × Filling kinds (labels-new r b (length kinds) under) words₀ i words (parent .0)
+    × Filling kinds (labels-new r b (length kinds) under) words₀ i words (inside .begin .0)
+    × Around-known words i inside
 
 abbrev μ-loop : tie.MeasureT-loop
-μ-loop words₀ kinds r b under n gaps lows begins₀ parent₀ label₀ i₀ words begins parent label i =
+μ-loop words₀ kinds r b under n gaps lows begins₀ inside₀ label₀ i₀ words begins inside label i =
     length kinds - i
 
 cast-n : tie.Need-cast-n Inv-loop μ-loop
@@ -49,6 +52,7 @@ loop-holds c =
       omega arith,
       labels-start _ _ _ _ (p .1) _ _ (c .before .before .before .table .ensures) (c .before .before .table2 .ensures) _ (c .first-begins .ensures),
       row-starts _ _ _ (p .0),
+      record { up = λ k. absurd (true≢false (sym k)); below = λ k. absurd (true≢false (sym k)) },
     )
 
 cast-begin-nodes : tie.Need-cast-begin-nodes Inv-loop μ-loop
@@ -83,13 +87,13 @@ cast-write-tag c = omega arith
 shared-slice-read-write-tag : tie.Need-shared-slice-read-write-tag Inv-loop μ-loop
 shared-slice-read-write-tag c = omega arith
 
-cast-t28 : tie.Need-cast-t28 Inv-loop μ-loop
-cast-t28 c = omega (arith, small-here (c .before .before))
+cast-t30 : tie.Need-cast-t30 Inv-loop μ-loop
+cast-t30 c = omega (arith, small-here (c .before .before))
 
 write-tag-requires : tie.Need-write-tag-requires Inv-loop μ-loop
 write-tag-requires c κs =
     let l = c .before .before .before .before .before .before .before .loop in
-    tag-fits _ _ _ (c .before .before .before .before .before .before .before .before .before .before .before .before .before .before .pre .0) (l .i) (l .words) (l .parent .0) (l .inv .2) (c .before .before .before .before .before .before .loop-test .taken)
+    (tag-fits _ _ _ (c .before .before .before .before .before .before .before .before .before .before .before .before .before .before .pre .0) (l .i) (l .words) (l .inside .begin .0) (l .inv .2) (c .before .before .before .before .before .before .loop-test .taken), l .inv .3)
 
 add-label : tie.Need-add-label Inv-loop μ-loop
 add-label c = omega (arith, small-here (c .before .before .before .before .before))
@@ -110,7 +114,8 @@ loop-again c =
     let w = c .before .before .write-tag .ensures in (
       omega arith,
       labels-next _ _ _ _ (p .1) (l .i) _ _ here,
-      rw (w .0, w .1) (row-turns _ _ _ (p .0) (l .i) (l .words) (l .parent .0) (l .inv .2) test _ (label-new _ _ _ _ (p .1) (l .i) _ _ test here)),
+      rw (w .0, w .1 .0) (row-turns _ _ _ (p .0) (l .i) (l .words) (l .inside .begin .0) (l .inv .2) test _ (label-new _ _ _ _ (p .1) (l .i) _ _ test here)),
+      w .1 .1,
     )
 
 same-length : tie.Need-same-length Inv-loop μ-loop
@@ -137,7 +142,7 @@ write-tags-spec =
     begin-nodes-requires
     cast-write-tag
     shared-slice-read-write-tag
-    cast-t28
+    cast-t30
     write-tag-requires
     add-label
     add-i
