@@ -103,7 +103,7 @@ unfoldable pub raised : (d ks : ℕ → ℕ) → (u : ℕ) → ℕ
 raised d ks zero = 0
 raised d ks (suc u) = raised d ks u + ks (suc u) * d (suc u)
 
-module _ (r : ℕ) (r-least : 2 ≤ r) (w d : ℕ → ℕ) (first : w 0 ≡ 1) (apart : (j : ℕ) → w (suc j) ≡ r * w j + d (suc j)) where
+module _ (r : ℕ) (r-least : 2 ≤ r) (w d : ℕ → ℕ) (first : w 0 ≡ 1) (highest : ℕ) (apart : (j : ℕ) → j < highest → w (suc j) ≡ r * w j + d (suc j)) where
   -- k nodes of height t more before a place are so many of height j
   abbrev nodes : (t k j : ℕ) → ℕ
   nodes t k j = k * r ^ (t - j)
@@ -126,16 +126,16 @@ module _ (r : ℕ) (r-least : 2 ≤ r) (w d : ℕ → ℕ) (first : w 0 ≡ 1) (
   nodes-leaves : (t k j : ℕ) → j ≤ t → nodes t k j * r ^ j ≡ k * r ^ t
   nodes-leaves t k j l = mul-assoc k (r ^ (t - j)) (r ^ j) ∙ ap (λ (x : ℕ). k * x) (power-split t j l)
 
-  raised-behind : (t k : ℕ) (ks ls : ℕ → ℕ) (u : ℕ) → u ≤ t → ((j : ℕ) → 1 ≤ j → j ≤ u → ks j ≡ ls j + nodes t k j) →
+  raised-behind : (t k : ℕ) (ks ls : ℕ → ℕ) (u : ℕ) → u ≤ t → t ≤ highest → ((j : ℕ) → 1 ≤ j → j ≤ u → ks j ≡ ls j + nodes t k j) →
       k * r ^ t + raised d ks u ≡ raised d ls u + nodes t k u * w u
   unfolding raised
-  raised-behind t k ks ls zero l e = rw (first, mul-one, sub-zero) (omega arith)
-  raised-behind t k ks ls (suc u) l e =
+  raised-behind t k ks ls zero l high e = rw (first, mul-one, sub-zero) (omega arith)
+  raised-behind t k ks ls (suc u) l high e =
       let c = nodes t k (suc u) in
       let own : ks (suc u) * d (suc u) ≡ ls (suc u) * d (suc u) + c * d (suc u) = rw (e (suc u) (omega arith) (omega arith)) (add-mul (ls (suc u)) c (d (suc u))) in
-      let wide : c * w (suc u) ≡ c * (r * w u) + c * d (suc u) = rw (apart u) (mul-add c (r * w u) (d (suc u))) in
+      let wide : c * w (suc u) ≡ c * (r * w u) + c * d (suc u) = rw (apart u (omega arith)) (mul-add c (r * w u) (d (suc u))) in
       let below : nodes t k u * w u ≡ c * (r * w u) = rw (nodes-next t k u (omega arith)) (mul-assoc c r (w u)) in
-      omega (arith, own, wide, below, raised-behind t k ks ls u (omega arith) (λ j m n. e j m (omega arith)))
+      omega (arith, own, wide, below, raised-behind t k ks ls u (omega arith) high (λ j m n. e j m (omega arith)))
 
   -- THE PART of a row of n that node k over r^t leaves holds: l leaves, of which place i is the one numbered m
   record Under (t k n l i m : ℕ) : Type 0 where
@@ -175,11 +175,11 @@ module _ (r : ℕ) (r-least : 2 ≤ r) (w d : ℕ → ℕ) (first : w 0 ≡ 1) (
         inside f q n l i m x (some-power r j r-least) own h (omega (arith, part .place, nodes-leaves t k j low)) (omega (arith, part .room, nodes-leaves t k j low)) fits
 
   -- THE LABEL OF PLACE i
-  pub place-label : (u : ℕ) (xs : List ℕ) (a i : ℕ) (ks : ℕ → ℕ) → (1 ≤ u → r ^ u ≤ length xs) → i < length xs →
+  pub place-label : (u : ℕ) (xs : List ℕ) (a i : ℕ) (ks : ℕ → ℕ) → u ≤ highest → (1 ≤ u → r ^ u ≤ length xs) → i < length xs →
       ((j : ℕ) → 1 ≤ j → j ≤ u → Holds (r ^ j) (length xs) i (ks j)) → getD (labels (spread u r xs) w u a) i 0 ≡ a + (i + raised d ks u)
   unfolding raised
-  place-label zero xs a i ks least l h = rw spread-zero (row-label xs w a i first l ∙ omega arith)
-  place-label (suc u) xs a i ks least l h =
+  place-label zero xs a i ks high least l h = rw spread-zero (row-label xs w a i first l ∙ omega arith)
+  place-label (suc u) xs a i ks high least l h =
       let e = r ^ suc u in
       let n = length xs in
       let k = ks (suc u) in
@@ -202,13 +202,13 @@ module _ (r : ℕ) (r-least : 2 ≤ r) (w d : ℕ → ℕ) (first : w 0 ≡ 1) (
       record { place = place; enough = p .enough; room = omega arith; below = omega arith; ends = inl s }) in
       let ls : ℕ → ℕ = λ j. ks j - nodes (suc u) k j in
       let behind =
-      place-label u (p .row) (a + k * w (suc u)) m ls (λ t. lower-power r u (length (p .row)) r-least (p .enough)) (under .below)
+      place-label u (p .row) (a + k * w (suc u)) m ls (omega arith) (λ t. lower-power r u (length (p .row)) r-least (p .enough)) (under .below)
       (λ j s t. held-inside (suc u) k n (length (p .row)) i m under j (ks j) (omega arith) (h j s (omega arith))) in
       let moved =
-      raised-behind (suc u) k ks ls u (omega arith)
+      raised-behind (suc u) k ks ls u (omega arith) high
       (λ j s t. omega (arith, held-before (suc u) k n (length (p .row)) i m under j (ks j) (omega arith) (h j s (omega arith)))) in
       let one : nodes (suc u) k u * w u ≡ k * (r * w u) = rw (nodes-one u k) (mul-assoc k r (w u)) in
-      let wide : k * w (suc u) ≡ k * (r * w u) + k * d (suc u) = rw (apart u) (mul-add k (r * w u) (d (suc u))) in
+      let wide : k * w (suc u) ≡ k * (r * w u) + k * d (suc u) = rw (apart u high) (mul-add k (r * w u) (d (suc u))) in
       rw (spread-suc u r _ xs (ps .count))
       (ap (λ (x : ℕ). getD (labels (parts (suc c) e (λ ys. spread u r ys) xs) w (suc u) a) x 0) place
       ∙ p .label-is ∙ behind ∙ omega (arith, moved, one, wide, place))

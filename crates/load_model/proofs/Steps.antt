@@ -232,10 +232,10 @@ module _ (r u n : ℕ) (d : ℕ → ℕ) (r-least : 2 ≤ r) (low : u ≤ 23) wh
           (λ e. rw e (all-held j a bs g (eqb-false (entry bs j) i e)))
 
     -- the label is that of the place
-    pub abreast-label : (w : ℕ → ℕ) → w 0 ≡ 1 → ((j : ℕ) → w (suc j) ≡ r * w j + d (suc j)) → (xs : List ℕ) → length xs ≡ n → (1 ≤ u → r ^ u ≤ n) →
+    pub abreast-label : (w : ℕ → ℕ) → w 0 ≡ 1 → ((j : ℕ) → j < u → w (suc j) ≡ r * w j + d (suc j)) → (xs : List ℕ) → length xs ≡ n → (1 ≤ u → r ^ u ≤ n) →
         (a : ℕ) (bs : List ℕ) → Abreast r u n d i u a bs → a ≡ cut (getD (labels (spread u r xs) w u 0) i 0)
     abreast-label w first apart xs many least a bs g =
         let place =
-        place-label r r-least w d first apart u xs 0 i (g .nodes) (λ s. rw many (least s)) (rw many inside)
+        place-label r r-least w d first u apart u xs 0 i (g .nodes) (omega arith) (λ s. rw many (least s)) (rw many inside)
         (λ j s t. let e : j ≡ suc (j - 1) = omega arith in rw (e, many) (g .held (j - 1) (omega arith) (omega arith))) in
         g .label ∙ ap cut (sym (place ∙ zero-add (i + raised d (g .nodes) u)))

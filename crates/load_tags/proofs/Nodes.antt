@@ -1,14 +1,13 @@
 -- The nodes of a load, as the code finds where they begin. Assumes nothing.
 use mathlib.Core.Path.{_≡_, ap, _∙_}
 use mathlib.Core.List.{List}
-use Prim.Native.Nat.{ℕ, zero, suc, _+_, _-_, _%_, _≤_, _<_}
+use Prim.Native.Nat.{ℕ, zero, suc, _+_, _-_, _≤_, _<_}
 use native.Mathlib.Numerals.{add-one}
 use native.Mathlib.Omega.{arith}
 use borrow.Author.Tests.{eq-eqb, ne-eqb, eqb-true, eqb-false}
 use lib.Dec.{eqb}
 use lib.ListN.{set, replicate, length-set, length-replicate, getD-replicate}
 use lib.Seq.{getD-set-same, getD-set-other}
-use Rattle.store_types.specs.Limits.{word-limit}
 use Rattle.lists.proofs.Tests.{by-test}
 use Rattle.shape.specs.Tables.{entry}
 use Rattle.shape.specs.Sums.{cut}
@@ -40,8 +39,8 @@ module _ (gaps lows : List ℕ) (n i : ℕ) where
   begun-stays j a bs l other = let e : 24 - j ≡ suc (24 - suc j) = omega arith in rw (e, ne-eqb (entry bs j) i other)
 
   pub begun-goes : (j a : ℕ) (bs : List ℕ) → j < 24 → entry bs j ≡ i →
-      from-height j a bs ≡ from-height (j + 1) ((a + entry gaps j) % word-limit) (set bs j (next-begin i n (entry lows j)))
-  unfolding begun cut
+      from-height j a bs ≡ from-height (j + 1) (cut (a + entry gaps j)) (set bs j (next-begin i n (entry lows j)))
+  unfolding begun
   begun-goes j a bs l here =
       let e : 24 - j ≡ suc (24 - suc j) = omega arith in
       rw (e, eq-eqb (entry bs j) i here, add-one j)

@@ -3,7 +3,7 @@ use mathlib.Core.Path.{_≡_}
 use mathlib.Core.Bool.{true, cond}
 use mathlib.Core.List.{List, [], map}
 use mathlib.Core.Logic.{_⊎_}
-use Prim.Native.Nat.{ℕ, _+_, _*_, _-_, _^_, _≤_, _<_}
+use Prim.Native.Nat.{ℕ, zero, suc, _+_, _*_, _-_, _^_, _≤_, _<_}
 use lib.Dec.{ltb, eqb}
 use lib.ListN.{length, getD, drop}
 use Rattle.store_types.specs.Limits.{no-tag}
@@ -105,17 +105,35 @@ pub record Tags-written (before after cs ls : List ℕ) : Type 0 where
   pub places : (x : ℕ) → x < length cs → Placed after (length cs) x (getD ls x 0) (fact-in (facts-new cs) x)
   pub mates : (x : ℕ) → x < length cs → field after x at-mate ≡ fact-in (facts-new cs) x .mate
 
--- THE LABELS of n tags in complete trees of height u, whose widths are the powers of b: by their low 32 bits
-unfoldable pub labels-new : (r b n u : ℕ) → List ℕ
-labels-new r b n u = map cut (labels (spread u r (numbers 0 n)) (λ j. b ^ j) u 0)
+-- THE LABELS of n tags in complete trees of height u, which have widths by height: by what a label holds of them
+unfoldable pub labels-new : (r : ℕ) → (widths : List ℕ) → (n u : ℕ) → List ℕ
+labels-new r w n u = map cut (labels (spread u r (numbers 0 n)) (entry w) u 0)
 
--- what they are asked of: the tables by height have room, and there are leaves for a tree
-pub record Trees-fit (r b n u : ℕ) : Type 0 where
-  pub degree : 2 ≤ r
-  pub order : r ≤ b
-  pub height : u ≤ 22
-  pub widths : b * b ^ u ≤ entry-limit
-  pub least : 1 ≤ u → r ^ u ≤ n
-
+-- what a table is asked of: a sum of entries fits
 pub record Entries-fit (t : List ℕ) : Type 0 where
   pub each : (k : ℕ) → entry t k ≤ entry-limit
+
+-- and one of widths: a node of height h + 1 has room for r of height h
+pub record Widths-rise (r u : ℕ) (w : List ℕ) : Type 0 where
+  pub height : u ≤ 22
+  pub entries : Entries-fit w
+  pub grows : (h : ℕ) → h < u → r * entry w h ≤ entry w (suc h)
+
+-- what labels are asked of: two leaves of one node are 1 apart, the tables by height have room, and there are leaves for a tree
+pub record Trees-fit (r n u : ℕ) (w : List ℕ) : Type 0 where
+  pub degree : 2 ≤ r
+  pub unit : entry w 0 ≡ 1
+  pub widths : Widths-rise r u w
+  pub lows : r * r ^ u ≤ entry-limit
+  pub least : 1 ≤ u → r ^ u ≤ n
+
+-- THE GAP before a node of height j: so much further does it begin than one more leaf of the node before it would
+unfoldable pub gap : (r : ℕ) → (widths : List ℕ) → (j : ℕ) → ℕ
+gap r w zero = 0
+gap r w (suc j) = entry w (suc j) - r * entry w j
+
+-- of the nodes of heights 1 to u, by height less one
+pub record Gaps-of (r u : ℕ) (w gaps : List ℕ) : Type 0 where
+  pub size : length gaps ≡ 24
+  pub entries : Entries-fit gaps
+  pub each : (h : ℕ) → h < u → entry gaps h ≡ gap r w (suc h)

@@ -4,11 +4,11 @@ ghost use mathlib.Core.Path.{_≡_};
 ghost use mathlib.Core.Bool.{true};
 ghost use Prim.Native.Nat.{_+_, _<_, _≤_};
 ghost use lib.ListN.{length};
-ghost use Rattle.store_types.specs.Limits.{most-tags, word-limit};
+ghost use Rattle.store_types.specs.Limits.{most-tags, label-limit};
 ghost use Rattle.store_types.specs.Layout.{at-up, field, Room};
 ghost use Rattle.shape.specs.Tables.{entry-limit};
 ghost use Rattle.load_model.specs.Begins.{next-begin, begun, First-begins};
-ghost use Rattle.load_tags.specs.Tags.{Entries-fit, Trees-fit, labels-new, next-number, prior-number, place-written, Kind-number, new-mate, new-up, links-written, tag-written, open-behind, Opened, Around-known, Tag-fits, Tags-fit, Tags-written};
+ghost use Rattle.load_tags.specs.Tags.{Entries-fit, Widths-rise, Gaps-of, Trees-fit, labels-new, next-number, prior-number, place-written, Kind-number, new-mate, new-up, links-written, tag-written, open-behind, Opened, Around-known, Tag-fits, Tags-fit, Tags-written};
 use store_types::Label;
 use store_types::TagId;
 
@@ -132,6 +132,21 @@ fn first_begins(n: u64, under: usize, lows: &[u64; 24]) -> [u64; 24]
     begins
 }
 
+// The gaps before the nodes of each of so many heights: how much further a node begins than one more leaf of the node before it
+// would.
+fn gaps(r: u64, under: usize, widths: &[u64; 24]) -> [u64; 24]
+    requires { ⌜ Widths-rise r under (now widths) ⌝ }
+    ensures { λ gs. ⌜ Gaps-of r under (now (widths .entry)) gs ⌝ }
+{
+    let mut gaps = [0u64; 24];
+    let mut h: usize = 0;
+    while h < under {
+        gaps[h] = widths[h + 1] - r * widths[h];
+        h += 1;
+    }
+    gaps
+}
+
 // The label of place i, a gap further for each node that begins there; behind them the next ones.
 fn begin_nodes(
     i: u64,
@@ -141,7 +156,7 @@ fn begin_nodes(
     lows: &[u64; 24],
     begins: &mut [u64; 24],
 ) -> u64
-    requires { ⌜ (i ≤ most-tags) × (label < word-limit) × Entries-fit (now gaps) × Entries-fit (now lows) ⌝ }
+    requires { ⌜ (i ≤ most-tags) × (label < label-limit) × Entries-fit (now gaps) × Entries-fit (now lows) ⌝ }
     ensures label { λ a. ⌜ a ≡ begun 24 0 (now (gaps .entry)) (now (lows .entry)) n i label (now (begins .entry)) .label ⌝ }
     ensures begins { λ _. ⌜ now (begins .exit) ≡ begun 24 0 (now (gaps .entry)) (now (lows .entry)) n i label (now (begins .entry)) .begins ⌝ }
 {
@@ -151,20 +166,20 @@ fn begin_nodes(
         if begins[j] != i {
             return at;
         }
-        at = (at + gaps[j]) % 4294967296;
+        at = shape::sum(at, gaps[j]);
         begins[j] = next_begin(i, n, lows[j]);
         j += 1;
     }
     at
 }
 
-// All tags, in trees of height `under` that have widths by the powers of b. Gaps and leaves stand by height less one.
-pub fn write_tags(words: &mut [u32], kinds: &[u8], r: u64, b: u64, under: usize)
-    requires { ⌜ Tags-fit (now words) (now kinds) × Trees-fit r b (length (now kinds)) under ⌝ }
-    ensures { λ _. ⌜ Tags-written (now (words .entry)) (now (words .exit)) (now (kinds .entry)) (labels-new r b (length (now (kinds .entry))) under) ⌝ }
+// All tags, in trees of height `under` that have these widths. Gaps and leaves stand by height less one.
+pub fn write_tags(words: &mut [u32], kinds: &[u8], r: u64, under: usize, widths: &[u64; 24])
+    requires { ⌜ Tags-fit (now words) (now kinds) × Trees-fit r (length (now kinds)) under (now widths) ⌝ }
+    ensures { λ _. ⌜ Tags-written (now (words .entry)) (now (words .exit)) (now (kinds .entry)) (labels-new r (now (widths .entry)) (length (now (kinds .entry))) under) ⌝ }
 {
     let n = kinds.len() as u32;
-    let gaps = shape::table(b - r, b, under);
+    let gaps = gaps(r, under, widths);
     let lows = shape::table(r, r, under);
     let mut begins = first_begins(n as u64, under, &lows);
     let mut inside = Open {
@@ -177,7 +192,7 @@ pub fn write_tags(words: &mut [u32], kinds: &[u8], r: u64, b: u64, under: usize)
     while i < n {
         label = begin_nodes(i as u64, n as u64, label, &gaps, &lows, &mut begins);
         inside = write_tag(words, i, n, kinds[i as usize], Label(label as u32), inside);
-        label = (label + 1) % 4294967296;
+        label = shape::sum(label, widths[0]);
         i += 1;
     }
 }

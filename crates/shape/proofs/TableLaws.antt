@@ -66,7 +66,7 @@ pub table-fits : (v b h top : ℕ) → 1 ≤ b → h < top → getD (table v b h
 table-fits v b h top p q =
     rw (table-at v b h h (omega arith), mul-assoc, ← pow-suc b h) (mul-le-mul-left v (pow-le-pow-right p q))
 
-noughts : (n i : ℕ) → getD {A = ℕ} (replicate n 0) i 0 ≡ 0
+pub noughts : (n i : ℕ) → getD {A = ℕ} (replicate n 0) i 0 ≡ 0
 noughts zero i = refl
 noughts (suc n) zero = refl
 noughts (suc n) (suc i) = noughts n i

@@ -4,10 +4,10 @@ pub mod tables;
 
 ghost use mathlib.Core.Path.{_≡_};
 ghost use Prim.Native.Nat.{_+_, _*_, _≤_};
-ghost use Rattle.shape.specs.Tables.{Table-fits, entry-limit, table as power-table};
+ghost use Rattle.shape.specs.Tables.{Table-fits, entry-limit, widths-of, table as power-table};
 ghost use Rattle.shape.specs.Sums.{cut as label-part};
 ghost use Rattle.calls.specs.Store.{power-fits};
-ghost use Rattle.shape.specs.Needs.{Root-fits, frame-passes, root-passes, degree-fits};
+ghost use Rattle.shape.specs.Needs.{Root-fits, Widths-fit, frame-passes, root-passes, degree-fits};
 
 // Every table by height has so many entries.
 pub const TABLE_LENGTH: usize = 24;
@@ -28,6 +28,16 @@ pub fn table(v: u64, b: u64, top: usize) -> [u64; TABLE_LENGTH]
         h += 1;
     }
     t
+}
+
+// The widths that a header gives: the powers of b, one less than f.
+pub fn widths(words: &[u32]) -> [u64; TABLE_LENGTH]
+    requires { ⌜ Widths-fit (now words) ⌝ }
+    ensures { λ t. ⌜ t ≡ widths-of (now (words .entry)) ⌝ }
+{
+    let s = words[words::AT_S] as u64;
+    let r = words[words::AT_R] as u64;
+    table(1, s * r - 1, words[words::AT_HEIGHT] as usize)
 }
 
 // A number by what a label holds of it: all, in a sound store.

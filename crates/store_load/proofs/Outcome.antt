@@ -2,7 +2,7 @@
 use mathlib.Core.Path.{_≡_, ap, sym, _∙_}
 use mathlib.Core.Bool.{true, false, not, cond}
 use mathlib.Core.List.{List, map, _++_}
-use Prim.Native.Nat.{ℕ, suc, _+_, _-_, _≤_}
+use Prim.Native.Nat.{ℕ, suc, _+_, _*_, _-_, _≤_}
 use native.Mathlib.Numerals.{add-one}
 use native.Mathlib.Omega.{arith}
 use borrow.Author.Tests.{ltb-false, not-false}
@@ -27,12 +27,14 @@ use Rattle.calls_laws.proofs.Fields.{length-words}
 use Rattle.calls_laws.proofs.Steps.{Load-accepted, accepted-load}
 use Rattle.calls_laws.proofs.WordSteps.{length-in-front}
 use Rattle.calls_laws.proofs.Replies.{replied-refused}
+use Rattle.shape.specs.Tables.{table, widths-of}
+use Rattle.shape.specs.Needs.{Widths-fit}
 use Rattle.load_refuse.specs.Refusals.{refusal-before}
 use Rattle.load_tags.specs.Tags.{Tags-fit, Tags-written, Trees-fit, labels-new}
 use Rattle.store_load.specs.Header.{header-new}
 use Rattle.load_tags.proofs.Row.{count-new}
 use Rattle.store_load.proofs.Fresh.{fresh-words}
-use Rattle.store_load.proofs.Loaded.{trees-fit, loaded-words}
+use Rattle.store_load.proofs.Loaded.{table-fits, trees-fit, loaded-words}
 
 -- THE TESTS BEFORE THE LAST, passed; the last one is then the refusal
 pub record Passed (w s r : ℕ) (cs : List ℕ) : Type 0 where
@@ -97,8 +99,8 @@ tags-fit s r u b cs ws hs h e =
       nesting = h .nesting;
     }
 
--- ACCEPTED, where u is the height of the root's children, and d is b
-module _ (s r b : ℕ) (cs ws : List ℕ) (u d : ℕ) (height : u ≡ load-under r (length cs)) (is-base : d ≡ base s r) (none : load-refusal (length ws) s r cs ≡ 0) where
+-- ACCEPTED, where u is the height of the root's children
+module _ (s r b : ℕ) (cs ws : List ℕ) (u : ℕ) (height : u ≡ load-under r (length cs)) (none : load-refusal (length ws) s r cs ≡ 0) where
   pub accepted-reply : load.Loaded (length cs) (u + 1) ≡ load-reply s r b cs ws
   unfolding load-reply replied loaded
   accepted-reply = rw (none, height, add-one)
@@ -110,15 +112,33 @@ module _ (s r b : ℕ) (cs ws : List ℕ) (u d : ℕ) (height : u ≡ load-under
   accepted : Load-accepted (length ws) s r cs
   accepted = accepted-load (length ws) s r cs none
 
-  -- the trees have room, and behind the header and the tags all is written
-  pub room-for-trees : Trees-fit r d (length cs) u
-  room-for-trees = rw (height, is-base) (trees-fit (length ws) s r b cs accepted)
+  accepted-room : header-words ≤ length ws
+  accepted-room = omega (arith, accepted .room, header-fits (length cs))
 
-  pub all-written : (hs vs : List ℕ) → hs ≡ in-front (header-new s r (u + 1) (length cs) b) ws →
-      Tags-written hs vs cs (labels-new r d (length cs) u) → vs ≡ load-words s r b cs ws
-  all-written hs vs head t =
-      let h = suc (load-under r (length cs)) in
-      let ls = labels-new r (base s r) (length cs) (load-under r (length cs)) in
-      fresh-words s r h b cs ls ws vs (accepted .room) (rw (head, height, is-base, add-one) at t)
-      ∙ ap (λ (us : List ℕ). us ++ drop (words-for header-words (length cs)) ws) (loaded-words (length ws) s r b cs accepted)
-      ∙ new-words
+  -- behind the header: its widths fit, the trees have room, and with the tags all is written
+  module _ (hs : List ℕ) (head : hs ≡ in-front (header-new s r (u + 1) (length cs) b) ws) where
+    new-widths : widths-of hs ≡ table 1 (s * r - 1) (suc (load-under r (length cs)))
+    unfolding widths-of in-front header-new
+    new-widths = rw (head, height, add-one)
+
+    pub room-for-widths : Widths-fit hs
+    unfolding in-front header-new
+    room-for-widths =
+        rw head (record {
+          long = rw (length-in-front (header-new s r (u + 1) (length cs) b) ws (accepted-room)) accepted-room;
+          s-most = accepted .degrees .s-most;
+          r-most = accepted .degrees .r-most;
+          table = rw (height, add-one) (table-fits (length ws) s r b cs accepted);
+        })
+
+    module _ (t : List ℕ) (widths-are : t ≡ widths-of hs) where
+      pub room-for-trees : Trees-fit r (length cs) u t
+      room-for-trees = rw (widths-are, new-widths, height) (trees-fit (length ws) s r b cs accepted)
+
+      pub all-written : (vs : List ℕ) → Tags-written hs vs cs (labels-new r t (length cs) u) → vs ≡ load-words s r b cs ws
+      all-written vs w =
+          let h = suc (load-under r (length cs)) in
+          let ls = labels-new r (table 1 (s * r - 1) h) (length cs) (load-under r (length cs)) in
+          fresh-words s r h b cs ls ws vs (accepted .room) (rw (widths-are, new-widths, head, height, add-one) at w)
+          ∙ ap (λ (us : List ℕ). us ++ drop (words-for header-words (length cs)) ws) (loaded-words (length ws) s r b cs accepted)
+          ∙ new-words

@@ -1,10 +1,9 @@
 // Load: validates first, then writes (document 01, "Calls and their replies"). Any old content is accepted.
 
 ghost use mathlib.Core.Path.{_≡_};
-ghost use Prim.Native.Nat.{_*_, _≤_};
+ghost use Prim.Native.Nat.{_≤_};
 ghost use lib.ListN.{length};
 ghost use Rattle.store_types.specs.Layout.{header-words};
-ghost use Rattle.tree.specs.Book.{base as power-base};
 ghost use Rattle.calls.specs.Words.{in-front};
 ghost use Rattle.calls.specs.Replies.{load-reply, load-words};
 ghost use Rattle.store_load.specs.Header.{first-number, header-new};
@@ -36,14 +35,6 @@ fn write_header(words: &mut [u32], s: u32, r: u32, h: u32, n: u32, book: u32)
     words[words::AT_STAMP] = 0;
 }
 
-// b, one less than f.
-fn base(s: u32, r: u32) -> u64
-    requires { ⌜ (4 ≤ s * r) × (s * r ≤ 256) ⌝ }
-    ensures { λ b. ⌜ b ≡ power-base s r ⌝ }
-{
-    (s as u64) * (r as u64) - 1
-}
-
 pub fn load(s: u32, r: u32, book: u32, kinds: &[u8], words: &mut [u32]) -> LoadReply
     ensures reply { λ q. ⌜ q ≡ load-reply s r book (now (kinds .entry)) (now (words .entry)) ⌝ }
     ensures words { λ _. ⌜ now (words .exit) ≡ load-words s r book (now (kinds .entry)) (now (words .entry)) ⌝ }
@@ -59,8 +50,8 @@ pub fn load(s: u32, r: u32, book: u32, kinds: &[u8], words: &mut [u32]) -> LoadR
     if !shape::height_fits(s, r, h) {
         return LoadReply::Refused(7);
     }
-    let b = base(s, r);
     write_header(words, s, r, h, n, book);
-    load_tags::write_tags(words, kinds, r as u64, b, under as usize);
+    let widths = shape::widths(words);
+    load_tags::write_tags(words, kinds, r as u64, under as usize, &widths);
     LoadReply::Loaded { tags: n, height: h }
 }

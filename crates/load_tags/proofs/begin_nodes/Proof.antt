@@ -2,9 +2,9 @@
 -- is left of the heights. Assumes nothing.
 use mathlib.Core.Path.{_≡_, refl, sym, _∙_}
 use Prim.Native.Nat.{_+_, _-_, _≤_, _<_}
-use native.Mathlib.Nat.{mod-lt}
 use native.Mathlib.Omega.{arith}
-use Rattle.store_types.specs.Limits.{word-limit}
+use Rattle.store_types.specs.Limits.{label-limit}
+use Rattle.shape.proofs.Sums.{cut-small}
 use Rattle.load_model.specs.Begins.{begun}
 use Rattle.load_tags.proofs.Nodes.{from-height, begun-stays, begun-goes, begun-ends, told}
 use Rattle.load_tags.proofs.begin_nodes.Statement.{statement}
@@ -12,7 +12,7 @@ use Rattle.load_tags.proofs.begin_nodes.Tie as tie
 
 abbrev Inv-loop : tie.InvT-loop
 Inv-loop i n label gaps lows begins₀ at₀ j₀ begins at j =
-    (j ≤ 24) × (at < word-limit) × (from-height gaps lows n i j at begins ≡ begun 24 0 gaps lows n i label begins₀)
+    (j ≤ 24) × (at < label-limit) × (from-height gaps lows n i j at begins ≡ begun 24 0 gaps lows n i label begins₀)
 
 abbrev μ-loop : tie.MeasureT-loop
 μ-loop i n label gaps lows begins₀ at₀ j₀ begins at j = 24 - j
@@ -31,14 +31,16 @@ returns c =
     let l = c .before .before .before .loop in
     told _ _ (sym (begun-stays _ _ _ _ (l .j) (l .at) (l .begins) (c .before .before .loop-test .taken) (c .if1 .taken)) ∙ l .inv .2)
 
-mul-at : tie.Need-mul-at Inv-loop μ-loop
-mul-at c = omega arith
+mul-sum : tie.Need-mul-sum Inv-loop μ-loop
+mul-sum c = omega arith
 
-element-copy-out-at : tie.Need-element-copy-out-at Inv-loop μ-loop
-element-copy-out-at c = omega arith
+element-copy-out-sum : tie.Need-element-copy-out-sum Inv-loop μ-loop
+element-copy-out-sum c = omega arith
 
-add-at : tie.Need-add-at Inv-loop μ-loop
-add-at c = omega (arith, c .before .before .before .before .loop .inv .1, c .before .before .before .before .before .pre .2 .each (c .before .before .before .before .loop .j))
+sum-requires : tie.Need-sum-requires Inv-loop μ-loop
+sum-requires c κs =
+    let l = c .before .before .before .before .loop in
+    (omega (arith, l .inv .1), c .before .before .before .before .before .pre .2 .each (l .j))
 
 mul-next-begin : tie.Need-mul-next-begin Inv-loop μ-loop
 mul-next-begin c = omega arith
@@ -48,8 +50,8 @@ element-copy-out-next-begin c = omega arith
 
 next-begin-requires : tie.Need-next-begin-requires Inv-loop μ-loop
 next-begin-requires c κs =
-    let start = c .before .before .before .before .before .before in
-    (start .pre .0, start .pre .3 .each (c .before .before .before .before .before .loop .j))
+    let looped = c .before .before .before .before .before .before in
+    (looped .before .pre .0, looped .before .pre .3 .each (looped .loop .j))
 
 mul-begins : tie.Need-mul-begins Inv-loop μ-loop
 mul-begins c = omega arith
@@ -65,11 +67,12 @@ loop-less c = omega arith
 
 loop-again : tie.Need-loop-again Inv-loop μ-loop
 loop-again c =
-    let l = c .before .before .before .before .before .before .loop in
-    let test = c .before .before .before .before .before .loop-test .taken in (
+    let tested = c .before .before .before .before .before .before in
+    let l = tested .before .loop in
+    let summed = c .before .before .sum .ensures in (
       omega arith,
-      mod-lt (l .at + _) (omega arith),
-      rw (c .next-begin .ensures) (sym (begun-goes _ _ _ _ (l .j) (l .at) (l .begins) test (c .before .before .before .if1 .left)) ∙ l .inv .2),
+      rw summed (cut-small _),
+      rw (c .next-begin .ensures, summed) (sym (begun-goes _ _ _ _ (l .j) (l .at) (l .begins) (tested .loop-test .taken) (c .before .before .before .before .if1 .left)) ∙ l .inv .2),
     )
 
 returns-2 : tie.Need-returns-2 Inv-loop μ-loop
@@ -87,9 +90,9 @@ begin-nodes-spec =
     mul-if1
     element-copy-out-if1
     returns
-    mul-at
-    element-copy-out-at
-    add-at
+    mul-sum
+    element-copy-out-sum
+    sum-requires
     mul-next-begin
     element-copy-out-next-begin
     next-begin-requires

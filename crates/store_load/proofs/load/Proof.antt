@@ -6,7 +6,7 @@ use lib.ListN.{length}
 use Rattle.calls.specs.Load.{load-refusal}
 use Rattle.shape.proofs.Fits.{degrees-product}
 use Rattle.load_refuse.proofs.Height.{height-most}
-use Rattle.store_load.proofs.Outcome.{Passed, passed, early, too-wide, none-refused, refused-with, header-room, tags-fit, accepted-reply, room-for-trees, all-written}
+use Rattle.store_load.proofs.Outcome.{Passed, passed, early, too-wide, none-refused, refused-with, header-room, tags-fit, accepted-reply, room-for-widths, room-for-trees, all-written}
 use borrow.Author.Needs.{needs}
 use native.Mathlib.Omega.{arith}
 use Rattle.store_load.proofs.load.Statement.{statement}
@@ -58,20 +58,27 @@ returns-2 c =
     (too-wide _ _ _ _ (ok (c .before .before .before)) _ (c .before .before .load-under .ensures) (sym (c .before .height-fits .ensures) ∙ not-true _ (c .if2 .taken)))
     (λ e. omega arith)
 
-base-requires : tie.Need-base-requires
-base-requires c κs = f-range (c .before .before .before)
-
 write-header-requires : tie.Need-write-header-requires
-write-header-requires c κs = header-room (ok (c .before .before .before .before .before))
+write-header-requires c κs = header-room (ok (c .before .before .before .before))
+
+widths-requires : tie.Need-widths-requires
+widths-requires c κs =
+    let headed = c .before .before .before in
+    let decided = headed .before .before in
+    let a = decided .before .before .before .before .before .before .before .args in
+    room-for-widths (a .s) (a .r) (a .book) (a .kinds .now) (a .words .now) _ (decided .before .before .load-under .ensures) (none decided) _ (headed .write-header .ensures)
 
 cast-write-tags : tie.Need-cast-write-tags
 cast-write-tags c = search needs
 
 write-tags-requires : tie.Need-write-tags-requires
 write-tags-requires c κs =
-    let a = c .before .before .before .before .before .before .before .before .before .before .before .before .before .args in (
-      tags-fit _ _ _ _ _ _ _ (ok (c .before .before .before .before .before .before .before .before .before)) (c .before .before .before .write-header .ensures),
-      room-for-trees _ _ (a .book) (a .kinds .now) (a .words .now) _ _ (c .before .before .before .before .before .before .before .before .load-under .ensures) (c .before .before .before .before .before .base .ensures) (none (c .before .before .before .before .before .before)),
+    let made = c .before .before in
+    let headed = made .before .before .before .before in
+    let decided = headed .before .before in
+    let a = decided .before .before .before .before .before .before .before .args in (
+      tags-fit _ _ _ _ _ _ _ (ok (decided .before .before .before)) (headed .write-header .ensures),
+      room-for-trees (a .s) (a .r) (a .book) (a .kinds .now) (a .words .now) _ (decided .before .before .load-under .ensures) (none decided) _ (headed .write-header .ensures) _ (made .widths .ensures),
     )
 
 same-length : tie.Need-same-length
@@ -79,11 +86,15 @@ same-length c = search needs
 
 returns-3 : tie.Need-returns-3
 returns-3 c =
-    let height = c .before .before .before .before .before .before .before .before .before .before .before .load-under .ensures in
-    let of-base = c .before .before .before .before .before .before .before .before .base .ensures in
-    let free = none (c .before .before .before .before .before .before .before .before .before) in (
-      accepted-reply _ _ _ _ _ _ _ height of-base free,
-      all-written _ _ _ _ _ _ _ height of-base free _ _ (c .before .before .before .before .before .before .write-header .ensures) (c .before .before .write-tags .ensures),
+    let written = c .before .before in
+    let made = written .before .before .before in
+    let headed = made .before .before .before .before in
+    let decided = headed .before .before in
+    let a = decided .before .before .before .before .before .before .before .args in
+    let height = decided .before .before .load-under .ensures in
+    let free = none decided in (
+      accepted-reply _ _ _ _ _ _ height free,
+      all-written (a .s) (a .r) (a .book) (a .kinds .now) (a .words .now) _ height free _ (headed .write-header .ensures) _ (made .widths .ensures) _ (written .write-tags .ensures),
     )
 
 pub load-spec : {M : Type 1} → statement M
@@ -98,8 +109,8 @@ load-spec =
     add-h
     height-fits-requires
     returns-2
-    base-requires
     write-header-requires
+    widths-requires
     cast-write-tags
     write-tags-requires
     same-length
