@@ -51,19 +51,24 @@ impl Sound {
         let widths = &self.shape.widths;
         let label = if place == NO_TAG { 0 } else { u64::from(words[at(place, LABEL)]) };
         let number = label - label % widths[h];
-        let (mut x, labels, by);
+        let (mut x, mut next, count, by);
         if h == 0 {
             x = if place == NO_TAG { words[FIRST] } else { words[at(place, NEXT)] };
-            let base = if place == NO_TAG { 0 } else { label + 1 };
-            labels = Spread::new(&self.shape, u64::from(new), 0, base);
+            next = if place == NO_TAG { 0 } else { label + 1 };
+            count = u64::from(new);
             by = new;
         } else {
             x = first_leaf(words, place, number);
-            labels = Spread::new(&self.shape, self.shape.limits[h], h, number);
+            next = number;
+            count = self.shape.limits[h];
             by = ((self.shape.s - 1) * widths[h]) as u32;
         }
+        let mut labels = Spread::new(&self.shape, count, h);
         let mut moved = 0;
-        for label in labels {
+        for i in 0..count {
+            next = labels.label(i, next);
+            let label = next as u32;
+            next += 1;
             moved += u32::from(words[at(x, LABEL)] != label);
             words[at(x, LABEL)] = label;
             x = words[at(x, NEXT)];

@@ -40,14 +40,17 @@ pub fn load(s: u32, r: u32, book: u32, kinds: &[u8], words: &mut [u32]) -> [u32;
     let n = n as u32;
     let first = if n == 0 { NO_TAG } else { 0 };
     words[..HEADER].copy_from_slice(&[1, s, r, height as u32, n, first, book, 0]);
-    write_tags(kinds, Spread::new(&shape, u64::from(n), height - 1, 0), words);
+    write_tags(kinds, Spread::new(&shape, u64::from(n), height - 1), words);
     [0, n, height as u32]
 }
 
-fn write_tags(kinds: &[u8], labels: Spread, words: &mut [u32]) {
+fn write_tags(kinds: &[u8], mut labels: Spread, words: &mut [u32]) {
     let n = kinds.len() as u32;
+    let mut next_label = 0;
     let mut open = NO_TAG;
-    for ((x, &kind), label) in (0..n).zip(kinds).zip(labels) {
+    for (x, &kind) in (0..n).zip(kinds) {
+        let label = labels.label(u64::from(x), next_label);
+        next_label = label + 1;
         // A begin's mate is written when its end comes, and its own up is the stack. Kinds come in no order that a
         // processor could guess, so a tag that is no end goes the same way with itself for a mate.
         let mate = select_unpredictable(kind == END, open, x);
@@ -55,7 +58,7 @@ fn write_tags(kinds: &[u8], labels: Spread, words: &mut [u32]) {
         let up = select_unpredictable(kind == END, words[at(mate, UP)], open);
         let next = if x + 1 < n { x + 1 } else { NO_TAG };
         let prior = if x > 0 { x - 1 } else { NO_TAG };
-        words[at(x, 0)..][..RECORD].copy_from_slice(&[label, next, prior, mate, up, u32::from(kind)]);
+        words[at(x, 0)..][..RECORD].copy_from_slice(&[label as u32, next, prior, mate, up, u32::from(kind)]);
         open = select_unpredictable(kind == BEGIN, x, up);
     }
 }

@@ -8,56 +8,37 @@ use super::shape::{HEIGHTS, Shape, Table};
 pub struct Spread<'a> {
     shape: &'a Shape,
     count: u64,
-    place: u64,
-    label: u64,
-    /// By height, the number of the open node and the place behind its last leaf.
-    starts: Table,
-    until: Table,
+    /// By height, how much further a node begins than one more leaf of the node before it would.
+    gaps: Table,
+    /// By height, where the next node begins; `count` where none does.
+    begins: Table,
 }
 
 impl<'a> Spread<'a> {
-    pub fn new(shape: &'a Shape, count: u64, height: usize, base: u64) -> Spread<'a> {
-        let mut spread =
-            Spread { shape, count, place: 0, label: base, starts: [base; HEIGHTS], until: [count; HEIGHTS] };
+    pub fn new(shape: &'a Shape, count: u64, height: usize) -> Spread<'a> {
+        let mut spread = Spread { shape, count, gaps: [0; HEIGHTS], begins: [count; HEIGHTS] };
         for h in 1..=height {
-            spread.until[h] = spread.end(h);
+            spread.gaps[h] = shape.widths[h] - shape.least[1] * shape.widths[h - 1];
+            spread.begins[h] = spread.behind(0, h);
         }
         spread
     }
 
-    /// The place behind a node of height h that begins here.
-    fn end(&self, h: usize) -> u64 {
+    /// Where the next node of height h begins, behind one that begins at a place.
+    fn behind(&self, place: u64, h: usize) -> u64 {
         let power = self.shape.least[h];
-        if self.count - self.place < 2 * power { self.count } else { self.place + power }
+        if self.count - place < 2 * power { self.count } else { place + power }
     }
 
-    /// Opens the nodes that begin here; the node that holds them stays.
-    fn climb(&mut self) {
+    /// The label at a place, where `next` is one more than that of the place before it: places come in order. Where no
+    /// node of a height begins, none above it does.
+    pub fn label(&mut self, place: u64, mut next: u64) -> u64 {
         let mut h = 1;
-        while self.until[h] == self.place {
+        while self.begins[h] == place {
+            next += self.gaps[h];
+            self.begins[h] = self.behind(place, h);
             h += 1;
         }
-        self.label = self.starts[h - 1] + self.shape.widths[h - 1];
-        for h in 1..h {
-            self.starts[h] = self.label;
-            self.until[h] = self.end(h);
-        }
-    }
-}
-
-impl Iterator for Spread<'_> {
-    type Item = u32;
-
-    fn next(&mut self) -> Option<u32> {
-        if self.place == self.count {
-            return None;
-        }
-        if self.place == self.until[1] {
-            self.climb();
-        }
-        let label = self.label as u32;
-        self.label += 1;
-        self.place += 1;
-        Some(label)
+        next
     }
 }

@@ -111,7 +111,7 @@ sum-requires : tie.Need-sum-requires Inv-loop μ-loop
 sum-requires c κs =
     let begun = c .before .before .before .before .before .before in
     let made = begun .before .before .before .before .before .before in
-    (omega (arith, small-here begun), made .before .before .before .before .before .before .pre .1 .widths .entries .each 0)
+    (omega (arith, small-here begun), made .before .before .before .before .before .before .pre .1 .widths .entries .each _)
 
 add-i : tie.Need-add-i Inv-loop μ-loop
 add-i c =
