@@ -12,7 +12,7 @@ pub fn field_end(line: &[u8], from: usize) -> usize
 {
     let mut i = from;
     while i < line.len() {
-        if line[i] == 32 {
+        if line[i] == b' ' {
             return i;
         }
         i += 1;

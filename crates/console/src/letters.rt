@@ -5,19 +5,22 @@ ghost use Prim.Native.Nat.{_≤_};
 ghost use lib.ListN.{length};
 ghost use Rattle.console.specs.Line.{is-letter, letter-kind};
 ghost use Rattle.console.specs.Post.{Lettered};
+use store_types::BEGIN;
+use store_types::END;
+use store_types::TEXT;
 
 // A letter's kind, and 0 for any other byte.
 fn kind_of(c: u8) -> u8
     ensures { λ k. ⌜ k ≡ cond (is-letter c) (letter-kind c) 0 ⌝ }
 {
-    if c == 66 {
-        return 1;
+    if c == b'B' {
+        return BEGIN;
     }
-    if c == 69 {
-        return 2;
+    if c == b'E' {
+        return END;
     }
-    if c == 84 {
-        return 3;
+    if c == b'T' {
+        return TEXT;
     }
     0
 }

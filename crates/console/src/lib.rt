@@ -11,6 +11,9 @@ pub use numbers::Number;
 pub use numbers::read_number;
 use store_types::TagId;
 
+// A line over this many bytes is none; its line feed does not count.
+pub const LINE_LIMIT: usize = 2100;
+
 // What a line asks for. The kinds of a load are handed over beside it.
 pub enum Command {
     Load {

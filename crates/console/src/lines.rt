@@ -1,10 +1,13 @@
 // Lines: the fields of one, and the command that they say.
 use crate::Command;
+use crate::LINE_LIMIT;
 use crate::fields::field_end;
 use crate::fields::same_bytes;
 use crate::letters::letters;
 use crate::numbers::Number;
 use crate::numbers::read_number;
+use store_types::BEGIN;
+use store_types::TEXT;
 use store_types::TagId;
 ghost use mathlib.Core.Path.{_≡_};
 ghost use mathlib.Core.List.{[], _∷_};
@@ -42,13 +45,13 @@ fn two_fields(word: &[u8], field: &[u8]) -> Command
     };
     if same_bytes(word, b"element") {
         return Command::Insert {
-            kind: 1,
+            kind: BEGIN,
             place: TagId(y),
         };
     }
     if same_bytes(word, b"text") {
         return Command::Insert {
-            kind: 3,
+            kind: TEXT,
             place: TagId(y),
         };
     }
@@ -99,10 +102,10 @@ fn load(rest: &[u8], kinds: &mut [u8]) -> Command
 }
 
 // The command of a line without its line feed; a load's kinds go to the front of `kinds`.
-pub fn parse(line: &[u8], kinds: &mut [u8; 2100]) -> Command
+pub fn parse(line: &[u8], kinds: &mut [u8; LINE_LIMIT]) -> Command
     ensures { λ c. ⌜ Gives (parsed (now (line .entry))) c (now (kinds .exit)) ⌝ }
 {
-    if 2100 < line.len() {
+    if LINE_LIMIT < line.len() {
         return Command::Unknown;
     }
     let e = field_end(line, 0);

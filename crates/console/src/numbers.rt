@@ -4,6 +4,8 @@ ghost use Rattle.console.specs.Line.{number-of};
 ghost use lib.ListN.{drop};
 ghost use Rattle.console.specs.Scan.{number-reply, scanned};
 
+const LARGEST: u64 = u32::MAX as u64;
+
 pub enum Number {
     Value(u32),
     Not,
@@ -17,14 +19,14 @@ fn scan(field: &[u8], from: usize) -> Number
     let mut i = from;
     while i < field.len() {
         let c = field[i];
-        if c < 48 {
+        if c < b'0' {
             return Number::Not;
         }
-        if 57 < c {
+        if b'9' < c {
             return Number::Not;
         }
-        v = v * 10 + ((c - 48) as u64);
-        if 4294967295 < v {
+        v = v * 10 + ((c - b'0') as u64);
+        if LARGEST < v {
             return Number::Not;
         }
         i += 1;
@@ -41,7 +43,7 @@ pub fn read_number(field: &[u8]) -> Number
     if field.len() == 1 {
         return scan(field, 0);
     }
-    if field[0] == 48 {
+    if field[0] == b'0' {
         return Number::Not;
     }
     scan(field, 0)

@@ -6,6 +6,9 @@ ghost use Rattle.calls.specs.Words.{Says};
 ghost use Rattle.calls.specs.Replies.{said, insert-refused};
 ghost use Rattle.walk_model.specs.Watch.{sizes-at};
 ghost use Rattle.insert_refuse.specs.Parts.{place-refusal, room-refusal, tags-refusal};
+use store_types::BEGIN;
+use store_types::MOST_TAGS;
+use store_types::TEXT;
 use store_types::TagId;
 
 // 8 and 9: the place is the front or an unmarked tag.
@@ -19,7 +22,7 @@ fn place_refused(place: TagId, words: &[u32]) -> u32
     if words[words::AT_COUNT] <= place.0 {
         return 8;
     }
-    if 16 <= words::kind_of(words, place) {
+    if words::MARK <= words::kind_of(words, place) {
         return 9;
     }
     0
@@ -31,7 +34,7 @@ fn room_refused(k: u32, words: &[u32]) -> u32
     ensures { λ v. ⌜ v ≡ room-refusal (length (now (words .entry))) k (said (now (words .entry))) ⌝ }
 {
     let all = words[words::AT_COUNT] + k;
-    if 200000 < all {
+    if MOST_TAGS < all {
         return 6;
     }
     if words.len() < words::HEADER_WORDS + words::TAG_WORDS * (all as usize) {
@@ -71,10 +74,10 @@ pub fn insert_refused(kind: u8, place: TagId, words: &[u32], sizes: &mut [u32; 2
     if first != 0 {
         return first;
     }
-    if kind == 1 {
+    if kind == BEGIN {
         return tags_refused(2, place, words);
     }
-    if kind == 3 {
+    if kind == TEXT {
         return tags_refused(1, place, words);
     }
     4

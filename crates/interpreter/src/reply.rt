@@ -6,8 +6,11 @@ ghost use Rattle.reply_text.specs.Post.{Written, Room};
 ghost use Rattle.calls.specs.Replies.{load-words, insert-words, mark-words};
 ghost use Rattle.interpreter.specs.Answer.{load-text, insert-text, mark-text, list-text, line-text, line-words};
 ghost use Rattle.interpreter.specs.Room.{out-size};
+use crate::BOOK_TAGS;
+use crate::OUT_SIZE;
 use crate::say;
 use console::Command;
+use console::LINE_LIMIT;
 use store_types::ListReply;
 use store_types::TagId;
 
@@ -43,8 +46,8 @@ fn list(words: &[u32], out: &mut [u8]) -> usize
     requires { ⌜ out-size ≤ length (now out) ⌝ }
     ensures { λ e. ⌜ Written (now (out .entry)) 0 (list-text (now (words .entry))) (now (out .exit)) e ⌝ }
 {
-    let mut tags = [0u32; 2000];
-    let mut labels = [0u32; 2000];
+    let mut tags = [0u32; BOOK_TAGS];
+    let mut labels = [0u32; BOOK_TAGS];
     let front = TagId::NONE;
     match store::list(front, words, &mut tags, &mut labels) {
         ListReply::Listed(n) => say::listed(&tags, &labels, n, out),
@@ -53,11 +56,11 @@ fn list(words: &[u32], out: &mut [u8]) -> usize
 }
 
 // A line without its line feed: the store after it, its reply at the front of `out`, and how long the reply is.
-pub fn answer(line: &[u8], words: &mut [u32], out: &mut [u8; 44064]) -> usize
+pub fn answer(line: &[u8], words: &mut [u32], out: &mut [u8; OUT_SIZE]) -> usize
     ensures words { λ _. ⌜ now (words .exit) ≡ line-words (now (line .entry)) (now (words .entry)) ⌝ }
     ensures text { λ e. ⌜ Written (now (out .entry)) 0 (line-text (now (line .entry)) (now (words .entry))) (now (out .exit)) e ⌝ }
 {
-    let mut kinds = [0u8; 2100];
+    let mut kinds = [0u8; LINE_LIMIT];
     let command = console::parse(line, &mut kinds);
     match command {
         Command::Load {

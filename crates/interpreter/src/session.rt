@@ -6,6 +6,8 @@ ghost use Rattle.reply_text.specs.Post.{Written};
 ghost use Rattle.line_reader.specs.Reads.{last-line};
 ghost use Rattle.interpreter.specs.Answer.{line-text, line-words};
 ghost use Rattle.interpreter.specs.Session.{texts, words-behind, Steps};
+use crate::LINE_BUFFER;
+use crate::OUT_SIZE;
 use crate::reply::answer;
 
 // Where the next step begins, how many bytes of a line are in hand, and how long the text to print is.
@@ -16,7 +18,7 @@ pub struct Progress {
 }
 
 // The front of a buffer, as a line.
-fn answer_front(line: &[u8], held: usize, words: &mut [u32], out: &mut [u8; 44064]) -> usize
+fn answer_front(line: &[u8], held: usize, words: &mut [u32], out: &mut [u8; OUT_SIZE]) -> usize
     requires { ⌜ held ≤ length (now line) ⌝ }
     ensures words { λ _. ⌜ now (words .exit) ≡ line-words (take held (now (line .entry))) (now (words .entry)) ⌝ }
     ensures text { λ e. ⌜ Written (now (out .entry)) 0 (line-text (take held (now (line .entry))) (now (words .entry))) (now (out .exit)) e ⌝ }
@@ -28,10 +30,10 @@ fn answer_front(line: &[u8], held: usize, words: &mut [u32], out: &mut [u8; 4406
 pub fn step(
     piece: &[u8],
     from: usize,
-    line: &mut [u8; 2101],
+    line: &mut [u8; LINE_BUFFER],
     held: usize,
     words: &mut [u32],
-    out: &mut [u8; 44064],
+    out: &mut [u8; OUT_SIZE],
 ) -> Progress
     ensures { λ s. ⌜ Steps (take held (now (line .entry))) (drop from (now (piece .entry))) (now (words .entry)) from (now (line .exit)) (now (words .exit)) (now (out .entry)) (now (out .exit)) (s .at) (s .held) (s .text) ⌝ }
 {
@@ -54,7 +56,12 @@ pub fn step(
 }
 
 // The end of the input: what is in hand is a line, where it has a byte.
-pub fn finish(line: &[u8; 2101], held: usize, words: &mut [u32], out: &mut [u8; 44064]) -> usize
+pub fn finish(
+    line: &[u8; LINE_BUFFER],
+    held: usize,
+    words: &mut [u32],
+    out: &mut [u8; OUT_SIZE],
+) -> usize
     ensures words { λ _. ⌜ now (words .exit) ≡ words-behind (now (words .entry)) (last-line (take held (now (line .entry)))) ⌝ }
     ensures text { λ e. ⌜ Written (now (out .entry)) 0 (texts (now (words .entry)) (last-line (take held (now (line .entry))))) (now (out .exit)) e ⌝ }
 {

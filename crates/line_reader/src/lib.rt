@@ -43,7 +43,7 @@ pub fn gather(piece: &[u8], from: usize, line: &mut [u8], held: usize) -> Gather
     let mut i = from;
     while i < piece.len() {
         let byte = piece[i];
-        if byte == 10 {
+        if byte == b'\n' {
             return Gathered { at: i, held: h };
         }
         h = push(line, h, byte);

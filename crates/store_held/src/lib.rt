@@ -54,7 +54,7 @@ pub fn question(pair: HeldPair, tag: TagId, words: &[u32]) -> QuestionReply
     if words[words::AT_COUNT] <= section.0 || words[words::AT_COUNT] <= tag.0 {
         return QuestionReply::Refused(8);
     }
-    if words::kind_of(words, section) % 16 != 1 {
+    if words::kind_of(words, section) % words::MARK != words::KIND_BEGIN {
         return QuestionReply::Refused(10);
     }
     answer(pair, tag, words)
@@ -68,7 +68,7 @@ fn answer(pair: HeldPair, tag: TagId, words: &[u32]) -> QuestionReply
     if !is_current(pair, words) {
         return QuestionReply::Answered(Answer::Stale);
     }
-    if 16 <= words::kind_of(words, tag) {
+    if words::MARK <= words::kind_of(words, tag) {
         return QuestionReply::Refused(9);
     }
     let label = words::label_of(words, tag);
@@ -94,7 +94,7 @@ fn is_current(pair: HeldPair, words: &[u32]) -> bool
     if !same(end.0, pair.end.0) {
         return false;
     }
-    words::kind_of(words, section) < 16
+    words::kind_of(words, section) < words::MARK
 }
 
 // The label of a section's end tag: a text's own.

@@ -57,10 +57,10 @@ fn inside_refused(begin: TagId, words: &[u32]) -> u32
         return 8;
     }
     let kind = words::kind_of(words, begin);
-    if 16 <= kind {
+    if words::MARK <= kind {
         return 9;
     }
-    if kind != 1 {
+    if kind != words::KIND_BEGIN {
         return 10;
     }
     0
@@ -107,7 +107,7 @@ fn count_unmarked(tag: TagId, words: &[u32]) -> usize
     requires { ⌜ Tag-said (now words) (tag .0) ⌝ }
     ensures { λ n. ⌜ n ≡ length (unmarked (said (now (words .entry))) (tag .0 ∷ [])) ⌝ }
 {
-    if 16 <= words::kind_of(words, tag) {
+    if words::MARK <= words::kind_of(words, tag) {
         return 0;
     }
     1
@@ -152,7 +152,7 @@ fn write_unmarked(
     ensures tags { λ _. ⌜ now (tags .exit) ≡ sets (now (tags .entry)) i (unmarked (said (now (words .entry))) (tag .0 ∷ [])) ⌝ }
     ensures labels { λ _. ⌜ now (labels .exit) ≡ sets (now (labels .entry)) i (map (label (said (now (words .entry)))) (unmarked (said (now (words .entry))) (tag .0 ∷ []))) ⌝ }
 {
-    if 16 <= words::kind_of(words, tag) {
+    if words::MARK <= words::kind_of(words, tag) {
         return i;
     }
     let label = words::label_of(words, tag);

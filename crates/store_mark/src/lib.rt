@@ -14,10 +14,10 @@ fn mark_tag(words: &mut [u32], x: TagId) -> u32
     ensures words { λ _. ⌜ now (words .exit) ≡ mark-one (now (words .entry)) (x .0) ⌝ }
 {
     let kind = words::kind_of(words, x);
-    if 16 <= kind {
+    if words::MARK <= kind {
         return 0;
     }
-    words::set_kind(words, x, kind + 16);
+    words::set_kind(words, x, kind + words::MARK);
     1
 }
 

@@ -40,10 +40,10 @@ pub fn section_refused(tag: TagId, words: &[u32]) -> u32
         return 8;
     }
     let kind = words::kind_of(words, tag);
-    if 16 <= kind {
+    if words::MARK <= kind {
         return 9;
     }
-    if kind == 2 {
+    if kind == words::KIND_END {
         return 10;
     }
     0

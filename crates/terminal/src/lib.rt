@@ -8,6 +8,9 @@ ghost use lib.ListN.{length, take};
 ghost use Rattle.io.specs.Counts.{Counts};
 ghost use Rattle.interpreter.specs.Answer.{first-words};
 ghost use Rattle.interpreter.specs.Session.{Passed, Led};
+use interpreter::BOOK_WORDS;
+use interpreter::LINE_BUFFER;
+use interpreter::OUT_SIZE;
 use libc::STDIN_FILENO;
 use libc::STDOUT_FILENO;
 
@@ -52,10 +55,10 @@ fn read_piece(buffer: &mut [u8]) -> usize
 // Every line that ends in a piece is answered; what is then in hand and in the store is what the session's steps leave.
 fn serve(
     piece: &[u8],
-    line: &mut [u8; 2101],
+    line: &mut [u8; LINE_BUFFER],
     held: usize,
     words: &mut [u32],
-    out: &mut [u8; 44064],
+    out: &mut [u8; OUT_SIZE],
 ) -> Served
     ensures { λ s. ⌜ (s .printed ≡ true → Passed (take held (now (line .entry))) (now (words .entry)) (now (piece .entry)) (take (s .held) (now (line .exit))) (now (words .exit))) ⌝ }
 {
@@ -80,7 +83,7 @@ fn serve(
 
 // Piece by piece to the end of the input. How many bytes of a last line are in hand, and whether all was printed; where it
 // was, some pieces have led from the words at first to what is in hand and in the store.
-fn serve_all(line: &mut [u8; 2101], words: &mut [u32], out: &mut [u8; 44064]) -> Served
+fn serve_all(line: &mut [u8; LINE_BUFFER], words: &mut [u32], out: &mut [u8; OUT_SIZE]) -> Served
     ensures { λ s. ⌜ (s .printed ≡ true → Led [] (now (words .entry)) (take (s .held) (now (line .exit))) (now (words .exit))) ⌝ }
 {
     let mut buffer = io::large_buffer();
@@ -111,23 +114,23 @@ fn serve_all(line: &mut [u8; 2101], words: &mut [u32], out: &mut [u8; 44064]) ->
 }
 
 // The end of the input: a last line that lacks its line feed.
-fn serve_last(line: &[u8; 2101], held: usize, words: &mut [u32], out: &mut [u8; 44064]) {
+fn serve_last(line: &[u8; LINE_BUFFER], held: usize, words: &mut [u32], out: &mut [u8; OUT_SIZE]) {
     let n = interpreter::finish(line, held, words, out);
     print(out, n);
 }
 
-// The store that a run starts from: for 2,000 tags, all words 0.
-fn first_words() -> [u32; 12008]
+// The store that a run starts from: all words 0.
+fn first_words() -> [u32; BOOK_WORDS]
     ensures { λ ws. ⌜ ws ≡ first-words ⌝ }
 {
-    [0u32; 12008]
+    [0u32; BOOK_WORDS]
 }
 
 // All of standard input, over that store.
 pub fn run() {
     let mut words = first_words();
-    let mut line = [0u8; 2101];
-    let mut out = [0u8; 44064];
+    let mut line = [0u8; LINE_BUFFER];
+    let mut out = [0u8; OUT_SIZE];
     let served = serve_all(&mut line, &mut words, &mut out);
     if served.printed {
         serve_last(&line, served.held, &mut words, &mut out);

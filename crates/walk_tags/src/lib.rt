@@ -110,7 +110,7 @@ pub fn count_mark(words: &[u32], x: TagId, at: Offset, marks: u32) -> u32
     requires { ⌜ Mark-reads (now words) (x .0) (at .0) marks ⌝ }
     ensures { λ m. ⌜ m ≡ marks-at (now (words .entry)) (x .0) marks ⌝ }
 {
-    marks + words::get_at(words, at, words::AT_KIND) / 16
+    marks + words::get_at(words, at, words::AT_KIND) / words::MARK
 }
 
 // The innermost open begin behind a tag that fits: the up of a text is the one before it.
