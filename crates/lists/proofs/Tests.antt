@@ -1,7 +1,10 @@
 -- Laws on tests: a goal by the two answers, and what both answers of a conjunction or disjunction say of its parts.
 -- Assumes nothing.
-use mathlib.Core.Path.{_≡_, refl}
-use mathlib.Core.Bool.{Bool, true, false, _&&_, _||_, true≢false, false≢true}
+use mathlib.Core.Path.{_≡_, refl, sym, _∙_}
+use mathlib.Core.Bool.{Bool, true, false, _&&_, _||_, not, true≢false, false≢true}
+use Prim.Native.Nat.{ℕ}
+use borrow.Author.Tests.{eqb-true, eqb-false, not-true, not-false}
+use lib.Dec.{eqb}
 
 -- a goal by the two answers of a test
 pub by-test : {G : Type 0} (t : Bool) → (t ≡ true → G) → (t ≡ false → G) → G
@@ -30,3 +33,10 @@ or-left-false false b e = refl
 pub or-right-false : (a b : Bool) → (a || b) ≡ false → b ≡ false
 or-right-false true b e = absurd (true≢false e)
 or-right-false false b e = e
+
+-- two numbers, by a test `if !same` of the code
+pub not-same : (a b : ℕ) {t : Bool} → t ≡ eqb a b → not t ≡ true → a ≡ b → ⊥
+not-same a b e n = eqb-false a b (sym e ∙ not-true _ n)
+
+pub are-same : (a b : ℕ) {t : Bool} → t ≡ eqb a b → not t ≡ false → a ≡ b
+are-same a b e n = eqb-true a b (sym e ∙ not-false _ n)

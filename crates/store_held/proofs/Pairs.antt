@@ -30,13 +30,6 @@ use Rattle.store_refuse.specs.Needs.{Tag-said}
 use Rattle.store_held.specs.Needs.{Pair-asked}
 use Rattle.store_refuse.proofs.Laws.{refused-said, accepted-says, accepted-store, words-of-tag, kind-of-tag, mate-of-tag, no-tag-from}
 
--- a test of two numbers, as the code has it
-pub not-same : (a b : ℕ) {t : Bool} → t ≡ eqb a b → not t ≡ true → (a ≡ b → ⊥)
-not-same a b e n z = true≢false (sym (eq-eqb a b z) ∙ sym e ∙ not-true _ n)
-
-pub are-same : (a b : ℕ) {t : Bool} → t ≡ eqb a b → not t ≡ false → a ≡ b
-are-same a b e n = eqb-true a b (sym e ∙ not-false _ n)
-
 -- HOLD
 pub hold-refused : (ws : List ℕ) (x k : ℕ) → k ≡ refusal-over ws (section-refusal x) → (k ≡ 0 → ⊥) → hold.Refused k ≡ hold-reply x ws
 unfolding hold-reply

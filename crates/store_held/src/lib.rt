@@ -1,6 +1,5 @@
 // Held pairs (document 01, "Calls and their replies"): hold, and the held-pair question.
 ghost use mathlib.Core.Path.{_≡_};
-ghost use lib.Dec.{eqb};
 ghost use Rattle.calls.specs.Held.{current};
 ghost use Rattle.calls.specs.Store.{fact, label};
 ghost use Rattle.calls.specs.Replies.{said, hold-reply, question-reply};
@@ -12,13 +11,6 @@ use store_types::HoldReply;
 use store_types::Label;
 use store_types::QuestionReply;
 use store_types::TagId;
-
-// Whether two book numbers or two labels are the same.
-fn same(a: u32, b: u32) -> bool
-    ensures { λ t. ⌜ t ≡ eqb a b ⌝ }
-{
-    a == b
-}
 
 // Hold: a section's book number, tag and two labels.
 pub fn hold(tag: TagId, words: &[u32]) -> HoldReply
@@ -47,7 +39,7 @@ pub fn question(pair: HeldPair, tag: TagId, words: &[u32]) -> QuestionReply
         return QuestionReply::Refused(first);
     }
     let book = words[words::AT_BOOK];
-    if !same(pair.book, book) {
+    if pair.book != book {
         return QuestionReply::Answered(Answer::Stale);
     }
     let section = pair.tag;
@@ -88,10 +80,10 @@ fn is_current(pair: HeldPair, words: &[u32]) -> bool
     let section = pair.tag;
     let start = words::label_of(words, section);
     let end = end_label(section, words);
-    if !same(start.0, pair.start.0) {
+    if !start.same(pair.start) {
         return false;
     }
-    if !same(end.0, pair.end.0) {
+    if !end.same(pair.end) {
         return false;
     }
     words::kind_of(words, section) < words::MARK

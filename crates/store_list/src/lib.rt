@@ -95,7 +95,7 @@ fn count_between(from: TagId, to: TagId, words: &[u32]) -> usize
 {
     let mut x = from;
     let mut count: usize = 0;
-    while x.0 != to.0 {
+    while !x.same(to) {
         count += count_unmarked(x, words);
         x = words::next_of(words, x);
     }
@@ -130,7 +130,7 @@ fn write_between(
 {
     let mut x = from;
     let mut i: usize = 0;
-    while x.0 != to.0 {
+    while !x.same(to) {
         i = write_unmarked(x, words, i, tags, labels);
         x = words::next_of(words, x);
     }

@@ -34,7 +34,7 @@ fn mark_section(words: &mut [u32], n: u32, x: TagId) -> u32
     let mut steps: u32 = 0;
     while steps < n && tag.0 < n {
         marked += mark_tag(words, tag);
-        if tag.0 == last.0 {
+        if tag.same(last) {
             return marked;
         }
         tag = words::next_of(words, tag);

@@ -1,10 +1,11 @@
 -- `store_held::is_current` meets its contract. Assumes nothing.
 use mathlib.Core.Path.{sym, _∙_}
 use borrow.Author.Needs.{needs}
+use Rattle.lists.proofs.Tests.{not-same, are-same}
 use Rattle.store_held.proofs.is_current.Statement.{statement}
 use Rattle.store_held.proofs.is_current.Tie as tie
 use Rattle.store_refuse.proofs.Laws.{tag-room}
-use Rattle.store_held.proofs.Pairs.{not-same, are-same, start-moved, end-moved, unmoved}
+use Rattle.store_held.proofs.Pairs.{start-moved, end-moved, unmoved}
 
 label-of-requires : tie.Need-label-of-requires
 label-of-requires c κs = tag-room (c .before .before .pre)

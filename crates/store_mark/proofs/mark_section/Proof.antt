@@ -1,7 +1,8 @@
 -- `store_mark::mark_section` meets its contract: what is left from the loop's tag on is the whole. Assumes nothing.
+use mathlib.Core.Path.{sym, _∙_}
 use Prim.Native.Nat.{_-_}
 use native.Mathlib.Omega.{arith}
-use borrow.Author.Tests.{ltb-true, ltb-false}
+use borrow.Author.Tests.{ltb-true, ltb-false, eqb-true, eqb-false}
 use borrow.Author.Needs.{needs}
 use Rattle.words.proofs.Fields.{room, room-same}
 use Rattle.store_mark.specs.Run.{tags-of}
@@ -51,15 +52,22 @@ mark-tag-requires c κs =
 add-marked : tie.Need-add-marked Inv-loop μ-loop
 add-marked c = omega (arith, turn-few (turn (c .before .before)))
 
+same-requires : tie.Need-same-requires Inv-loop μ-loop
+same-requires c κs = search needs
+
+-- behind the test of the last tag
+abbrev marked-at : tie.After-same Inv-loop μ-loop → tie.After-mark-tag Inv-loop μ-loop
+marked-at c = c .before .before .before
+
 same-length : tie.Need-same-length Inv-loop μ-loop
 same-length c = search needs
 
 returns : tie.Need-returns Inv-loop μ-loop
-returns c = left-last (turn (c .before .before .before .before .before)) (c .if2 .taken)
+returns c = left-last (turn (marked-at (c .before))) (eqb-true _ _ (sym (c .before .same .ensures) ∙ c .if2 .taken))
 
 next-of-requires : tie.Need-next-of-requires Inv-loop μ-loop
 next-of-requires c κs =
-    let t = c .before .before .before .before .before .before in
+    let t = marked-at (c .before .before) in
     room-same (room (start (loop-at t) .pre .1) (turn t .tag)) (turn-long (turn t))
 
 add-steps : tie.Need-add-steps Inv-loop μ-loop
@@ -70,7 +78,8 @@ loop-less c = omega arith
 
 loop-again : tie.Need-loop-again Inv-loop μ-loop
 loop-again c =
-    left-turn (turn (c .before .before .before .before .before .before .before)) (c .before .before .if2 .left) (c .next-of .ensures)
+    let e = c .before .before in
+    left-turn (turn (marked-at (e .before))) (eqb-false _ _ (sym (e .before .same .ensures) ∙ e .if2 .left)) (c .next-of .ensures)
 
 same-length-2 : tie.Need-same-length-2 Inv-loop μ-loop
 same-length-2 c = search needs
@@ -94,6 +103,7 @@ mark-section-spec =
     loop-holds
     mark-tag-requires
     add-marked
+    same-requires
     same-length
     returns
     next-of-requires
