@@ -16,21 +16,32 @@ label-there-requires c κs = let pre = c .before .before .before .before .pre in
 cast-if2 : tie.Need-cast-if2
 cast-if2 c = search needs
 
+-- from the two tests of the label back to where it was read, and to the start
+abbrev read : tie.After-struct-known4 → tie.After-label-there
+read c = c .before .before
+
+abbrev start : tie.After-label-there → tie.Start
+start c = c .before .before .before .before .before
+
 returns-2 : tie.Need-returns-2
-returns-2 c = let read = c .before .before .before in
-    let stands = c .before .before .before .before .before .before .before .before .pre .1 in
-    let waited = label-waited _ _ _ _ _ _ _ stands (read .label-there .ensures _ (stands .there)) (omega (arith, c .before .before .struct-known3 .given)) (read .before .if1 .left) _ (c .if2 .taken) in
+returns-2 c =
+    let at = read (c .before) in
+    let stands = start at .pre .1 in
+    let waited = label-waited _ _ _ _ _ _ _ stands (at .label-there .ensures _ (stands .there)) (omega (arith, c .before .before .struct-known3 .given)) (at .before .if1 .left) _ (c .if2 .taken) in
     (waited .0 .0, (λ _. waited .0 .1, λ _. waited .1))
 
 settle-requires : tie.Need-settle-requires
 settle-requires c κs = search needs
 
 returns-3 : tie.Need-returns-3
-returns-3 c = let read = c .before .before .before .before .before .before .before in
-    let stands = c .before .before .before .before .before .before .before .before .before .before .before .before .pre .1 in
-    let label = read .label-there .ensures _ (stands .there) in
-    let settled = label-settled _ _ _ _ _ _ _ stands label (omega (arith, c .before .before .before .before .before .before .struct-known3 .given)) (read .before .if1 .left) (c .before .before .before .before .if2 .left) (c .settle .ensures .0) (c .settle .ensures .1 .0) in
-    (settled .0, (λ _. settled .1, λ t. sizes-settled _ _ _ _ _ _ _ stands label (omega (arith, c .before .before .before .before .before .before .struct-known3 .given)) (read .before .if1 .left) (c .before .before .before .before .if2 .left) _ (c .settle .ensures .1 .1 t)))
+returns-3 c =
+    let tested = c .before .before .before .before in
+    let at = read (tested .before) in
+    let stands = start at .pre .1 in
+    let label = at .label-there .ensures _ (stands .there) in
+    let known = tested .before .before .struct-known3 .given in
+    let settled = label-settled _ _ _ _ _ _ _ stands label (omega (arith, known)) (at .before .if1 .left) (tested .if2 .left) (c .settle .ensures .0) (c .settle .ensures .1 .0) in
+    (settled .0, (λ _. settled .1, λ t. sizes-settled _ _ _ _ _ _ _ stands label (omega (arith, known)) (at .before .if1 .left) (tested .if2 .left) _ (c .settle .ensures .1 .1 t)))
 
 pub label-fits-spec : {M : Type 1} → statement M
 label-fits-spec =

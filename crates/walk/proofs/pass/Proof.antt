@@ -39,38 +39,63 @@ pairs-requires c κs = search needs
 loop-holds : tie.Need-loop-holds Inv-loop μ-loop
 loop-holds c = let start = c .before .before .before .before .before .before in let there = c .before .before .before .of .ensures in (omega arith, c .pairs .ensures, standing-start _ _ _ _ (start .pre .0) (start .pre .1) there, walk-start _ _ _ _ _ (start .pre .1), sizes-start _ _ _ _ _ (start .pre .1) _)
 
+-- places of a turn: where the pass began, where the turn did, where it has a tag, where that tag's label has been tested
+abbrev start : tie.At-loop Inv-loop μ-loop → tie.Start Inv-loop μ-loop
+start c = c .before .before .before .before .before .before .before
+
+abbrev turn : tie.Then3 Inv-loop μ-loop → tie.At-loop Inv-loop μ-loop
+turn c = c .before .before .before
+
+abbrev on-tag : tie.After-label-fits Inv-loop μ-loop → tie.Then3 Inv-loop μ-loop
+on-tag c = c .before .before .before .before
+
+abbrev labelled : tie.After-tag-fits Inv-loop μ-loop → tie.After-label-fits Inv-loop μ-loop
+labelled c = c .before .before .before
+
 label-fits-requires : tie.Need-label-fits-requires Inv-loop μ-loop
-label-fits-requires c κs = (c .before .before .before .before .before .before .before .before .before .before .before .before .before .pre .0, c .before .before .before .before .before .before .loop .inv .2)
+label-fits-requires c κs = let at = turn (c .before .before .before) in (start at .pre .0, at .loop .inv .2)
 
 returns-2 : tie.Need-returns-2 Inv-loop μ-loop
-returns-2 c = (walk-misplaced _ _ _ _ _ _ _ (c .before .before .before .before .before .before .before .before .loop .inv .3) (c .before .before .before .before .before .if3 .taken) (c .before .label-fits .ensures .0) (c .if4 .taken), never)
+returns-2 c =
+    let tag = on-tag (c .before) in
+    (walk-misplaced _ _ _ _ _ _ _ (turn tag .loop .inv .3) (tag .if3 .taken) (c .before .label-fits .ensures .0) (c .if4 .taken), never)
 
 tag-fits-requires : tie.Need-tag-fits-requires Inv-loop μ-loop
-tag-fits-requires c κs = let at = c .before .before .before .before .before .before .before .before .before in
-    (tag-reads _ _ _ _ _ _ (c .before .before .before .before .before .before .before .before .before .before .before .before .before .before .before .before .pre .0) (at .loop .inv .2) (label-below _ _ _ _ _ _ _ (c .before .before .label-fits .ensures .0) (c .before .if4 .left)), at .loop .inv .1)
+tag-fits-requires c κs =
+    let at = turn (on-tag (c .before .before)) in
+    let below = label-below _ _ _ _ _ _ _ (c .before .before .label-fits .ensures .0) (c .before .if4 .left) in
+    (tag-reads _ _ _ _ _ _ (start at .pre .0) (at .loop .inv .2) below, at .loop .inv .1)
 
 returns-3 : tie.Need-returns-3 Inv-loop μ-loop
-returns-3 c = (walk-refused _ _ _ _ _ _ _ (c .before .before .before .before .before .before .before .before .before .before .before .loop .inv .3) (c .before .before .before .before .before .before .before .before .if3 .taken) (c .before .before .before .before .label-fits .ensures .0) (c .before .before .before .if4 .left) (c .before .tag-fits .ensures) (c .if5 .taken), never)
+returns-3 c =
+    let label = labelled (c .before) in
+    let tag = on-tag label in
+    (walk-refused _ _ _ _ _ _ _ (turn tag .loop .inv .3) (tag .if3 .taken) (label .label-fits .ensures .0) (c .before .before .before .if4 .left) (c .before .tag-fits .ensures) (c .if5 .taken), never)
 
 array-read-passed : tie.Need-array-read-passed Inv-loop μ-loop
 array-read-passed c = omega arith
 
 passed-requires : tie.Need-passed-requires Inv-loop μ-loop
-passed-requires c κs = let at = c .before .before .before .before .before .before .before .before .before .before .before in
-    passed-fits _ _ _ _ _ _ (c .before .before .before .before .before .before .before .before .before .before .before .before .before .before .before .before .before .before .pre .0) (at .loop .inv .2) (label-below _ _ _ _ _ _ _ (c .before .before .before .before .label-fits .ensures .0) (c .before .before .before .if4 .left)) (c .before .tag-fits .ensures) (c .if5 .left) (c .before .before .before .before .before .before .before .before .if3 .taken)
+passed-requires c κs =
+    let label = labelled (c .before) in
+    let tag = on-tag label in
+    let at = turn tag in
+    let below = label-below _ _ _ _ _ _ _ (label .label-fits .ensures .0) (c .before .before .before .if4 .left) in
+    passed-fits _ _ _ _ _ _ (start at .pre .0) (at .loop .inv .2) below (c .before .tag-fits .ensures) (c .if5 .left) (tag .if3 .taken)
 
 loop-less : tie.Need-loop-less Inv-loop μ-loop
-loop-less c = omega (arith, c .before .before .before .before .before .before .before .before .before .if3 .taken, c .passed .ensures .place)
+loop-less c = omega (arith, on-tag (labelled (c .before .before)) .if3 .taken, c .passed .ensures .place)
 
 loop-again : tie.Need-loop-again Inv-loop μ-loop
-loop-again c = let at = c .before .before .before .before .before .before .before .before .before .before .before .before in
+loop-again c =
+    let at = turn (on-tag (labelled (c .before .before))) in
     let inv = at .loop .inv in
-    let fits = c .before .before .before .before .before .before .before .before .before .before .before .before .before .before .before .before .before .before .before .pre .0 in
-    let label = c .before .before .before .before .before .label-fits .ensures in
+    let fits = start at .pre .0 in
+    let label = labelled (c .before .before) .label-fits .ensures in
     let placed = c .before .before .before .before .if4 .left in
     let below = label-below _ _ _ _ _ _ _ (label .0) placed in
     let levels = label .1 .0 (not-false _ placed) in
-    let more = c .before .before .before .before .before .before .before .before .before .if3 .taken in
+    let more = on-tag (labelled (c .before .before)) .if3 .taken in
     let behind = c .passed .ensures in (
       omega (arith, more, behind .place),
       inv .1,
@@ -80,11 +105,19 @@ loop-again c = let at = c .before .before .before .before .before .before .befor
     )
 
 ends-well-requires : tie.Need-ends-well-requires Inv-loop μ-loop
-ends-well-requires c κs = let fits = c .before .before .before .before .before .before .before .before .before .before .before .before .before .pre .0 in
-    record { long = header-long (fits .records); few = fits .records .few; marks-few = omega (arith, fits .records .few, c .before .before .before .before .before .before .loop .inv .0, c .before .before .before .before .before .before .loop .inv .2 .marks-few); tables-fit = fits .tables-fit }
+ends-well-requires c κs =
+    let at = c .before .before .before .before .before .before in
+    let fits = start at .pre .0 in
+    record {
+      long = header-long (fits .records);
+      few = fits .records .few;
+      marks-few = omega (arith, fits .records .few, at .loop .inv .0, at .loop .inv .2 .marks-few);
+      tables-fit = fits .tables-fit;
+    }
 
 returns-4 : tie.Need-returns-4 Inv-loop μ-loop
-returns-4 c = let inv = c .before .before .before .before .before .before .before .loop .inv in
+returns-4 c =
+    let inv = c .before .before .before .before .before .before .before .loop .inv in
     let last = c .before .before .before .before .if3 .left in
     (walk-end _ _ _ _ _ _ _ (inv .3) last (c .ends-well .ensures .0), λ t. sizes-end _ _ _ _ _ _ _ _ (inv .4) last (c .ends-well .ensures .1 t))
 

@@ -30,6 +30,13 @@ mul-closes c = omega arith
 element-copy-out-closes : tie.Need-element-copy-out-closes Inv-loop μ-loop
 element-copy-out-closes c = omega arith
 
+-- from where a node is to close back to its turn; from where its size is taken back to that
+abbrev turn : tie.After-closes Inv-loop μ-loop → tie.In-loop Inv-loop μ-loop
+turn c = c .before .before
+
+abbrev closed : tie.After-watched Inv-loop μ-loop → tie.After-closes Inv-loop μ-loop
+closed c = c .before .before .before .before .before .before
+
 closes-requires : tie.Need-closes-requires Inv-loop μ-loop
 closes-requires c κs = levels-below _ (c .before .loop-test .taken) (c .before .before .before .pre .0)
 
@@ -73,11 +80,12 @@ loop-less : tie.Need-loop-less Inv-loop μ-loop
 loop-less c = omega arith
 
 loop-again : tie.Need-loop-again Inv-loop μ-loop
-loop-again c = let at = c .before .before .before .before .before .before .before .before .before .loop .inv in
-    let test = c .before .before .before .before .before .before .before .before .loop-test .taken in (
+loop-again c =
+    let at = turn (closed c) .before .loop .inv in
+    let test = turn (closed c) .loop-test .taken in (
       omega arith,
       omega arith,
-      close-more _ _ _ _ _ _ (at .2) test (c .before .before .before .before .before .before .closes .ensures) (c .before .before .before .before .before .if1 .left),
+      close-more _ _ _ _ _ _ (at .2) test (closed c .closes .ensures) (c .before .before .before .before .before .if1 .left),
       close-sizes-more _ _ _ _ _ _ _ _ (at .3) test (rw (c .before .before .before .watched-end .ensures) at (c .watched .ensures)),
     )
 

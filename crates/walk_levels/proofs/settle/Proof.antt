@@ -46,15 +46,27 @@ mul-closes c = omega arith
 element-copy-out-closes : tie.Need-element-copy-out-closes Inv-loop μ-loop
 element-copy-out-closes c = omega arith
 
+-- places of a turn: where it began, where its node is to close, where its size is taken
+abbrev turn : tie.After-closes Inv-loop μ-loop → tie.In-loop Inv-loop μ-loop
+turn c = c .before .before .before .before
+
+abbrev closed : tie.After-watched Inv-loop μ-loop → tie.After-closes Inv-loop μ-loop
+closed c = c .before .before .before .before .before
+
 closes-requires : tie.Need-closes-requires Inv-loop μ-loop
 closes-requires c κs = levels-below _ (c .before .before .before .loop-test .taken) (c .before .before .before .before .before .before .pre .0)
 
 returns-2 : tie.Need-returns-2 Inv-loop μ-loop
-returns-2 c = let ok = settle-fails _ _ _ _ _ _ _ _ _ _ (c .before .before .before .before .before .before .loop .inv .2) (c .before .before .before .before .before .loop-test .taken) (c .before .before .before .if1 .left) (c .before .closes .ensures) (c .if2 .taken) in
+returns-2 c =
+    let at = turn (c .before) in
+    let ok = settle-fails _ _ _ _ _ _ _ _ _ _ (at .before .loop .inv .2) (at .loop-test .taken) (c .before .before .before .if1 .left) (c .before .closes .ensures) (c .if2 .taken) in
     (ok .0, (ok .1, never))
 
 watched-end-requires : tie.Need-watched-end-requires Inv-loop μ-loop
-watched-end-requires c κs = let start = c .before .before .before .before .before .before .before .before in (omega (arith, start .pre .0 .height, c .before .before .before .before .before .loop-test .taken), tables-below (start .args .tables .now) _ (c .before .before .before .before .before .loop-test .taken) (start .pre))
+watched-end-requires c κs =
+    let at = turn (c .before) in
+    let start = at .before .before .before in
+    (omega (arith, start .pre .0 .height, at .loop-test .taken), tables-below (start .args .tables .now) _ (at .loop-test .taken) (start .pre))
 
 mul-watched : tie.Need-mul-watched Inv-loop μ-loop
 mul-watched c = omega arith
@@ -78,10 +90,13 @@ element-write-sizes : tie.Need-element-write-sizes Inv-loop μ-loop
 element-write-sizes c = omega arith
 
 width-requires : tie.Need-width-requires Inv-loop μ-loop
-width-requires c κs = let at = c .before .before .before .before .before .before .before .before .before in omega (arith, at .loop-test .taken, at .before .before .before .pre .0 .height)
+width-requires c κs =
+    let at = turn (closed c) in omega (arith, at .loop-test .taken, at .before .before .before .pre .0 .height)
 
 add-ends : tie.Need-add-ends Inv-loop μ-loop
-add-ends c = let at = c .before .before .before .before .before .before .before .before .before .before .before in let start = at .before .before in omega (arith, c .width .ensures, at .before .struct-known .given, start .pre .0 .widths (at .loop .h))
+add-ends c =
+    let at = turn (closed (c .before)) .before in
+    omega (arith, c .width .ensures, at .before .struct-known .given, at .before .before .pre .0 .widths (at .loop .h))
 
 mul-ends : tie.Need-mul-ends Inv-loop μ-loop
 mul-ends c = omega arith
@@ -102,12 +117,14 @@ loop-less : tie.Need-loop-less Inv-loop μ-loop
 loop-less c = omega arith
 
 loop-again : tie.Need-loop-again Inv-loop μ-loop
-loop-again c = let at = c .before .before .before .before .before .before .before .before .before .before .before in
-    let test = c .before .before .before .before .before .before .before .before .before .before .loop-test .taken in (
+loop-again c =
+    let closing = closed (c .before) in
+    let at = turn closing .before in
+    let test = turn closing .loop-test .taken in (
       omega arith,
       omega arith,
-      rw (c .width .ensures) (settle-more _ _ _ _ _ _ _ _ _ _ (at .loop .inv .2) test (c .before .before .before .before .before .before .before .before .if1 .left) (c .before .before .before .before .before .before .closes .ensures) (c .before .before .before .before .before .if2 .left)),
-      rw (c .width .ensures) (sizes-more _ _ _ _ _ _ _ _ _ (at .loop .inv .3) test (c .before .before .before .before .before .before .before .before .if1 .left) (rw (c .before .before .before .before .watched-end .ensures) at (c .before .watched .ensures))),
+      rw (c .width .ensures) (settle-more _ _ _ _ _ _ _ _ _ _ (at .loop .inv .2) test (closing .before .before .if1 .left) (closing .closes .ensures) (c .before .before .before .before .before .if2 .left)),
+      rw (c .width .ensures) (sizes-more _ _ _ _ _ _ _ _ _ (at .loop .inv .3) test (closing .before .before .if1 .left) (rw (c .before .before .before .before .watched-end .ensures) at (c .before .watched .ensures))),
     )
 
 mul-result : tie.Need-mul-result Inv-loop μ-loop
