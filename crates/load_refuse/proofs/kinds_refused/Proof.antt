@@ -2,7 +2,8 @@
 -- begins are open as are counted. Assumes nothing.
 use mathlib.Core.Path.{_≡_, refl, sym, _∙_}
 use mathlib.Core.Bool.{true}
-use Prim.Native.Nat.{_-_, _≤_}
+use mathlib.Core.List.{List}
+use Prim.Native.Nat.{ℕ, _-_, _≤_}
 use borrow.Author.Tests.{eq-eqb, ne-eqb, not-true, not-false}
 use lib.ListN.{length, getD, drop}
 use Rattle.calls.specs.Kind.{is-kind}
@@ -33,8 +34,12 @@ returns c =
     let l = c .before .before .before .before .loop in
     sym (kinds-stop _ (l .i) (c .before .before .before .loop-test .taken) (l .depth) (sym (c .before .is-a-kind .ensures) ∙ not-true _ (c .if1 .taken))) ∙ l .inv .2
 
+-- the kinds, from the loop's start on
+abbrev all-kinds : tie.At-loop Inv-loop μ-loop → List ℕ
+all-kinds c = c .before .before .args .kinds .now
+
 -- the kind is one
-is-one : (c : tie.Else1 Inv-loop μ-loop) → is-kind (getD (c .before .before .before .before .before .before .args .kinds .now) (c .before .before .before .before .loop .i) 0) ≡ true
+is-one : (c : tie.Else1 Inv-loop μ-loop) → is-kind (getD (all-kinds (c .before .before .before .before)) (c .before .before .before .before .loop .i) 0) ≡ true
 is-one c = sym (c .before .is-a-kind .ensures) ∙ not-false _ (c .if1 .left)
 
 ends-requires : tie.Need-ends-requires Inv-loop μ-loop
@@ -63,10 +68,11 @@ loop-less c = omega arith
 
 loop-again : tie.Need-loop-again Inv-loop μ-loop
 loop-again c =
-    let l = c .before .before .before .before .before .before .before .loop in
+    let turn = c .before .before .before .before .before .before .before in
+    let l = turn .loop in
     let kind = is-one (c .before .before .before) in (
       omega arith,
-      rw (c .depth-after .ensures) omega (arith, depth-most (l .depth) (getD (c .before .before .before .before .before .before .before .before .before .args .kinds .now) (l .i) 0)),
+      rw (c .depth-after .ensures) omega (arith, depth-most (l .depth) (getD (all-kinds turn) (l .i) 0)),
       rw (c .depth-after .ensures) (sym (kinds-go _ (l .i) (c .before .before .before .before .before .before .loop-test .taken) (l .depth) kind (end-closes _ _ (rw (c .before .before .ends .ensures) at (c .before .if2 .left)))) ∙ l .inv .2),
     )
 

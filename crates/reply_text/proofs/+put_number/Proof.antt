@@ -62,10 +62,10 @@ put-number-same-length-2 t c = omega arith
 
 put-number-returns-2 : (t : ℕ) → put-number-lts.Need-returns-2 (given t) (put-number-at t) put-number.Post
 put-number-returns-2 t c =
-    let start = c .before .before .before .before .before .before .before .before .before .before in
-    let n = start .args .n in
+    let tenth = c .before .before .before .before .before .before in
+    let n = tenth .before .before .before .before .args .n in
     rw (decimal-more n (omega arith) (omega arith))
-    (writes-both (omega (arith, tenth-short n (omega arith) (omega arith))) (c .before .before .before .before .before .before .put-number .ensures) (c .before .before .put-byte2 .ensures))
+    (writes-both (omega (arith, tenth-short n (omega arith) (omega arith))) (tenth .put-number .ensures) (c .before .before .put-byte2 .ensures))
 
 pub +put-number-spec : {M : Type 1} → statement M
 +put-number-spec = close μ-put-number λ t. put-number-lts.spec (given t)

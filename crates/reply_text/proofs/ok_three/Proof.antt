@@ -16,15 +16,24 @@ put-bytes-requires c κs = search needs
 put-spaced-requires : tie.Need-put-spaced-requires
 put-spaced-requires c κs = search needs
 
+-- from the word written, back to the start; from the first number, back to the word; from the second, back to the first
+abbrev start : tie.After-put-bytes → tie.Start
+start c = c .before .before .before .before
+
+abbrev word : tie.After-put-spaced → tie.After-put-bytes
+word c = c .before .before .before .before
+
+abbrev first : tie.After-put-spaced2 → tie.After-put-spaced
+first c = c .before .before .before .before
+
 put-spaced-requires-2 : tie.Need-put-spaced-requires-2
 put-spaced-requires-2 c κs =
-    let start = c .before .before .before .before .before .before .before .before .before .before .before in
-    omega (arith, decimal-short (start .args .a) (omega arith))
+    let args = start (word (c .before .before .before)) .args in omega (arith, decimal-short (args .a) (omega arith))
 
 put-last-requires : tie.Need-put-last-requires
 put-last-requires c κs =
-    let start = c .before .before .before .before .before .before .before .before .before .before .before .before .before .before .before in
-    omega (arith, decimal-short (start .args .a) (omega arith), decimal-short (start .args .b) (omega arith))
+    let args = start (word (first (c .before .before .before))) .args in
+    omega (arith, decimal-short (args .a) (omega arith), decimal-short (args .b) (omega arith))
 
 same-length : tie.Need-same-length
 same-length c = search needs
@@ -34,12 +43,11 @@ unfolding reply-line
 returns c =
     let last = c .before .before in
     let second = last .before .before .before .before in
-    let first = second .before .before .before .before in
-    let word = first .before .before .before .before in
-    let start = word .before .before .before .before in
-    writes-both (omega arith) (word .put-bytes .ensures)
-    (writes-spaced (start .args .a) _ (omega (arith, decimal-short (start .args .a) (omega arith))) (first .put-spaced .ensures)
-    (writes-spaced (start .args .b) _ (omega (arith, decimal-short (start .args .a) (omega arith), decimal-short (start .args .b) (omega arith))) (second .put-spaced2 .ensures) (last .put-last .ensures)))
+    let worded = word (first second) in
+    let args = start worded .args in
+    writes-both (omega arith) (worded .put-bytes .ensures)
+    (writes-spaced (args .a) _ (omega (arith, decimal-short (args .a) (omega arith))) (first second .put-spaced .ensures)
+    (writes-spaced (args .b) _ (omega (arith, decimal-short (args .a) (omega arith), decimal-short (args .b) (omega arith))) (second .put-spaced2 .ensures) (last .put-last .ensures)))
 
 pub ok-three-spec : {M : Type 1} → statement M
 ok-three-spec =

@@ -16,10 +16,16 @@ put-bytes-requires c κs = search needs
 put-spaced-requires : tie.Need-put-spaced-requires
 put-spaced-requires c κs = search needs
 
+-- from the word written, back to the start; from the first number, back to the word
+abbrev start : tie.After-put-bytes → tie.Start
+start c = c .before .before .before .before
+
+abbrev word : tie.After-put-spaced → tie.After-put-bytes
+word c = c .before .before .before .before
+
 put-last-requires : tie.Need-put-last-requires
 put-last-requires c κs =
-    let start = c .before .before .before .before .before .before .before .before .before .before .before in
-    omega (arith, decimal-short (start .args .a) (omega arith))
+    let args = start (word (c .before .before .before)) .args in omega (arith, decimal-short (args .a) (omega arith))
 
 same-length : tie.Need-same-length
 same-length c = search needs
@@ -29,9 +35,8 @@ unfolding reply-line
 returns c =
     let last = c .before .before in
     let first = last .before .before .before .before in
-    let word = first .before .before .before .before in
-    let start = word .before .before .before .before in
-    writes-both (omega arith) (word .put-bytes .ensures) (writes-spaced (start .args .a) _ (omega (arith, decimal-short (start .args .a) (omega arith))) (first .put-spaced .ensures) (last .put-last .ensures))
+    let args = start (word first) .args in
+    writes-both (omega arith) (word first .put-bytes .ensures) (writes-spaced (args .a) _ (omega (arith, decimal-short (args .a) (omega arith))) (first .put-spaced .ensures) (last .put-last .ensures))
 
 pub ok-two-spec : {M : Type 1} → statement M
 ok-two-spec =

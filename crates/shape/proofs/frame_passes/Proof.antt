@@ -68,7 +68,8 @@ height-fits-requires c κs =
 
 returns-9 : tie.Need-returns-9
 returns-9 c =
-    let d = c .before .before .before .before .before .before .before .before in
+    let tested = c .before .before .before .before in
+    let d = tested .before .before .before .before in
     let e = d .before .before .before in
     frame-labels _ (e .before .before .before .before .if1 .left) (e .before .before .if2 .left) (e .degree-fits .ensures) (d .before .before .if3 .left) (d .degree-fits2 .ensures) (c .before .before .before .before .before .before .before .if4 .left) (c .before .before .before .before .before .if5 .left) (c .before .before .before .before .if6 .left) (c .before .before .if7 .left) (c .before .if8 .left) (c .height-fits .ensures)
 

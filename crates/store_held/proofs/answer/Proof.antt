@@ -18,6 +18,10 @@ use Rattle.store_held.proofs.Pairs.{outdated, other-marked, tells}
 current-here : (c : tie.Else1) → let a = c .before .before .before .args in current (said (a .words .now)) (a .pair) ≡ true
 current-here c = sym (c .before .is-current .ensures) ∙ not-false _ (c .if1 .left)
 
+-- behind the reading of the label, its tests
+abbrev labelled : tie.After-struct-known2 → tie.After-label-of
+labelled c = c .before .before .before .before
+
 told : (c : tie.After-label-of) → let a = c .before .before .before .before .before .before .args in (t : Bool) →
     (ltb (a .pair .start .0) (c .label-of .result .0) && ltb (c .label-of .result .0) (a .pair .end .0)) ≡ t →
     Answered (cond t Yes No) ≡ question-reply (a .pair) (a .tag .0) (a .words .now)
@@ -41,11 +45,13 @@ label-of-requires : tie.Need-label-of-requires
 label-of-requires c κs = tag-room (c .before .before .before .before .before .pre .other)
 
 returns-3 : tie.Need-returns-3
-returns-3 c = told (c .before .before .before .before .before .before .before .before) true (rw (lt-ltb _ _ (c .before .before .before .if3 .taken)) (c .if4 .taken))
+returns-3 c =
+    let first = c .before .before .before in
+    told (labelled (first .before)) true (rw (lt-ltb _ _ (first .if3 .taken)) (c .if4 .taken))
 
 returns-4 : tie.Need-returns-4
 returns-4 c =
-    told (c .before .before .before .before .before) false
+    told (labelled (c .before)) false
     (⊎-elim (λ w. rw (w .3 .left, and-false)) (λ w. rw (le-ltb _ _ (w .left))) (c .if3 .came))
 
 pub answer-spec : {M : Type 1} → statement M

@@ -7,6 +7,10 @@ use Rattle.store_held.proofs.is_current.Tie as tie
 use Rattle.store_refuse.proofs.Laws.{tag-room}
 use Rattle.store_held.proofs.Pairs.{start-moved, end-moved, unmoved}
 
+-- from the two labels read, what was needed
+abbrev start : tie.After-end-label → tie.Start
+start c = c .before .before .before .before
+
 label-of-requires : tie.Need-label-of-requires
 label-of-requires c κs = tag-room (c .before .before .pre)
 
@@ -19,7 +23,7 @@ same-requires c κs = search needs
 returns : tie.Need-returns
 returns c =
     let e = c .before .before in
-    sym (start-moved _ _ (e .before .before .before .before .pre) (λ z. not-same _ _ (c .before .same .ensures) (c .if1 .taken) (e .before .label-of .ensures ∙ sym z)))
+    sym (start-moved _ _ (start e .pre) (λ z. not-same _ _ (c .before .same .ensures) (c .if1 .taken) (e .before .label-of .ensures ∙ sym z)))
 
 same-requires-2 : tie.Need-same-requires-2
 same-requires-2 c κs = search needs
@@ -27,17 +31,17 @@ same-requires-2 c κs = search needs
 returns-2 : tie.Need-returns-2
 returns-2 c =
     let e = c .before .before .before .before in
-    sym (end-moved _ _ (e .before .before .before .before .pre) (λ z. not-same _ _ (c .before .same2 .ensures) (c .if2 .taken) (e .end-label .ensures ∙ sym z)))
+    sym (end-moved _ _ (start e .pre) (λ z. not-same _ _ (c .before .same2 .ensures) (c .if2 .taken) (e .end-label .ensures ∙ sym z)))
 
 kind-of-requires : tie.Need-kind-of-requires
-kind-of-requires c κs = tag-room (c .before .before .before .before .before .before .before .before .pre)
+kind-of-requires c κs = tag-room (start (c .before .before .before .before) .pre)
 
 returns-3 : tie.Need-returns-3
 returns-3 c =
     let e = c .before .before .before .before .before in
     rw (c .kind-of .ensures)
     (sym
-    (unmoved _ _ (e .before .before .before .before .pre) (sym (are-same _ _ (c .before .before .before .before .same .ensures) (c .before .before .before .if1 .left)) ∙ e .before .label-of .ensures)
+    (unmoved _ _ (start e .pre) (sym (are-same _ _ (c .before .before .before .before .same .ensures) (c .before .before .before .if1 .left)) ∙ e .before .label-of .ensures)
     (sym (are-same _ _ (c .before .before .same2 .ensures) (c .before .if2 .left)) ∙ e .end-label .ensures)))
 
 pub is-current-spec : {M : Type 1} → statement M

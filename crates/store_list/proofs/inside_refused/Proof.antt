@@ -14,14 +14,18 @@ use Rattle.store_list.proofs.inside_refused.Tie as tie
 use Rattle.store_refuse.proofs.Laws.{accepted-says, words-first, header-room, tag-below, tag-room}
 use Rattle.store_list.proofs.ListRefusals.{inside-front, inside-unknown, inside-marked, inside-no-begin, inside-accepted}
 
+-- behind the tests of the words and of the front, where the call began
+abbrev start : tie.Else2 → tie.Start
+start c = c .before .before .before .before .before
+
 -- the words say a store; the section is not the front, and a tag of it
-says : (c : tie.Else2) → let ws = c .before .before .before .before .before .args .words .now in Says ws (said ws)
+says : (c : tie.Else2) → let ws = start c .args .words .now in Says ws (said ws)
 says c = accepted-says _ _ (sym (c .before .before .before .words-refused .ensures) ∙ c .before .before .if1 .left)
 
-other : (c : tie.Else2) → eqb (c .before .before .before .before .before .args .begin .0) no-tag ≡ false
+other : (c : tie.Else2) → eqb (start c .args .begin .0) no-tag ≡ false
 other c = sym (c .before .is-none .ensures) ∙ c .if2 .left
 
-tag : (c : tie.Else3) → let a = c .before .before .before .before .before .before .before .before .args in Tag-said (a .words .now) (a .begin .0)
+tag : (c : tie.Else3) → let a = start (c .before .before .before) .args in Tag-said (a .words .now) (a .begin .0)
 tag c = tag-below _ (says (c .before .before .before)) _ (c .if3 .left)
 
 words-refused-requires : tie.Need-words-refused-requires

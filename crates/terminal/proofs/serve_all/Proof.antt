@@ -35,8 +35,12 @@ read-piece-requires c κs = search needs
 same-length : tie.Need-same-length Inv-loop μ-loop
 same-length c = search needs
 
+-- from a piece read back to its turn
+abbrev turn : tie.After-buffer2 Inv-loop μ-loop → tie.At-loop Inv-loop μ-loop
+turn c = c .before .before .before .before
+
 returns : tie.Need-returns Inv-loop μ-loop
-returns c e = c .before .before .before .before .before .loop .inv .2 [] _ _ none
+returns c e = turn (c .before) .loop .inv .2 [] _ _ none
 
 array-share-prefix-buffer : tie.Need-array-share-prefix-buffer Inv-loop μ-loop
 array-share-prefix-buffer c = search needs
@@ -62,10 +66,10 @@ loop-less c = search needs
 loop-again : tie.Need-loop-again Inv-loop μ-loop
 loop-again c =
     let call = c .before .before .before .before in
-    let turn = call .before .before .before .before .before .before .before .before .before .before in (
+    let at = turn (call .before .before .before .before .before .before) in (
       search needs,
       search needs,
-      λ ps a b x. turn .loop .inv .2 (_ ∷ ps) a b (onward (call .serve .ensures (not-false _ (c .if2 .left))) x),
+      λ ps a b x. at .loop .inv .2 (_ ∷ ps) a b (onward (call .serve .ensures (not-false _ (c .if2 .left))) x),
     )
 
 same-length-3 : tie.Need-same-length-3 Inv-loop μ-loop

@@ -54,25 +54,31 @@ same-bytes-requires c κs = search needs
 load-requires : tie.Need-load-requires
 load-requires c κs = search needs
 
+-- from the comparison of the word, back to where the line has one
+abbrev parted : tie.After-same-bytes → tie.Else2
+parted c = c .before .before .before .before
+
 returns-3 : tie.Need-returns-3
 returns-3 c =
-    let at = c .before .before .before .before .before .before .before in
-    line-load _ _ (at .before .before .if1 .left) (at .before .field-end .ensures) (at .if2 .left) (sym (c .before .before .before .same-bytes .ensures) ∙ c .before .before .if3 .taken) (c .load .ensures)
+    let word = c .before .before .before in
+    let at = parted word in
+    line-load _ _ (at .before .before .if1 .left) (at .before .field-end .ensures) (at .if2 .left) (sym (word .same-bytes .ensures) ∙ c .before .before .if3 .taken) (c .load .ensures)
 
 field-end-requires-2 : tie.Need-field-end-requires-2
 field-end-requires-2 c κs = search needs
 
 returns-4 : tie.Need-returns-4
 returns-4 c =
-    let at = c .before .before .before .before .before .before .before in
-    gives-plain (line-many _ _ (at .before .before .if1 .left) (at .before .field-end .ensures) (at .if2 .left) _ (c .before .field-end2 .ensures) (sym (c .before .before .before .same-bytes .ensures) ∙ c .before .before .if3 .left) (c .if4 .taken))
+    let word = c .before .before .before in
+    let at = parted word in
+    gives-plain (line-many _ _ (at .before .before .if1 .left) (at .before .field-end .ensures) (at .if2 .left) _ (c .before .field-end2 .ensures) (sym (word .same-bytes .ensures) ∙ c .before .before .if3 .left) (c .if4 .taken))
 
 two-fields-requires : tie.Need-two-fields-requires
 two-fields-requires c κs = search needs
 
 returns-5 : tie.Need-returns-5
 returns-5 c =
-    let at = c .before .before .before .before .before .before .before .before in
+    let at = parted (c .before .before .before .before) in
     line-two _ _ (at .before .before .if1 .left) (at .before .field-end .ensures) (at .if2 .left) _ (c .before .before .field-end2 .ensures) (c .before .if4 .left) (c .two-fields .ensures)
 
 pub parse-spec : {M : Type 1} → statement M
