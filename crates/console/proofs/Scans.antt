@@ -1,52 +1,55 @@
--- One turn of each loop over a line: what is left to find from a place on equals the whole. Assumes nothing.
-use mathlib.Core.Path.{_≡_, refl, ap, sym}
-use mathlib.Core.Bool.{Bool, true, false, _&&_, cond, and-false}
+-- What is found in a line: by the library's search and comparison, and digit by digit. Assumes nothing.
+use mathlib.Core.Path.{_≡_, refl, ap, sym, _∙_}
+use mathlib.Core.Bool.{Bool, true, false, _&&_, cond, and-false, false≢true}
 use mathlib.Core.List.{List, [], _∷_}
 use mathlib.Core.Option.{none, some}
 use Prim.Native.Nat.{ℕ, suc, _+_, _*_, _-_, _≤_, _<_}
 use native.Mathlib.Numerals.{add-one}
 use native.Mathlib.Omega.{arith}
-use borrow.Author.Tests.{eq-eqb, ne-eqb, lt-ltb, le-ltb, le-leb, lt-leb, ltb-true, ltb-false}
+use borrow.Author.Tests.{eq-eqb, ne-eqb, eqb-true, lt-ltb, le-ltb, le-leb, lt-leb, ltb-true, ltb-false}
 use lib.Dec.{ltb, eqb}
 use lib.ListN.{length, getD, drop, drop-of-length-le}
-use lib.Seq.{drop-cons}
+use lib.Seq.{drop-cons, take-all}
 use Rattle.store_types.specs.Limits.{word-limit}
 use Rattle.lists.specs.Lists.{same}
+use Rattle.lists.proofs.Tests.{and-left, and-right, fails}
+use Rattle.bytes.specs.Bytes.{indexOf, indexAfter, slice}
 use Rattle.console.specs.Line.{is-digit, all-digits, value-from, well-begun, number-of}
 use Rattle.console.specs.Scan.{first-space, scanned}
 
 -- SPACES
-pub space-here : (cs : List ℕ) (i : ℕ) → i < length cs → getD cs i 0 ≡ 32 → first-space (drop i cs) ≡ 0
-unfolding first-space
-space-here cs i l e = rw (drop-cons cs i 0 l, eq-eqb (getD cs i 0) 32 e)
+index-space : (cs : List ℕ) → indexOf 32 cs ≡ first-space cs
+unfolding indexOf indexAfter first-space
+index-space [] = refl
+index-space (c ∷ cs) = rw (index-space cs) (go (eqb c 32))
+  where
+    go : (t : Bool) → indexAfter t (first-space cs) ≡ cond t 0 (suc (first-space cs))
+    go true = refl
+    go false = refl
 
-pub space-later : (cs : List ℕ) (i : ℕ) → i < length cs → (getD cs i 0 ≡ 32 → ⊥) → first-space (drop i cs) ≡ suc (first-space (drop (i + 1) cs))
-unfolding first-space
-space-later cs i l n = rw (add-one i, drop-cons cs i 0 l, ne-eqb (getD cs i 0) 32 n)
-
-pub space-none : (cs : List ℕ) (i : ℕ) → length cs ≤ i → first-space (drop i cs) ≡ 0
-unfolding first-space
-space-none cs i l = rw (drop-of-length-le cs l)
+-- the space that is found between a place and the end
+pub space-found : (cs : List ℕ) (i : ℕ) → i + indexOf 32 (slice i (length cs) cs) ≡ i + first-space (drop i cs)
+unfolding slice
+space-found cs i = rw (take-all (length cs) cs (omega arith), index-space (drop i cs))
 
 -- EQUAL BYTES
-pub same-turn : (xs ys : List ℕ) (i : ℕ) → i < length xs → i < length ys → getD xs i 0 ≡ getD ys i 0 → same (drop i xs) (drop i ys) ≡ same (drop (i + 1) xs) (drop (i + 1) ys)
+same-refl : (xs : List ℕ) → same xs xs ≡ true
 unfolding same
-same-turn xs ys i l m e = rw (add-one i, drop-cons xs i 0 l, drop-cons ys i 0 m, eq-eqb _ _ e)
+same-refl [] = refl
+same-refl (x ∷ xs) = rw (eq-eqb x x refl) (same-refl xs)
 
-pub same-not : (xs ys : List ℕ) (i : ℕ) → i < length xs → i < length ys → (getD xs i 0 ≡ getD ys i 0 → ⊥) → same (drop i xs) (drop i ys) ≡ false
+same-equal : (xs ys : List ℕ) → same xs ys ≡ true → xs ≡ ys
 unfolding same
-same-not xs ys i l m n = rw (drop-cons xs i 0 l, drop-cons ys i 0 m, ne-eqb _ _ n)
+same-equal [] [] e = refl
+same-equal [] (y ∷ ys) e = absurd (false≢true e)
+same-equal (x ∷ xs) [] e = absurd (false≢true e)
+same-equal (x ∷ xs) (y ∷ ys) e =
+    rw (eqb-true x y (and-left (eqb x y) (same xs ys) e), same-equal xs ys (and-right (eqb x y) (same xs ys) e))
 
-pub same-end : (xs ys : List ℕ) (i : ℕ) → length xs ≤ i → length ys ≤ i → same (drop i xs) (drop i ys) ≡ true
-unfolding same
-same-end xs ys i l m = rw (drop-of-length-le xs l, drop-of-length-le ys m)
-
-pub same-length : (xs ys : List ℕ) → (length xs ≡ length ys → ⊥) → same xs ys ≡ false
-unfolding same
-same-length [] [] n = absurd (n refl)
-same-length [] (y ∷ ys) n = refl
-same-length (x ∷ xs) [] n = refl
-same-length (x ∷ xs) (y ∷ ys) n = rw (same-length xs ys (λ e. n (ap suc e))) (and-false (eqb x y))
+-- a test that tells equal lists
+pub same-told : (xs ys : List ℕ) (t : Bool) → (t ≡ true → xs ≡ ys) → (xs ≡ ys → t ≡ true) → t ≡ same xs ys
+same-told xs ys true f g = sym (ap (same xs) (sym (f refl)) ∙ same-refl xs)
+same-told xs ys false f g = sym (fails (same xs ys) (λ e. false≢true (g (same-equal xs ys e))))
 
 -- DIGITS
 pub scan-turn : (v : ℕ) (cs : List ℕ) (i : ℕ) → i < length cs → 48 ≤ getD cs i 0 → getD cs i 0 ≤ 57 → v * 10 + (getD cs i 0 - 48) < word-limit →

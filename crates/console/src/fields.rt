@@ -10,28 +10,11 @@ pub fn field_end(line: &[u8], from: usize) -> usize
     requires { ⌜ from ≤ length (now line) ⌝ }
     ensures { λ e. ⌜ e ≡ from + first-space (drop from (now (line .entry))) ⌝ }
 {
-    let mut i = from;
-    while i < line.len() {
-        if line[i] == b' ' {
-            return i;
-        }
-        i += 1;
-    }
-    i
+    bytes::scan::find(line, from, line.len(), b' ')
 }
 
 pub fn same_bytes(a: &[u8], b: &[u8]) -> bool
     ensures { λ t. ⌜ t ≡ same (now (a .entry)) (now (b .entry)) ⌝ }
 {
-    if a.len() != b.len() {
-        return false;
-    }
-    let mut i: usize = 0;
-    while i < a.len() {
-        if a[i] != b[i] {
-            return false;
-        }
-        i += 1;
-    }
-    true
+    check::same(a, b)
 }
