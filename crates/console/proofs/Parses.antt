@@ -12,20 +12,10 @@ use Rattle.console.specs.Line.{Parsed, fields, command-of, parsed, unkno
 use Rattle.console.specs.Scan.{first-space}
 use Rattle.console.specs.Post.{Gives}
 use Rattle.console.specs.declared.Command.{Command}
+use Rattle.console.proofs.Scans.{same-equal}
 use Rattle.console.proofs.Splits.{fields-one, field-within, field-next, field-first, rest-of}
 use Rattle.console.proofs.Words.{one-kinds, two-kinds, not-load, parsed-short}
 use Rattle.console.proofs.Loads.{part}
-
-same-equal : (xs ys : List ℕ) → same xs ys ≡ true → xs ≡ ys
-unfolding same
-same-equal [] [] e = refl
-same-equal [] (y ∷ ys) e = absurd (let z : _≡_ {A = ℕ} 0 1 = cc in omega arith)
-same-equal (x ∷ xs) [] e = absurd (let z : _≡_ {A = ℕ} 0 1 = cc in omega arith)
-same-equal (x ∷ xs) (y ∷ ys) e = go (eqb x y) refl e (λ z. same-equal xs ys z)
-  where
-    go : (t : Bool) → eqb x y ≡ t → (t && same xs ys) ≡ true → (same xs ys ≡ true → xs ≡ ys) → x ∷ xs ≡ y ∷ ys
-    go true q z rest = let first : x ≡ y = eqb-true x y q in let others : xs ≡ ys = rest z in cc
-    go false q z rest = absurd (let k : _≡_ {A = ℕ} 0 1 = cc in omega arith)
 
 -- a command that has no kinds
 no-kinds : {p q : Parsed} {c : Command} {ks : List ℕ} → p ≡ q → q .kinds ≡ [] → c ≡ q .command → Gives p c ks

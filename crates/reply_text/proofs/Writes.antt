@@ -1,11 +1,12 @@
 -- Bytes written one behind the other are written as one list. Assumes nothing.
 use mathlib.Core.Path.{_≡_, refl, ap, sym, _∙_}
 use mathlib.Core.List.{List, [], _∷_, _++_, append-assoc, append-nil}
-use Prim.Native.Nat.{ℕ, zero, suc, _+_, _≤_, _<_}
+use Prim.Native.Nat.{ℕ, zero, suc, _+_, _-_, _≤_, _<_}
 use native.Mathlib.Numerals.{add-one}
 use native.Mathlib.Omega.{arith}
-use lib.ListN.{length, take, drop, set, length-append}
-use lib.Seq.{take-at, drop-at, drop-drop, set-split, length-take-le, take-length, paste}
+use lib.ListN.{length, take, drop, set, length-append, length-drop, drop-of-length-le}
+use lib.Seq.{take-at, drop-at, drop-drop, set-split, length-take-le, take-length, take-all}
+use borrow.Rule.Slice.PartMut.{midOf, postOf, putMid, post-is}
 use Rattle.reply_text.specs.Text.{decimal, spaced, reply-line}
 use Rattle.reply_text.specs.Post.{Written}
 
@@ -13,9 +14,15 @@ use Rattle.reply_text.specs.Post.{Written}
 pub writes-byte : (out : List ℕ) (at b : ℕ) → at < length out → Written out at (b ∷ []) (set out at b) (at + 1)
 writes-byte out at b l = record { text = rw (set-split out at b l, add-one at); behind = refl }
 
--- the loop that copies has copied all
-pub writes-all : (out : List ℕ) (at : ℕ) (bs after : List ℕ) (i : ℕ) → length bs ≡ i → after ≡ paste out at bs i → Written out at bs after (at + i)
-writes-all out at bs after i e p = record { text = p ∙ rw (← e, take-length bs) (append-assoc (take at out) bs (drop (at + length bs) out)); behind = rw e }
+-- bytes copied to the front of what stands from a place on
+pub writes-copied : (out : List ℕ) (at : ℕ) (bs ys : List ℕ) (n : ℕ) → at ≤ length out → n ≡ length bs →
+    ys ≡ take (length bs) bs ++ drop (length bs) (midOf at (length out - at) out) → Written out at bs (putMid at (length out - at) out ys) (at + n)
+writes-copied out at bs ys n l e copied =
+    let part : midOf at (length out - at) out ≡ drop at out = take-all (length out - at) (drop at out) (omega (arith, length-drop at out)) in
+    let whole : length out ≤ length out = omega arith in
+    let none : postOf at (length out - at) out ≡ [] = post-is at (length out) out l ∙ drop-of-length-le out whole in
+    let put : ys ≡ bs ++ drop (at + length bs) out = copied ∙ rw (part, take-length bs, drop-drop) in
+    record { text = rw (none, put, append-nil); behind = rw e }
 
 -- xs, and ys behind them
 pub writes-both : {out middle after xs ys : List ℕ} {at e f : ℕ} → at + length xs ≤ length out → Written out at xs middle e → Written middle e ys after f → Written out at (xs ++ ys) after f

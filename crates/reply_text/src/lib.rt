@@ -17,12 +17,8 @@ fn put_bytes(out: &mut [u8], at: usize, bytes: &[u8]) -> usize
     requires { ⌜ at + length (now bytes) ≤ length (now out) ⌝ }
     ensures { λ e. ⌜ Written (now (out .entry)) at (now (bytes .entry)) (now (out .exit)) e ⌝ }
 {
-    let mut i: usize = 0;
-    while i < bytes.len() {
-        out[at + i] = bytes[i];
-        i += 1;
-    }
-    at + i
+    let n = bytes::copy(bytes, &mut out[at..]);
+    at + n
 }
 
 // The digits of a number, the highest first. A word has at most ten.
