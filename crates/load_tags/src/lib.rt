@@ -9,6 +9,8 @@ ghost use Rattle.store_types.specs.Layout.{at-up, field, Room};
 ghost use Rattle.shape.specs.Tables.{entry-limit};
 ghost use Rattle.load_model.specs.Begins.{next-begin, begun, First-begins};
 ghost use Rattle.load_tags.specs.Tags.{Entries-fit, Widths-rise, Gaps-of, Trees-fit, labels-new, next-number, prior-number, place-written, Kind-number, new-mate, new-up, links-written, tag-written, open-behind, Opened, Around-known, Tag-fits, Tags-fit, Tags-written};
+use store_types::BEGIN;
+use store_types::END;
 use store_types::Label;
 use store_types::TagId;
 
@@ -58,7 +60,7 @@ fn up_at(words: &[u32], kind: u8, inside: Open) -> TagId
     requires { ⌜ (Kind-number kind) × (kind ≡ 2 → Room (now words) (inside .begin .0)) × (inside .known ≡ true → inside .around .0 ≡ field (now words) (inside .begin .0) at-up) ⌝ }
     ensures { λ u. ⌜ u .0 ≡ new-up kind (inside .begin .0) (now (words .entry)) ⌝ }
 {
-    if kind == 2 && !inside.known {
+    if kind == END && !inside.known {
         return words::up_of(words, inside.begin);
     }
     TagId(kind_pick::at_end(kind as u32, inside.around.0, inside.begin.0))
@@ -80,7 +82,7 @@ fn open_behind(x: TagId, kind: u8, up: TagId, inside: Open) -> Open
     Open {
         begin: TagId(kind_pick::at_begin(kind as u32, x.0, up.0)),
         around: TagId(kind_pick::at_begin(kind as u32, up.0, inside.around.0)),
-        known: kind == 1 || (kind != 2 && inside.known),
+        known: kind == BEGIN || (kind != END && inside.known),
     }
 }
 

@@ -44,7 +44,7 @@ pub fn widths(words: &[u32]) -> [u64; TABLE_LENGTH]
 pub fn cut(number: u64) -> u64
     ensures { λ l. ⌜ l ≡ label-part number ⌝ }
 {
-    number % 4294967296
+    number % store_types::LABEL_LIMIT
 }
 
 // A label or the number of a node with a width added.
@@ -65,7 +65,7 @@ pub fn height_fits(s: u32, r: u32, h: u32) -> bool
     let mut i: u32 = 0;
     while i < h {
         p = p * b;
-        if 4294967296 < p {
+        if store_types::LABEL_LIMIT < p {
             return false;
         }
         i += 1;
@@ -106,7 +106,7 @@ pub fn frame_passes(words: &[u32]) -> bool
         return false;
     }
     let n = words[words::AT_COUNT];
-    if 200000 < n {
+    if store_types::MOST_TAGS < n {
         return false;
     }
     if words.len() < words::HEADER_WORDS + words::TAG_WORDS * (n as usize) {
