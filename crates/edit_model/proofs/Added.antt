@@ -21,7 +21,8 @@ use Rattle.calls.specs.Store.{Fact, no-fact, fact-in, next-in, prior-in}
 use Rattle.calls.specs.Kind.{kind-word}
 use Rattle.calls_laws.proofs.Inserts.{all-below-with}
 use Rattle.edit_model.specs.Image.{Image, image-header, image-record, image-words}
-use Rattle.edit_model.specs.Insert.{behind, with-record, linked-place, linked-next, added}
+use Rattle.words.specs.Places.{behind}
+use Rattle.edit_model.specs.Insert.{with-record, linked-place, linked-next, added}
 use Rattle.edit_model.proofs.Image.{Proper, distinct-tags, tag-below, tag-in, length-image, length-image-header, own-field, own-label, own-header, record-says, image-header-word}
 use Rattle.edit_model.proofs.Along.{next-at}
 

@@ -18,27 +18,27 @@ use Rattle.tree.specs.Promise.{Widths}
 use Rattle.tree_laws.proofs.Labels.{length-labels, rising-from, rising-below, node-rising}
 use Rattle.tree_laws.proofs.Ancestors.{number-in, getD-middle, Found, found}
 use Rattle.edit_model.specs.Image.{Image, image-words}
-use Rattle.edit_model.specs.Split.{left-of}
+use Rattle.edit_model.specs.Split.{left-border}
 use Rattle.edit_model.proofs.Image.{Proper, tag-below}
 use Rattle.edit_model.proofs.Along.{label-of-place, prior-at}
 use Rattle.edit_model.proofs.Added.{tag-before}
 
 -- the equations of the walk: it stops at no tag or at a lower label, and else goes on
 module _ (k n : ℕ) (ws : List ℕ) (low x : ℕ) where
-  left-stops : (leb n x || ltb (label-at ws x) low) ≡ true → left-of (suc k) n ws low x ≡ x
-  unfolding left-of
+  left-stops : (leb n x || ltb (label-at ws x) low) ≡ true → left-border (suc k) n ws low x ≡ x
+  unfolding left-border
   left-stops e = rw e
 
-  left-goes : x < n → low ≤ label-at ws x → left-of (suc k) n ws low x ≡ left-of k n ws low (field ws x at-prior)
-  unfolding left-of
+  left-goes : x < n → low ≤ label-at ws x → left-border (suc k) n ws low x ≡ left-border k n ws low (field ws x at-prior)
+  unfolding left-border
   left-goes tag inside = rw (lt-leb n x tag, le-ltb (label-at ws x) low inside)
 
 -- ALONG THE ROW OF AN IMAGE, from the place behind its first i tags down to the least place with labels of at least low
 -- from there up to i
 module _ {v : Image} (h : Proper v) (few : length (v .facts) ≤ no-tag) (rest : List ℕ) where
   pub left-along : (low k i to : ℕ) → i ≤ k → i ≤ length (v .tags) → to ≤ i → ((q : ℕ) → to ≤ q → q < i → low ≤ getD (v .labels) q 0) →
-      ((q : ℕ) → to ≡ suc q → getD (v .labels) q 0 < low) → left-of k (length (v .facts)) (image-words v ++ rest) low (tag-before v i) ≡ tag-before v to
-  unfolding left-of
+      ((q : ℕ) → to ≡ suc q → getD (v .labels) q 0 < low) → left-border k (length (v .facts)) (image-words v ++ rest) low (tag-before v i) ≡ tag-before v to
+  unfolding left-border
   left-along low zero i to steps fits order inside outside = let e : i ≡ to = omega arith in rw e
   left-along low (suc k) zero to steps fits order inside outside =
       let e : to ≡ 0 = omega arith in
@@ -77,7 +77,7 @@ module _ {s r : ℕ} {w : ℕ → ℕ} (s-least : 2 ≤ s) (r-least : 2 ≤ r) (
   -- TO THE TAG LEFT OF AN ANCESTOR, down to its number
   pub left-ancestor : {v : Image} → Proper v → length (v .facts) ≤ no-tag → (rest : List ℕ) (f : Forest) (u p h : ℕ) → Good s r f u → p ≤ size f → 1 ≤ size f →
       length (v .tags) ≡ size f → v .labels ≡ labels f w u 0 → 1 ≤ h → h ≤ u →
-      left-of (length (v .facts)) (length (v .facts)) (image-words v ++ rest) (number-in f w u h p 0) (tag-before v p) ≡ tag-before v (left-in f u h p)
+      left-border (length (v .facts)) (length (v .facts)) (image-words v ++ rest) (number-in f w u h p 0) (tag-before v p) ≡ tag-before v (left-in f u h p)
   left-ancestor proper few rest f u p zero good fits some many labels-are least most = absurd (omega arith)
   left-ancestor {v} proper few rest f u p (suc h) good fits some many labels-are least most =
       let d = found s-least r-least widths f u h p 0 good most fits some in

@@ -21,7 +21,8 @@ use Rattle.calls_laws.proofs.Tests.{Sound, sane}
 use Rattle.calls_laws.proofs.Fields.{length-words, header-says}
 use Rattle.calls_laws.proofs.Inserts.{labels-kept, Row-accepted}
 use Rattle.calls_laws.proofs.WordSteps.{header-said}
-use Rattle.edit_model.specs.Insert.{up-word, added, plan-of, put-words, both-edit, end-edit, in-turn-edit, element-edit, stamped}
+use Rattle.words.specs.Places.{up-word}
+use Rattle.edit_model.specs.Insert.{added, plan-of, put-words, both-edit, end-edit, in-turn-edit, element-edit, stamped}
 use Rattle.edit_model.proofs.Added.{one-more}
 use Rattle.edit_model.proofs.Plans.{place-tag, sound-said}
 use Rattle.edit_model.proofs.Single.{grown, book-with}

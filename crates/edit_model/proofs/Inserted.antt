@@ -28,7 +28,8 @@ use Rattle.calls_laws.proofs.Inserts.{labels-kept, Row-accepted, accepted-row, 
 use Rattle.calls_laws.proofs.Steps.{insert-passed}
 use Rattle.calls_laws.proofs.WordSteps.{header-said}
 use Rattle.edit_model.specs.Image.{image-of}
-use Rattle.edit_model.specs.Insert.{Edited, up-word, added, plan-of, put-words, text-edit, begin-edit, stamped}
+use Rattle.words.specs.Places.{up-word}
+use Rattle.edit_model.specs.Insert.{Edited, added, plan-of, put-words, text-edit, begin-edit, stamped}
 use Rattle.edit_model.proofs.Image.{Alike, store-image, image-is}
 use Rattle.edit_model.proofs.Added.{one-more, with-stamp, stamp-set}
 use Rattle.edit_model.proofs.Plans.{place-tag, sound-said}

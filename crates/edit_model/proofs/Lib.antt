@@ -18,3 +18,4 @@ pub mod BothTags
 pub mod NextTag
 pub mod InTurn
 pub mod Elements
+pub mod Kept

@@ -9,7 +9,7 @@ use borrow.Author.Tests.{ne-eqb}
 use lib.Dec.{eqb}
 use lib.ListN.{length, getD, drop, replicate}
 use Rattle.store_types.specs.Limits.{no-tag, most-tags}
-use Rattle.store_types.specs.Layout.{tag-words, label-at}
+use Rattle.store_types.specs.Layout.{at-count, tag-words, word-at, label-at}
 use Rattle.shape.specs.Tables.{entry}
 use Rattle.tree.specs.Row.{insert-at}
 use Rattle.tree.specs.Forest.{size, labels}
@@ -22,11 +22,12 @@ use Rattle.tree_laws.proofs.Root.{whole, labels-whole, flat-whole, split-flat, 
 use Rattle.tree_laws.proofs.Border.{Cut, cut-flat}
 use Rattle.calls.specs.Kind.{kind-word}
 use Rattle.calls.specs.Store.{Fact}
+use Rattle.words.proofs.PlaceLaws.{label-tag}
 use Rattle.walk_model.specs.Watch.{ancestor-numbers}
 use Rattle.walk_model.proofs.Numbers.{numbers-whole}
-use Rattle.edit_model.specs.Image.{Image, image-words, with-labels}
-use Rattle.edit_model.specs.Insert.{Plan, added, applied, place-label, numbers-at, plain-plan}
-use Rattle.edit_model.proofs.Image.{Proper, tag-below}
+use Rattle.edit_model.specs.Image.{Image, image-header, image-words, with-labels}
+use Rattle.edit_model.specs.Insert.{Plan, added, applied, numbers-at, plain-plan}
+use Rattle.edit_model.proofs.Image.{Proper, tag-below, image-header-word}
 use Rattle.edit_model.proofs.Along.{label-of-place}
 use Rattle.edit_model.proofs.Added.{with-tag, one-more, tag-before, added-image, proper-with-tag}
 use Rattle.edit_model.proofs.Plans.{cut-low}
@@ -60,8 +61,11 @@ module _ (m : Book) (fine : Sane m) (w : ℕ → ℕ) (widths : Widths (m .s) (m
 
   -- the numbers of its ancestors
   numbers-are : numbers-at words table (m .under) place ≡ ancestor-numbers table (m .under) (getD (labels-of w m) (suc p - 1) 0) 0 (replicate 24 0)
-  unfolding numbers-at place-label
-  numbers-are = let before : suc p - 1 ≡ p = omega arith in rw (is-tag, own-label, before)
+  unfolding numbers-at image-header
+  numbers-are =
+      let before : suc p - 1 ≡ p = omega arith in
+      let issued : place < word-at words at-count = rw (image-header-word v rest at-count (omega arith)) (tag-below h p no-tag in-row) in
+      rw (← label-tag words place issued refl, own-label, before)
 
   -- THE FLAT VIEW
   d : Flat (m .s) (m .r) w (whole m) (height m) (suc p) x 0

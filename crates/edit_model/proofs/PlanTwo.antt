@@ -25,7 +25,7 @@ use Rattle.calls.specs.Store.{Store, count, width}
 use Rattle.calls.specs.Words.{Says}
 use Rattle.calls_laws.proofs.Widths.{store-widths}
 use Rattle.calls_laws.proofs.Tests.{sane}
-use Rattle.edit_model.specs.Split.{left-of}
+use Rattle.edit_model.specs.Split.{left-border}
 use Rattle.edit_model.specs.Insert.{Plan, numbers-at, plain-plan, root-plan, split-plan, plan, plan-of}
 use Rattle.edit_model.proofs.Splits.{Highest, Fills, second-split-of}
 use Rattle.edit_model.proofs.Plans.{place-tag, numbers-before, height-found, planned, cut-low, sound-said, widths-right, highs-right, numbers-said, plan-said, size-said, number-right, left-said, found-highest}
@@ -56,7 +56,7 @@ module _ (ws : List ℕ) (st : Store) (says : Says ws st) (p : ℕ) (fits : p �
     where
       go : (t u : Bool) → eqb found-two 0 ≡ u → cond t (root-plan (height k) (count st + 2))
           (cond u (plain-plan ws (widths-of ws) (k .under) (place-tag st p)) (split-plan (k .s) (widths-of ws) (highs-of ws) (numbers-at ws (widths-of ws) (k .under) (place-tag st p)) found-two
-          (left-of (count st) (count st) ws (entry (numbers-at ws (widths-of ws) (k .under) (place-tag st p)) found-two) (place-tag st p)))) .height
+          (left-border (count st) (count st) ws (entry (numbers-at ws (widths-of ws) (k .under) (place-tag st p)) found-two) (place-tag st p)))) .height
           ≡ cond t (height k) found-two
       go true u e = refl
       go false true e = sym (eqb-true found-two 0 e)

@@ -31,15 +31,16 @@ use Rattle.calls_laws.proofs.Tests.{Sound, sane, facts-of}
 use Rattle.calls_laws.proofs.Sections.{row-below}
 use Rattle.calls_laws.proofs.WordSteps.{header-said, width-said}
 use Rattle.walk_model.specs.Walk.{shape-of}
-use Rattle.walk_model.specs.Watch.{ancestor-numbers, watched-label, sizes-at}
+use Rattle.words.specs.Places.{watched-label, behind}
+use Rattle.walk_model.specs.Watch.{ancestor-numbers, sizes-at}
 use Rattle.walk_model.specs.Promise.{Tables-right}
 use Rattle.walk_model.proofs.Shapes.{tables-right}
 use Rattle.walk_model.proofs.WalkRight.{facts as header-facts-said}
 use Rattle.walk_model.proofs.Numbers.{numbers-whole}
 use Rattle.walk_model.proofs.Sizes.{sizes-right}
 use Rattle.edit_model.specs.Image.{image-words, image-of}
-use Rattle.edit_model.specs.Split.{highest-full, left-of}
-use Rattle.edit_model.specs.Insert.{Plan, behind, place-label, numbers-at, plain-plan, root-plan, split-plan, plan, plan-of}
+use Rattle.edit_model.specs.Split.{highest-full, left-border}
+use Rattle.edit_model.specs.Insert.{Plan, numbers-at, plain-plan, root-plan, split-plan, plan, plan-of}
 use Rattle.edit_model.proofs.Image.{store-image, proper-image}
 use Rattle.edit_model.proofs.Along.{label-of-place}
 use Rattle.edit_model.proofs.Splits.{Highest, Fills, highest-one, split-highest, full-found}
@@ -150,21 +151,13 @@ module _ (ws : List ℕ) (st : Store) (says : Says ws st) where
   some-said high =
       omega (arith, sound-said .as-many, rooted (st .book) (sane sound-said) .low (λ i. omega arith), some-power (st .book .r) (st .book .under) (sound-said .degrees .r-least))
 
-  pub place-label-said : (p : ℕ) → p ≤ count st → place-label ws (place-tag st p) ≡ getD (labels-of (width st) (st .book)) (p - 1) 0
-  unfolding place-label
-  place-label-said zero fits = sym first-said
-  place-label-said (suc q) fits = let before : suc q - 1 ≡ q = omega arith in rw (is-tag q fits, before) (label-said q fits)
-
-  -- it is the label by which the ancestors of the place are watched
+  -- the label by which the ancestors of the place are watched
   pub watched-said : (p : ℕ) → p ≤ count st → watched-label ws (place-tag st p) ≡ getD (labels-of (width st) (st .book)) (p - 1) 0
   unfolding watched-label
   watched-said zero fits = rw (header-said ws st says .issued, le-ltb no-tag (count st) (omega (arith, sound-said .few))) (sym first-said)
   watched-said (suc q) fits =
       let before : suc q - 1 ≡ q = omega arith in
       rw (header-said ws st says .issued, lt-ltb (getD (row st) q no-tag) (count st) (tag-said q fits), before) (label-said q fits)
-
-  pub watched-place : (p : ℕ) → p ≤ count st → watched-label ws (place-tag st p) ≡ place-label ws (place-tag st p)
-  watched-place p fits = watched-said p fits ∙ sym (place-label-said p fits)
 
   -- the label right behind it
   pub next-number : (p n : ℕ) → p ≤ count st → (p ≡ 0 → n ≡ 0) → ((q : ℕ) → p ≡ suc q → n ≡ getD (labels-of (width st) (st .book)) q 0 + width st 0) →
@@ -175,7 +168,7 @@ module _ (ws : List ℕ) (st : Store) (says : Says ws st) where
   module _ (p : ℕ) (fits : p ≤ count st) where
     pub numbers-said : numbers-at ws (widths-of ws) (st .book .under) (place-tag st p) ≡ numbers-before ws st p
     unfolding numbers-at
-    numbers-said = rw (place-label-said p fits)
+    numbers-said = rw (watched-said p fits)
 
     -- the plan of m tags
     pub plan-said : (m : ℕ) → plan-of ws m (place-tag st p) ≡ plan ws (st .book .s) (widths-of ws) (highs-of ws) (sizes-before ws st p) (count st) m (st .book .under) (place-tag st p)
@@ -192,7 +185,7 @@ module _ (ws : List ℕ) (st : Store) (says : Says ws st) where
 
     -- the tag left of the ancestor of a height below the root
     pub left-said : (h : ℕ) → 1 ≤ h → h ≤ st .book .under →
-        left-of (count st) (count st) ws (entry (numbers-before ws st p) h) (place-tag st p) ≡ place-tag st (left-in (whole (st .book)) (height (st .book)) h p)
+        left-border (count st) (count st) ws (entry (numbers-before ws st p) h) (place-tag st p) ≡ place-tag st (left-in (whole (st .book)) (height (st .book)) h p)
     unfolding image-of
     left-said h least most =
         let k = st .book in
@@ -276,7 +269,7 @@ module _ (ws : List ℕ) (st : Store) (says : Says ws st) where
 
         split-planned : (h : ℕ) → d .height ≡ suc h →
             Planned st p x d (split-plan (st .book .s) (widths-of ws) (highs-of ws) (numbers-before ws st p) (d .height)
-            (left-of (count st) (count st) ws (entry (numbers-before ws st p) (d .height)) (place-tag st p)))
+            (left-border (count st) (count st) ws (entry (numbers-before ws st p) (d .height)) (place-tag st p)))
         unfolding split-plan
         split-planned h e =
             let k = st .book in
@@ -306,6 +299,6 @@ module _ (ws : List ℕ) (st : Store) (says : Says ws st) where
               (cond (eqb (height-found ws st p 1) 0)
               (plain-plan ws (widths-of ws) (st .book .under) (place-tag st p))
               (split-plan (st .book .s) (widths-of ws) (highs-of ws) (numbers-at ws (widths-of ws) (st .book .under) (place-tag st p)) (height-found ws st p 1)
-              (left-of (count st) (count st) ws (entry (numbers-at ws (widths-of ws) (st .book .under) (place-tag st p)) (height-found ws st p 1)) (place-tag st p))))
+              (left-border (count st) (count st) ws (entry (numbers-at ws (widths-of ws) (st .book .under) (place-tag st p)) (height-found ws st p 1)) (place-tag st p))))
           inside t zero e = rw (eq-eqb _ 0 (split-height-said t ∙ e)) (plain-planned e)
           inside t (suc h) e = rw (split-height-said t, numbers-said, ne-eqb (d .height) 0 (λ i. omega arith)) (split-planned t h e)

@@ -6,17 +6,14 @@ use lib.Dec.{ltb, eqb}
 use lib.ListN.{replicate, set}
 use Rattle.store_types.specs.Limits.{no-tag}
 use Rattle.store_types.specs.Layout.{at-s, at-r, at-height, at-count, at-first, at-stamp, at-next, at-prior, at-mate, at-up, at-kind, word-at, field, label-at, with-field, with-label}
+use Rattle.words.specs.Places.{behind, up-word, watched-label}
 use Rattle.shape.specs.Tables.{entry, widths-of, highs-of}
 use Rattle.tree.specs.Forest.{labels, spread}
 use Rattle.calls.specs.Words.{follow}
 use Rattle.walk_model.specs.Watch.{ancestor-numbers, sizes-at}
 use Rattle.shape.specs.Sums.{cut}
 use Rattle.edit_model.specs.Relabel.{Relabelled, relabel, along, shift}
-use Rattle.edit_model.specs.Split.{highest-full, left-of}
-
--- the tag behind a place: the first where the place is the front
-unfoldable pub behind : List ℕ → (place : ℕ) → ℕ
-behind ws y = cond (eqb y no-tag) (word-at ws at-first) (field ws y at-next)
+use Rattle.edit_model.specs.Split.{highest-full, left-border}
 
 -- A NEW TAG n with its record, linked behind a place. Its label is none that a tag can have, so that it counts as moved
 -- where it is numbered.
@@ -53,12 +50,8 @@ applied ws w r n p =
     let t = shift n n (q .words) (along (p .count) ws x) (p .bound) (p .by) in
     record { words = t .words; moved = q .moved + t .moved }
 
--- the label of a place; the front's is 0, that of the first leaf
-unfoldable pub place-label : List ℕ → (place : ℕ) → ℕ
-place-label ws y = cond (eqb y no-tag) 0 (label-at ws y)
-
 unfoldable pub numbers-at : List ℕ → (widths : List ℕ) → (under place : ℕ) → List ℕ
-numbers-at ws w u y = ancestor-numbers w u (place-label ws y) 0 (replicate 24 0)
+numbers-at ws w u y = ancestor-numbers w u (watched-label ws y) 0 (replicate 24 0)
 
 -- no split: one tag right behind the place, and its right siblings are shifted
 unfoldable pub plain-plan : List ℕ → (widths : List ℕ) → (under place : ℕ) → Plan
@@ -94,11 +87,7 @@ plan ws s w hi sz n k u y =
     let h = highest-full hi sz k u 1 0 in
     let ns = numbers-at ws w u y in
     cond (eqb (n + k) (entry hi (suc u))) (root-plan (suc u) (n + k))
-    (cond (eqb h 0) (plain-plan ws w u y) (split-plan s w hi ns h (left-of n n ws (entry ns h) y)))
-
--- the up of new tags: the place if it is a begin, else its up; at the front none
-unfoldable pub up-word : List ℕ → (place : ℕ) → ℕ
-up-word ws y = cond (eqb y no-tag) no-tag (cond (eqb (field ws y at-kind) 1) y (field ws y at-up))
+    (cond (eqb h 0) (plain-plan ws w u y) (split-plan s w hi ns h (left-border n n ws (entry ns h) y)))
 
 -- H is one higher where the root was split
 unfoldable pub raised-words : List ℕ → (split : ℕ) → List ℕ

@@ -15,7 +15,7 @@ highest-full hi sz k (suc m) h q = highest-full hi sz k m (suc h) (cond (eqb (en
 
 -- the tag left of a node: from x on along prior as long as it is a tag of n with a label of at least low; `most` bounds
 -- the steps
-unfoldable pub left-of : (most n : ℕ) → List ℕ → (low : ℕ) → (tag : ℕ) → ℕ
-left-of zero n ws low x = x
-left-of (suc k) n ws low x =
-    let further = left-of k n ws low (field ws x at-prior) in cond (leb n x || ltb (label-at ws x) low) x further
+unfoldable pub left-border : (most n : ℕ) → List ℕ → (low : ℕ) → (tag : ℕ) → ℕ
+left-border zero n ws low x = x
+left-border (suc k) n ws low x =
+    let further = left-border k n ws low (field ws x at-prior) in cond (leb n x || ltb (label-at ws x) low) x further

@@ -3,35 +3,11 @@ ghost use mathlib.Core.Path.{_≡_};
 ghost use Prim.Native.Nat.{_+_, _≤_, _<_};
 ghost use lib.ListN.{length};
 ghost use Rattle.store_types.specs.Layout.{at-height, header-words, word-at, Room};
-ghost use Rattle.edit_model.specs.Insert.{behind as tag-behind, with-record, linked-place, linked-next, added, up-word, raised-words};
-ghost use Rattle.insert_link.specs.Needs.{Place-there, New-tag-fits};
+ghost use Rattle.words.specs.Places.{Place-there};
+ghost use Rattle.edit_model.specs.Insert.{with-record, linked-place, linked-next, added, raised-words};
+ghost use Rattle.insert_link.specs.Needs.{New-tag-fits};
 use store_types::Label;
 use store_types::TagId;
-
-// The tag behind a place: the first where the place is the front.
-pub fn behind(words: &[u32], n: u32, place: TagId) -> TagId
-    requires { ⌜ Place-there (now words) n (place .0) ⌝ }
-    ensures { λ x. ⌜ x .0 ≡ tag-behind (now (words .entry)) (place .0) ⌝ }
-{
-    if place.is_none() {
-        return TagId(words[words::AT_FIRST]);
-    }
-    words::next_of(words, place)
-}
-
-// The up of new tags: the place if it is a begin, else its up; at the front none.
-pub fn up_at(words: &[u32], n: u32, place: TagId) -> TagId
-    requires { ⌜ Place-there (now words) n (place .0) ⌝ }
-    ensures { λ x. ⌜ x .0 ≡ up-word (now (words .entry)) (place .0) ⌝ }
-{
-    if place.is_none() {
-        return TagId::NONE;
-    }
-    if words::kind_of(words, place) == 1 {
-        return place;
-    }
-    words::up_of(words, place)
-}
 
 // The record of a new tag. Its label is none that a tag can have, so that it counts as moved where it is numbered.
 fn write_record(
@@ -55,7 +31,7 @@ fn write_record(
 }
 
 fn link_place(words: &mut [u32], n: u32, place: TagId)
-    requires { ⌜ Place-there (now words) n (place .0) ⌝ }
+    requires { ⌜ Place-there (now words) (place .0) ⌝ }
     ensures { λ _. ⌜ now (words .exit) ≡ linked-place (now (words .entry)) (place .0) n ⌝ }
 {
     if place.is_none() {
@@ -66,7 +42,7 @@ fn link_place(words: &mut [u32], n: u32, place: TagId)
 }
 
 fn link_next(words: &mut [u32], n: u32, next: TagId)
-    requires { ⌜ Place-there (now words) n (next .0) ⌝ }
+    requires { ⌜ Place-there (now words) (next .0) ⌝ }
     ensures { λ _. ⌜ now (words .exit) ≡ linked-next (now (words .entry)) (next .0) n ⌝ }
 {
     if next.is_none() {
@@ -80,7 +56,7 @@ pub fn add_tag(words: &mut [u32], n: u32, place: TagId, mate: TagId, up: TagId, 
     requires { ⌜ New-tag-fits (now words) n (place .0) ⌝ }
     ensures { λ _. ⌜ now (words .exit) ≡ added (now (words .entry)) n (place .0) (mate .0) (up .0) kind ⌝ }
 {
-    let next = behind(words, n, place);
+    let next = words::places::behind(words, place);
     write_record(words, TagId(n), next, place, mate, up, kind);
     link_place(words, n, place);
     link_next(words, n, next);

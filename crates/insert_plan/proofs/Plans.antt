@@ -3,39 +3,31 @@
 use mathlib.Core.Path.{_≡_, ap, _∙_}
 use mathlib.Core.Bool.{Bool, true, false, _||_, cond}
 use mathlib.Core.List.{List}
-use Prim.Native.Nat.{ℕ, zero, suc, _+_, _*_, _-_, _^_, _≤_}
+use Prim.Native.Nat.{ℕ, zero, suc, pred, _+_, _*_, _-_, _^_, _≤_}
 use native.Mathlib.Nat.{mul-le-mul, mul-le-mul-right, pow-zero}
 use native.Mathlib.Numerals.{add-one}
 use native.Mathlib.Omega.{arith}
 use borrow.Author.Tests.{eq-eqb, ne-eqb, eqb-true}
 use lib.Dec.{leb, eqb}
-use lib.ListN.{replicate}
 use Rattle.store_types.specs.Limits.{no-tag, label-limit}
 use Rattle.lists.proofs.Tests.{by-test}
-use Rattle.store_types.specs.Layout.{at-next, field, label-at, with-label}
+use Rattle.store_types.specs.Layout.{at-count, at-next, field, label-at, with-label}
 use Rattle.shape.specs.Tables.{entry, entry-limit}
 use Rattle.tree.specs.Forest.{spread}
 use Rattle.calls.specs.Words.{follow}
 use Rattle.shape.specs.Sums.{cut}
 use Rattle.edit_model.specs.Relabel.{Relabelled, shift}
-use Rattle.walk_model.specs.Watch.{ancestor-numbers}
-use Rattle.edit_model.specs.Split.{highest-full, left-of}
-use Rattle.edit_model.specs.Insert.{Plan, place-label, numbers-at, plain-plan, root-plan, split-plan, plan, behind, applied}
+use Rattle.edit_model.specs.Split.{highest-full, left-border}
+use Rattle.words.specs.Places.{behind}
+use Rattle.edit_model.specs.Insert.{Plan, numbers-at, plain-plan, root-plan, split-plan, plan, applied}
 use Rattle.edit_model.proofs.Relabels.{labels-cut}
-use Rattle.renumber.specs.Needs.{trees-numbered, Row-numbered}
+use Rattle.edit_model.proofs.Kept.{relabel-header}
+use Rattle.renumber.specs.Needs.{issued, trees-numbered, Row-numbered}
 use Rattle.renumber.proofs.Parts.{trees-moved}
 use Rattle.insert_plan.specs.Parts.{next-label, inner-plan}
 
--- THE LABEL of a place y, and the number behind it: t says whether it is the front
+-- THE NUMBER behind a place y: t says whether it is the front
 module _ (ws : List ℕ) (y : ℕ) {t : Bool} (e : t ≡ eqb y no-tag) where
-  pub label-front : t ≡ true → 0 ≡ place-label ws y
-  unfolding place-label
-  label-front p = rw (← e, p)
-
-  pub label-tag : {l : ℕ} → t ≡ false → l ≡ label-at ws y → l ≡ place-label ws y
-  unfolding place-label
-  label-tag p q = rw (← e, p) q
-
   pub next-front : (v : ℕ) → t ≡ true → 0 ≡ next-label ws y v
   unfolding next-label
   next-front v p = rw (← e, p)
@@ -56,39 +48,38 @@ height-under hi sz k (suc m) h q t l e =
 pub split-under : (hi sz : List ℕ) (k u : ℕ) → highest-full hi sz k u 1 0 ≤ u
 split-under hi sz k u = height-under hi sz k u 1 0 u (omega arith) (omega arith)
 
--- EACH PLAN. l is the label of the place, and ns are the numbers of its ancestors
-module _ (ws w : List ℕ) (u y : ℕ) {l : ℕ} {ns : List ℕ} (label : l ≡ place-label ws y) (numbers : ns ≡ ancestor-numbers w u l 0 (replicate 24 0)) where
-  numbers-are : ns ≡ numbers-at ws w u y
-  unfolding numbers-at
-  numbers-are = numbers ∙ rw label
-
-  pub plain-made : {v : ℕ} → v ≡ next-label ws y (entry w 0) →
-      _≡_ {A = Plan} (record { height = 0; left = y; number = v; count = 1; bound = entry ns 1 + entry w 1; by = entry w 0 }) (plain-plan ws w u y)
-  unfolding plain-plan next-label
-  plain-made e = rw (e, numbers-are)
-
-  -- the node of height h is split: x is the tag left of it
-  pub inner-split : (s n h : ℕ) (hi : List ℕ) {x : ℕ} {p : Plan} → (h ≡ 0 → ⊥) → x ≡ left-of n n ws (entry ns h) y → p ≡ split-plan s w hi ns h x → p ≡ inner-plan ws s w hi n u h y
-  unfolding inner-plan
-  inner-split s n h hi z e f = f ∙ rw (e, ne-eqb h 0 z, numbers-are)
+-- EACH PLAN
+pub plain-made : (ws w : List ℕ) (u y : ℕ) {a b c v : ℕ} → a ≡ entry (numbers-at ws w u y) 1 → b ≡ entry w 0 → c ≡ entry w 1 → v ≡ next-label ws y b →
+    _≡_ {A = Plan} (record { height = 0; left = y; number = v; count = 1; bound = a + c; by = b }) (plain-plan ws w u y)
+unfolding plain-plan next-label
+plain-made ws w u y parent width next e = rw (e, parent, width, next)
 
 pub inner-plain : (ws : List ℕ) (s : ℕ) (w hi : List ℕ) (n u h y : ℕ) {p : Plan} → h ≡ 0 → p ≡ plain-plan ws w u y → p ≡ inner-plan ws s w hi n u h y
 unfolding inner-plan
 inner-plain ws s w hi n u h y z e = rw z e
 
-pub split-made : (s : ℕ) (w hi ns : List ℕ) (h x : ℕ) →
-    _≡_ {A = Plan} (record { height = h; left = x; number = entry ns h; count = entry hi h; bound = entry ns (h + 1) + entry w (h + 1); by = (s - 1) * entry w h }) (split-plan s w hi ns h x)
+-- the node of height h is split: x is the tag left of it, and ns are the numbers of the ancestors
+pub inner-split : (ws : List ℕ) (s : ℕ) (w hi ns : List ℕ) (n u h y : ℕ) {x : ℕ} {p : Plan} → ns ≡ numbers-at ws w u y → (h ≡ 0 → ⊥) →
+    x ≡ left-border n n ws (entry ns h) y → p ≡ split-plan s w hi ns h x → p ≡ inner-plan ws s w hi n u h y
+unfolding inner-plan
+inner-split ws s w hi ns n u h y numbers z e f = f ∙ rw (e, ne-eqb h 0 z, numbers)
+
+pub split-made : (w hi ns : List ℕ) (h x : ℕ) {s a b c d e : ℕ} → s ≡ entry hi 0 → a ≡ entry ns (h + 1) → b ≡ entry w (h + 1) → c ≡ entry ns h → d ≡ entry hi h → e ≡ entry w h →
+    _≡_ {A = Plan} (record { height = h; left = x; number = c; count = d; bound = a + b; by = (s - 1) * e }) (split-plan (entry hi 0) w hi ns h x)
 unfolding split-plan
-split-made s w hi ns h x = rw add-one
+split-made w hi ns h x degree next next-width number limit width = rw (degree, next, next-width, number, limit, width, add-one)
 
-module _ (ws : List ℕ) (s : ℕ) (w hi sz : List ℕ) (n k u y : ℕ) where
-  pub plan-root : n + k ≡ entry hi (u + 1) → root-plan (u + 1) (n + k) ≡ plan ws s w hi sz n k u y
+module _ (ws : List ℕ) (s : ℕ) (w hi sz : List ℕ) (n k top y : ℕ) (some : 1 ≤ top) where
+  one-higher : suc (pred top) ≡ top
+  one-higher = omega arith
+
+  pub plan-root : n + k ≡ entry hi top → root-plan top (n + k) ≡ plan ws s w hi sz n k (pred top) y
   unfolding plan
-  plan-root e = rw (← add-one u, eq-eqb (n + k) (entry hi (u + 1)) e)
+  plan-root e = rw (one-higher, eq-eqb (n + k) (entry hi top) e)
 
-  pub plan-inner : {h : ℕ} {p : Plan} → (n + k ≡ entry hi (u + 1) → ⊥) → h ≡ highest-full hi sz k u 1 0 → p ≡ inner-plan ws s w hi n u h y → p ≡ plan ws s w hi sz n k u y
+  pub plan-inner : {h : ℕ} {p : Plan} → (n + k ≡ entry hi top → ⊥) → h ≡ highest-full hi sz k (pred top) 1 0 → p ≡ inner-plan ws s w hi n (pred top) h y → p ≡ plan ws s w hi sz n k (pred top) y
   unfolding plan inner-plan
-  plan-inner z f e = rw (← add-one u, ne-eqb (n + k) (entry hi (u + 1)) z, ← f) e
+  plan-inner z f e = rw (one-higher, ne-eqb (n + k) (entry hi top) z, ← f) e
 
 -- a shift moves no more than its steps
 shift-few : (k n : ℕ) (ws : List ℕ) (x b d : ℕ) → shift k n ws x b d .moved ≤ k
@@ -98,23 +89,28 @@ shift-few (suc k) n ws x b d =
     by-test (leb n x || leb b (label-at ws x)) (λ e. rw e (omega arith)) (λ e. rw e (omega (arith, shift-few k n (with-label ws x (cut (label-at ws x + d))) (field ws x at-next) b d)))
 
 -- A PLAN DONE: the row is numbered from x on, and the tags from `next` on are shifted
-module _ (ws w : List ℕ) (r n : ℕ) (p : Plan) {x next m : ℕ} {vs : List ℕ} (start : x ≡ behind ws (p .left))
+module _ (ws w : List ℕ) (r : ℕ) (p : Plan) {x next m : ℕ} {vs : List ℕ} (start : x ≡ behind ws (p .left))
     (numbered : Row-numbered ws vs (trees-numbered ws w r (p .height) (cut (p .number)) x (p .count)) x (p .count) next m) where
+  -- there are as many tags
+  pub count-kept : issued vs ≡ issued ws
+  unfolding trees-numbered
+  count-kept = ap issued (numbered .words) ∙ relabel-header at-count (omega arith) _ _ ws
+
   cut-number : trees-numbered ws w r (p .height) (cut (p .number)) x (p .count) ≡ trees-numbered ws w r (p .height) (p .number) x (p .count)
   unfolding trees-numbered
   cut-number = rw (labels-cut (spread (p .height) r (follow (p .count) ws x)) (entry w) (p .height) (p .number))
 
-  pub applied-by : {us : List ℕ} {d : ℕ} → us ≡ shift n n vs next (p .bound) (p .by) .words → d ≡ shift n n vs next (p .bound) (p .by) .moved →
-      (us ≡ applied ws w r n p .words) × (m + d ≡ applied ws w r n p .moved)
+  pub applied-by : {us : List ℕ} {d : ℕ} → us ≡ shift (issued vs) (issued vs) vs next (p .bound) (p .by) .words → d ≡ shift (issued vs) (issued vs) vs next (p .bound) (p .by) .moved →
+      (us ≡ applied ws w r (issued ws) p .words) × (m + d ≡ applied ws w r (issued ws) p .moved)
   unfolding applied trees-numbered
   applied-by e f =
       let q : vs ≡ trees-numbered ws w r (p .height) (p .number) x (p .count) .words = numbered .words ∙ ap (λ (t : Relabelled). t .words) cut-number in
       let moved : m ≡ trees-numbered ws w r (p .height) (p .number) x (p .count) .moved = numbered .moved ∙ ap (λ (t : Relabelled). t .moved) cut-number in
-      (e ∙ rw (q, numbered .next, start), rw (f, moved, q, numbered .next, start))
+      (rw count-kept at e ∙ rw (q, numbered .next, start), rw (rw count-kept at f, moved, q, numbered .next, start))
 
-  pub moved-few : {d : ℕ} → d ≡ shift n n vs next (p .bound) (p .by) .moved → m + d ≤ p .count + n
+  pub moved-few : {d : ℕ} → d ≡ shift (issued vs) (issued vs) vs next (p .bound) (p .by) .moved → m + d ≤ p .count + issued ws
   moved-few e =
-      omega (arith, numbered .moved, trees-moved ws w r (p .height) (cut (p .number)) x (p .count), shift-few n n vs next (p .bound) (p .by))
+      omega (arith, numbered .moved, trees-moved ws w r (p .height) (cut (p .number)) x (p .count), shift-few (issued vs) (issued vs) vs next (p .bound) (p .by), count-kept)
 
 -- THE NUMBERS OF A PLAN FIT, where the tables are right up to the root
 pub record Plan-fits (r top : ℕ) (p : Plan) : Type 0 where

@@ -1,36 +1,46 @@
 -- What making a plan and doing it ask of their callers. Assumes nothing: these are definitions.
+use mathlib.Core.Path.{_≡_}
 use mathlib.Core.List.{List}
-use Prim.Native.Nat.{ℕ, _≤_}
+use Prim.Native.Nat.{ℕ, pred, _≤_}
+use Rattle.store_types.specs.Layout.{at-height, word-at, Records}
+use Rattle.words.specs.Places.{Tag-or-none, Place-there, behind}
 use Rattle.shape.specs.Tables.{entry, entry-limit}
+use Rattle.shape.specs.Packed.{widths-in, numbers-in, s-in}
 use Rattle.shape.specs.Sums.{cut}
-use Rattle.edit_model.specs.Insert.{Plan, behind}
-use Rattle.walk_levels.specs.Needs.{Ancestors-fit}
-use Rattle.renumber.specs.Needs.{Row-there, Trees-fit}
-use Rattle.insert_link.specs.Needs.{Tag-or-none, Place-there}
+use Rattle.edit_model.specs.Insert.{Plan, numbers-at}
+use Rattle.renumber.specs.Needs.{issued, Row-there, Trees-fit}
 
--- A PLAN is made: a place, and widths of the heights below the root
-pub record Plain-reads (ws : List ℕ) (n under y : ℕ) (w : List ℕ) : Type 0 where
-  pub place : Place-there ws n y
-  pub ancestors : Ancestors-fit under w
-  pub widths : (h : ℕ) → entry w h ≤ entry-limit
+-- A PLAN is made: a place y, the number of its parent, and the widths
+pub record Plain-reads (ws : List ℕ) (y parent : ℕ) (tables : List ℕ) : Type 0 where
+  pub place : Place-there ws y
+  pub parent-is : parent ≡ entry (numbers-at ws (widths-in tables) (pred (word-at ws at-height)) y) 1
+  pub parent-fits : parent ≤ entry-limit
+  pub widths : (h : ℕ) → entry (widths-in tables) h ≤ entry-limit
 
--- and s
-pub record Plan-reads (ws : List ℕ) (n s under y : ℕ) (w : List ℕ) : Type 0 where
-  pub plain : Plain-reads ws n under y w
-  pub least : 1 ≤ s
-  pub most : s ≤ 16
-
--- a node's height, and the numbers of the ancestors of a place
-pub record Split-fits (s h : ℕ) (w ns : List ℕ) : Type 0 where
-  pub least : 1 ≤ s
-  pub most : s ≤ 16
+-- a node's height, s, and the numbers of the ancestors of a place
+pub record Split-fits (h : ℕ) (tables : List ℕ) : Type 0 where
+  pub least : 1 ≤ s-in tables
+  pub most : s-in tables ≤ 16
   pub height : h ≤ 22
-  pub widths : (i : ℕ) → entry w i ≤ entry-limit
-  pub numbers : (i : ℕ) → entry ns i ≤ entry-limit
+  pub widths : (i : ℕ) → entry (widths-in tables) i ≤ entry-limit
+  pub numbers : (i : ℕ) → entry (numbers-in tables) i ≤ entry-limit
+
+-- and all of it
+pub record Plan-reads (ws : List ℕ) (y : ℕ) (tables : List ℕ) : Type 0 where
+  pub records : Records ws (issued ws)
+  pub place : Tag-or-none (issued ws) y
+  pub low : 1 ≤ word-at ws at-height
+  pub high : word-at ws at-height ≤ 23
+  pub least : 1 ≤ s-in tables
+  pub most : s-in tables ≤ 16
+  pub widths : (h : ℕ) → entry (widths-in tables) h ≤ entry-limit
+  pub numbers-are : numbers-in tables ≡ numbers-at ws (widths-in tables) (pred (word-at ws at-height)) y
+  pub numbers : (h : ℕ) → entry (numbers-in tables) h ≤ entry-limit
 
 -- and done: the tags that it numbers are there, and its numbers fit
-pub record Applicable (ws : List ℕ) (n r : ℕ) (p : Plan) (w l : List ℕ) : Type 0 where
-  pub left : Tag-or-none n (p .left)
-  pub row : Row-there ws n (behind ws (p .left)) (p .count)
-  pub trees : Trees-fit r (p .height) (cut (p .number)) (p .count) w l
+pub record Applicable (ws : List ℕ) (p : Plan) (tables : List ℕ) : Type 0 where
+  pub records : Records ws (issued ws)
+  pub left : Tag-or-none (issued ws) (p .left)
+  pub row : Row-there ws (behind ws (p .left)) (p .count)
+  pub trees : Trees-fit (p .height) (cut (p .number)) (p .count) tables
   pub by : p .by ≤ entry-limit

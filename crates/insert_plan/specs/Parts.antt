@@ -6,7 +6,7 @@ use lib.Dec.{eqb}
 use Rattle.store_types.specs.Limits.{no-tag}
 use Rattle.store_types.specs.Layout.{label-at}
 use Rattle.shape.specs.Tables.{entry}
-use Rattle.edit_model.specs.Split.{left-of}
+use Rattle.edit_model.specs.Split.{left-border}
 use Rattle.edit_model.specs.Insert.{Plan, numbers-at, plain-plan, split-plan}
 use Rattle.insert_plan.specs.declared.Plan as code
 
@@ -22,4 +22,4 @@ next-label ws y v = cond (eqb y no-tag) 0 (label-at ws y + v)
 unfoldable pub inner-plan : List ℕ → (s : ℕ) → (widths highs : List ℕ) → (n under h place : ℕ) → Plan
 inner-plan ws s w hi n u h y =
     let ns = numbers-at ws w u y in
-    cond (eqb h 0) (plain-plan ws w u y) (split-plan s w hi ns h (left-of n n ws (entry ns h) y))
+    cond (eqb h 0) (plain-plan ws w u y) (split-plan s w hi ns h (left-border n n ws (entry ns h) y))

@@ -1,12 +1,14 @@
 // What an insertion renumbers: planned on the words before it, then done.
 ghost use mathlib.Core.Path.{_≡_};
-ghost use Prim.Native.Nat.{_+_, _≤_};
+ghost use Prim.Native.Nat.{pred, _+_, _≤_};
+ghost use Rattle.store_types.specs.Layout.{at-height, word-at};
+ghost use Rattle.words.specs.Places.{Place-there};
 ghost use Rattle.shape.specs.Tables.{entry-limit};
-ghost use Rattle.edit_model.specs.Insert.{place-label, plain-plan, split-plan, plan as plan-of-tags, applied};
+ghost use Rattle.shape.specs.Packed.{widths-in, highs-in, numbers-in, s-in, r-in};
+ghost use Rattle.edit_model.specs.Insert.{plain-plan, split-plan, plan as plan-of-tags, applied};
+ghost use Rattle.renumber.specs.Needs.{issued};
 ghost use Rattle.insert_plan.specs.Parts.{plan-record, next-label, inner-plan};
-ghost use Rattle.insert_link.specs.Needs.{Place-there};
 ghost use Rattle.insert_plan.specs.Needs.{Plain-reads, Plan-reads, Split-fits, Applicable};
-use store_types::Label;
 use store_types::TagId;
 
 // From the tag behind `left` on, `count` tags as trees of a height from a number on; then the labels below a bound are
@@ -20,20 +22,9 @@ pub struct Plan {
     pub by: u64,
 }
 
-// The label of a place; the front's is 0, that of the first leaf.
-fn place_label(words: &[u32], n: u32, place: TagId) -> Label
-    requires { ⌜ Place-there (now words) n (place .0) ⌝ }
-    ensures { λ l. ⌜ l .0 ≡ place-label (now (words .entry)) (place .0) ⌝ }
-{
-    if place.is_none() {
-        return Label(0);
-    }
-    words::label_of(words, place)
-}
-
 // The new label behind a place.
-fn next_label(words: &[u32], n: u32, place: TagId, width: u64) -> u64
-    requires { ⌜ Place-there (now words) n (place .0) × (width ≤ entry-limit) ⌝ }
+fn next_label(words: &[u32], place: TagId, width: u64) -> u64
+    requires { ⌜ Place-there (now words) (place .0) × (width ≤ entry-limit) ⌝ }
     ensures { λ l. ⌜ l ≡ next-label (now (words .entry)) (place .0) width ⌝ }
 {
     if place.is_none() {
@@ -42,92 +33,66 @@ fn next_label(words: &[u32], n: u32, place: TagId, width: u64) -> u64
     words::label_of(words, place).0 as u64 + width
 }
 
-// No split: one tag right behind the place, and its right siblings are shifted.
-pub fn plain_plan(words: &[u32], n: u32, place: TagId, under: usize, widths: &[u64; 24]) -> Plan
-    requires { ⌜ Plain-reads (now words) n under (place .0) (now widths) ⌝ }
-    ensures { λ p. ⌜ plan-record p ≡ plain-plan (now (words .entry)) (now (widths .entry)) under (place .0) ⌝ }
+// No split: one tag right behind the place, and its right siblings are shifted; `parent` is the number of their parent.
+pub fn plain_plan(words: &[u32], place: TagId, parent: u64, tables: &[u64; 96]) -> Plan
+    requires { ⌜ Plain-reads (now words) (place .0) parent (now tables) ⌝ }
+    ensures { λ p. ⌜ plan-record p ≡ plain-plan (now (words .entry)) (widths-in (now (tables .entry))) (pred (word-at (now (words .entry)) at-height)) (place .0) ⌝ }
 {
-    let label = place_label(words, n, place);
-    let numbers = walk_levels::ancestors::numbers(label, under, widths);
-    let number = next_label(words, n, place, widths[0]);
+    let width = shape::tables::width(tables, 0);
+    let number = next_label(words, place, width);
     Plan {
         height: 0,
         left: place,
         number,
         count: 1,
-        bound: numbers[1] + widths[1],
-        by: widths[0],
+        bound: parent + shape::tables::width(tables, 1),
+        by: width,
     }
 }
 
-// The leaves of a node of height h as s complete trees, and the right siblings of the node are shifted; `left` is the tag
-// left of it.
-fn split_plan(
-    s: u64,
-    h: usize,
-    left: TagId,
-    widths: &[u64; 24],
-    highs: &[u64; 24],
-    numbers: &[u64; 24],
-) -> Plan
-    requires { ⌜ Split-fits s h (now widths) (now numbers) ⌝ }
-    ensures { λ p. ⌜ plan-record p ≡ split-plan s (now (widths .entry)) (now (highs .entry)) (now (numbers .entry)) h (left .0) ⌝ }
+// The leaves of the ancestor of height h as s complete trees, and its right siblings are shifted; `left` is the tag left
+// of it.
+fn split_plan(h: usize, left: TagId, tables: &[u64; 96]) -> Plan
+    requires { ⌜ Split-fits h (now tables) ⌝ }
+    ensures { λ p. ⌜ plan-record p ≡ split-plan (s-in (now (tables .entry))) (widths-in (now (tables .entry))) (highs-in (now (tables .entry))) (numbers-in (now (tables .entry))) h (left .0) ⌝ }
 {
-    let width = widths[h];
+    let s = shape::tables::high(tables, 0);
+    let end = shape::tables::number(tables, h + 1) + shape::tables::width(tables, h + 1);
     Plan {
         height: h,
         left,
-        number: numbers[h],
-        count: highs[h],
-        bound: numbers[h + 1] + widths[h + 1],
-        by: (s - 1) * width,
+        number: shape::tables::number(tables, h),
+        count: shape::tables::high(tables, h),
+        bound: end,
+        by: (s - 1) * shape::tables::width(tables, h),
     }
 }
 
 // Tags at a place, where the ancestor of height h is split, or none where that is 0. Only a split walks left, to the
 // border of its node.
-fn inner_plan(
-    words: &[u32],
-    n: u32,
-    place: TagId,
-    s: u64,
-    under: usize,
-    h: usize,
-    widths: &[u64; 24],
-    highs: &[u64; 24],
-) -> Plan
-    requires { ⌜ Plan-reads (now words) n s under (place .0) (now widths) × (h ≤ under) ⌝ }
-    ensures { λ p. ⌜ plan-record p ≡ inner-plan (now (words .entry)) s (now (widths .entry)) (now (highs .entry)) n under h (place .0) ⌝ }
+fn inner_plan(words: &[u32], place: TagId, h: usize, tables: &[u64; 96]) -> Plan
+    requires { ⌜ Plan-reads (now words) (place .0) (now tables) × (h ≤ pred (word-at (now words) at-height)) ⌝ }
+    ensures { λ p. ⌜ plan-record p ≡ inner-plan (now (words .entry)) (s-in (now (tables .entry))) (widths-in (now (tables .entry))) (highs-in (now (tables .entry))) (issued (now (words .entry))) (pred (word-at (now (words .entry)) at-height)) h (place .0) ⌝ }
 {
     if h == 0 {
-        return plain_plan(words, n, place, under, widths);
+        return plain_plan(words, place, shape::tables::number(tables, 1), tables);
     }
-    let label = place_label(words, n, place);
-    let numbers = walk_levels::ancestors::numbers(label, under, widths);
-    let left = renumber::ancestors::left_of(words, n, numbers[h], place);
-    split_plan(s, h, left, widths, highs, &numbers)
+    let low = shape::tables::number(tables, h);
+    let left = renumber::ancestors::left_border(words, low, place);
+    split_plan(h, left, tables)
 }
 
-// k tags at a place whose ancestors have these sizes: the highest node that comes to its limit is split.
-pub fn plan_at(
-    words: &[u32],
-    n: u32,
-    k: u32,
-    place: TagId,
-    s: u64,
-    under: usize,
-    widths: &[u64; 24],
-    highs: &[u64; 24],
-    sizes: &[u32; 24],
-) -> Plan
-    requires { ⌜ Plan-reads (now words) n s under (place .0) (now widths) ⌝ }
-    ensures { λ p. ⌜ plan-record p ≡ plan-of-tags (now (words .entry)) s (now (widths .entry)) (now (highs .entry)) (now (sizes .entry)) n k under (place .0) ⌝ }
+// k tags at a place whose ancestors have these numbers and sizes: the highest node that comes to its limit is split.
+pub fn plan_at(words: &[u32], k: u32, place: TagId, tables: &[u64; 96], sizes: &[u32; 24]) -> Plan
+    requires { ⌜ Plan-reads (now words) (place .0) (now tables) ⌝ }
+    ensures { λ p. ⌜ plan-record p ≡ plan-of-tags (now (words .entry)) (s-in (now (tables .entry))) (widths-in (now (tables .entry))) (highs-in (now (tables .entry))) (now (sizes .entry)) (issued (now (words .entry))) k (pred (word-at (now (words .entry)) at-height)) (place .0) ⌝ }
 {
-    let issued = n as u64;
+    let top = words[words::AT_HEIGHT] as usize;
+    let issued = words[words::AT_COUNT] as u64;
     let all = issued + k as u64;
-    if all == highs[under + 1] {
+    if all == shape::tables::high(tables, top) {
         return Plan {
-            height: under + 1,
+            height: top,
             left: TagId::NONE,
             number: 0,
             count: all,
@@ -135,34 +100,18 @@ pub fn plan_at(
             by: 0,
         };
     }
-    let h = renumber::ancestors::highest_full(k, under, highs, sizes);
-    inner_plan(words, n, place, s, under, h, widths, highs)
+    let h = renumber::ancestors::highest_full(k, top - 1, tables, sizes);
+    inner_plan(words, place, h, tables)
 }
 
-// How many of the numbered and shifted tags held another label. A number is a label by its low 32 bits.
-pub fn apply(
-    words: &mut [u32],
-    n: u32,
-    r: u64,
-    p: Plan,
-    widths: &[u64; 24],
-    lows: &[u64; 24],
-) -> u32
-    requires { ⌜ Applicable (now words) n r (plan-record p) (now widths) (now lows) ⌝ }
-    ensures words { λ _. ⌜ now (words .exit) ≡ applied (now (words .entry)) (now (widths .entry)) r n (plan-record p) .words ⌝ }
-    ensures moved { λ m. ⌜ m ≡ applied (now (words .entry)) (now (widths .entry)) r n (plan-record p) .moved ⌝ }
+// How many of the numbered and shifted tags held another label.
+pub fn apply(words: &mut [u32], p: Plan, tables: &[u64; 96]) -> u32
+    requires { ⌜ Applicable (now words) (plan-record p) (now tables) ⌝ }
+    ensures words { λ _. ⌜ now (words .exit) ≡ applied (now (words .entry)) (widths-in (now (tables .entry))) (r-in (now (tables .entry))) (issued (now (words .entry))) (plan-record p) .words ⌝ }
+    ensures moved { λ m. ⌜ m ≡ applied (now (words .entry)) (widths-in (now (tables .entry))) (r-in (now (tables .entry))) (issued (now (words .entry))) (plan-record p) .moved ⌝ }
 {
-    let start = insert_link::behind(words, n, p.left);
-    let q = renumber::number(
-        words,
-        n,
-        r,
-        p.height,
-        p.number % 4294967296,
-        start,
-        p.count,
-        widths,
-        lows,
-    );
-    q.moved + renumber::shift(words, n, q.next, p.bound, p.by)
+    let start = words::places::behind(words, p.left);
+    let first = shape::cut(p.number);
+    let q = renumber::number(words, p.height, first, start, p.count, tables);
+    q.moved + renumber::shift(words, q.next, p.bound, p.by)
 }

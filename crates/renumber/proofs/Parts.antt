@@ -12,6 +12,7 @@ use Rattle.tree.specs.Forest.{labels, spread, parts}
 use Rattle.tree_laws.proofs.Labels.{length-labels}
 use Rattle.tree_laws.proofs.Spread.{parts-none, parts-one, parts-more, spread-suc, leaves-below, parts-in, some-power, lower-power}
 use Rattle.calls.specs.Words.{follow}
+use Rattle.shape.specs.Packed.{lows-in, r-in}
 use Rattle.shape.specs.Sums.{cut}
 use Rattle.shape.proofs.Sums.{cut-small}
 use Rattle.edit_model.specs.Relabel.{Relabelled, relabel, along}
@@ -136,35 +137,34 @@ unfolding leaves-numbered trees-numbered spread
 trees-zero ws w r j a x k e = rw (e, leaf-widths (follow k ws x) (λ i. entry w 0) (entry w) a refl)
 
 -- WHAT THE NEXT PART ASKS
-pub row-part : {ws : List ℕ} {n x left : ℕ} → Row-there ws n x left → (size : ℕ) → size ≤ left → Row-there ws n x size
-row-part h size fits =
-    record { records = h .records; most = omega (arith, h .most); below = λ i l. h .below i (omega arith) }
+pub row-part : {ws : List ℕ} {x left : ℕ} → Row-there ws x left → (size : ℕ) → size ≤ left → Row-there ws x size
+row-part h size fits = record { most = omega (arith, h .most); there = λ i l. h .there i (omega arith) }
 
-module _ {r j a count : ℕ} {w l : List ℕ} (h : Trees-fit r j a count w l) (low : 1 ≤ j) where
-  pub each-power : entry l j ≡ r ^ j
+module _ {j a count : ℕ} {t : List ℕ} (h : Trees-fit j a count t) (low : 1 ≤ j) where
+  pub each-power : entry (lows-in t) j ≡ r-in t ^ j
   each-power = h .lows j (omega arith)
 
-  pub each-some : 1 ≤ entry l j
-  each-some = omega (arith, each-power, some-power r j (h .degree))
+  pub each-some : 1 ≤ entry (lows-in t) j
+  each-some = omega (arith, each-power, some-power (r-in t) j (h .degree))
 
-  pub each-parts : Parts-left (count / entry l j) (entry l j) count
-  each-parts = all-parts (entry l j) count each-some (omega (arith, each-power, h .least low))
+  pub each-parts : Parts-left (count / entry (lows-in t) j) (entry (lows-in t) j) count
+  each-parts = all-parts (entry (lows-in t) j) count each-some (omega (arith, each-power, h .least low))
 
-  pub fit-below : (at size : ℕ) → at < label-limit → entry l j ≤ size → Trees-fit r (j - 1) at size w l
+  pub fit-below : (at size : ℕ) → at < label-limit → entry (lows-in t) j ≤ size → Trees-fit (j - 1) at size t
   fit-below at size small least =
       let one : suc (j - 1) ≡ j = omega arith in
       record {
         degree = h .degree;
         height = omega (arith, h .height);
-        least = λ z. lower-power r (j - 1) size (h .degree) (rw one (omega (arith, each-power)));
+        least = λ z. lower-power (r-in t) (j - 1) size (h .degree) (rw one (omega (arith, each-power)));
         number = small;
         widths = h .widths;
         lows = λ k fits. h .lows k (omega arith);
       }
 
 -- and how far it brings the loop
-module _ {whole : Relabelled} {before ws : List ℕ} {n first count tag left at done : ℕ} (w : List ℕ) (r j e p : ℕ)
-    (h : On-way whole (parts-numbered ws w r j e p at tag left) before ws n first count tag left at done)
+module _ {whole : Relabelled} {before ws : List ℕ} {first count tag left at done : ℕ} (w : List ℕ) (r j e p : ℕ)
+    (h : On-way whole (parts-numbered ws w r j e p at tag left) before ws first count tag left at done)
     {vs : List ℕ} {size next m : ℕ} (q : Row-numbered ws vs (trees-numbered ws w r (j - 1) at tag size) tag size next m) where
   part-few : m ≤ size
   part-few = omega (arith, q .moved, trees-moved ws w r (j - 1) at tag size)
@@ -173,7 +173,7 @@ module _ {whole : Relabelled} {before ws : List ℕ} {n first count tag left at 
   part-counted fits = omega (arith, part-few, h .counted)
 
   pub part-on : 2 ≤ r → 1 ≤ j → e ≡ r ^ j → 1 ≤ p → Parts-left p e left → Part-size p e left size → length vs ≡ length ws →
-      On-way whole (parts-numbered vs w r j e (p - 1) (cut (at + entry w j)) next (left - size)) before vs n first count next (left - size) (cut (at + entry w j)) (done + m)
+      On-way whole (parts-numbered vs w r j e (p - 1) (cut (at + entry w j)) next (left - size)) before vs first count next (left - size) (cut (at + entry w j)) (done + m)
   part-on degree low power some parted sized long =
       let turn = rw (← sub-one j) at (parts-turn ws w r j e p at tag left size degree low power some parted sized) in
       on h (parts-numbered vs w r j e (p - 1) (cut (at + entry w j)) next (left - size)) vs size m next (cut (at + entry w j))

@@ -10,11 +10,11 @@ use lib.Dec.{eqb}
 use lib.ListN.{length, take, drop, take-append-drop}
 use Rattle.store_types.specs.Limits.{label-limit}
 use Rattle.store_types.specs.Layout.{at-next, field, label-at, with-label, Room}
-use Rattle.words.proofs.Fields.{room, records-kept, field-past-label, length-with-label}
+use Rattle.words.proofs.Fields.{room-same, field-past-label, length-with-label}
 use Rattle.tree.specs.Forest.{labels, leaf-row}
 use Rattle.calls.specs.Words.{follow}
 use Rattle.shape.specs.Sums.{cut}
-use Rattle.shape.proofs.Sums.{cut-small}
+use Rattle.shape.proofs.Sums.{cut-small, cut-below}
 use Rattle.edit_model.specs.Relabel.{Relabelled, relabel, along}
 use Rattle.edit_model.proofs.Relabels.{labels-cut}
 use Rattle.renumber.specs.Needs.{Row-there, Row-numbered, leaves-numbered}
@@ -97,8 +97,8 @@ leaf-widths (x ∷ xs) u v a e = rw (e, leaf-widths xs u v (a + v 0) e)
 
 -- A LOOP ON ITS WAY: it has come to a tag with so many left; what it does from here, `rest`, with what it has counted as
 -- moved, comes to the whole
-pub record On-way (whole rest : Relabelled) (before ws : List ℕ) (n first count tag left at done : ℕ) : Type 0 where
-  pub row : Row-there ws n tag left
+pub record On-way (whole rest : Relabelled) (before ws : List ℕ) (first count tag left at done : ℕ) : Type 0 where
+  pub row : Row-there ws tag left
   pub number : at < label-limit
   pub counted : done + left ≤ count
   pub words : rest .words ≡ whole .words
@@ -107,30 +107,29 @@ pub record On-way (whole rest : Relabelled) (before ws : List ℕ) (n first coun
   pub long : length ws ≡ length before
 
 -- the tag where it stands has a record
-pub tag-room : {ws : List ℕ} {n x count : ℕ} → Row-there ws n x count → 1 ≤ count → Room ws x
+pub tag-room : {ws : List ℕ} {x count : ℕ} → Row-there ws x count → 1 ≤ count → Room ws x
 unfolding along
-tag-room h some = room (h .records) (h .below 0 some)
+tag-room h some = h .there 0 some
 
-pub start : (q : Relabelled) (ws : List ℕ) (n x count a : ℕ) → Row-there ws n x count → a < label-limit → On-way q q ws ws n x count x count a 0
-start q ws n x count a row small =
+pub start : (q : Relabelled) (ws : List ℕ) (x count a : ℕ) → Row-there ws x count → a < label-limit → On-way q q ws ws x count x count a 0
+start q ws x count a row small =
     record { row = row; number = small; counted = omega arith; words = refl; moved = omega arith; behind = refl; long = refl }
 
 -- so many tags further, of which m held another label
-module _ {whole rest : Relabelled} {before ws : List ℕ} {n first count tag left at done : ℕ}
-    (h : On-way whole rest before ws n first count tag left at done)
+module _ {whole rest : Relabelled} {before ws : List ℕ} {first count tag left at done : ℕ}
+    (h : On-way whole rest before ws first count tag left at done)
     (further : Relabelled) (vs : List ℕ) (size m next here : ℕ) where
   pub on : size ≤ left → m ≤ size → here < label-limit → next ≡ along size ws tag → Same-next vs ws → length vs ≡ length ws →
       further .words ≡ rest .words → m + further .moved ≡ rest .moved →
-      On-way whole further before vs n first count next (left - size) here (done + m)
+      On-way whole further before vs first count next (left - size) here (done + m)
   on fits few small step same long words moved =
       let all : size + (left - size) ≡ left = omega arith in
       let move : (i : ℕ) → along i vs next ≡ along (size + i) ws tag = λ i. along-same i vs ws next same ∙ rw step (sym (along-add size i ws tag)) in
       record {
         row =
             record {
-              records = records-kept (h .row .records) long;
               most = omega (arith, h .row .most);
-              below = λ i l. rw (move i) (h .row .below (size + i) (omega arith));
+              there = λ i l. rw (move i) (room-same (h .row .there (size + i) (omega arith)) long);
             };
         number = small;
         counted = omega (arith, h .counted);
@@ -141,8 +140,8 @@ module _ {whole rest : Relabelled} {before ws : List ℕ} {n first count tag lef
       }
 
 -- at its end nothing is left to do
-pub arrived : {whole rest : Relabelled} {before ws : List ℕ} {n first count tag left at done : ℕ} →
-    On-way whole rest before ws n first count tag left at done → left ≡ 0 → rest ≡ record { words = ws; moved = 0 } →
+pub arrived : {whole rest : Relabelled} {before ws : List ℕ} {first count tag left at done : ℕ} →
+    On-way whole rest before ws first count tag left at done → left ≡ 0 → rest ≡ record { words = ws; moved = 0 } →
     Row-numbered before ws whole first count tag done
 unfolding along
 arrived h none nothing =
@@ -164,23 +163,24 @@ leaves-turn ws v a x k =
     rw (follow-same k (with-label ws x (cut a)) ws (field ws x at-next) (label-keeps-next ws x (cut a)), labels-cut (leaf-row (follow k ws (field ws x at-next))) (λ i. v) 0 (a + v))
     refl
 
-pub leaf-on : {whole : Relabelled} {before ws : List ℕ} {n first count tag left at done : ℕ} (v : ℕ) →
-    On-way whole (leaves-numbered ws v at tag left) before ws n first count tag left at done → 1 ≤ left → (vs : List ℕ) (m next : ℕ) →
-    vs ≡ with-label ws tag (cut at) → m ≡ cond (eqb (label-at ws tag) (cut at)) 0 1 → next ≡ field vs tag at-next →
-    On-way whole (leaves-numbered vs v (cut (at + v)) next (left - 1)) before vs n first count next (left - 1) (cut (at + v)) (done + m)
+-- a number that is a label is written as it is
+pub leaf-on : {whole : Relabelled} {before ws : List ℕ} {first count tag left at done : ℕ} (v : ℕ) →
+    On-way whole (leaves-numbered ws v at tag left) before ws first count tag left at done → 1 ≤ left → (vs : List ℕ) (m next : ℕ) →
+    vs ≡ with-label ws tag at → m ≡ cond (eqb (label-at ws tag) at) 0 1 → next ≡ field vs tag at-next →
+    On-way whole (leaves-numbered vs v (cut (at + v)) next (left - 1)) before vs first count next (left - 1) (cut (at + v)) (done + m)
 unfolding along
 leaf-on {ws = ws} {tag = tag} {left = left} {at = at} v h some vs m next e f g =
-    let same : Same-next vs ws = rw e (label-keeps-next ws tag (cut at)) in
+    let same : Same-next vs ws = rw e (label-keeps-next ws tag at) in
     let step : next ≡ field ws tag at-next = g ∙ same tag in
     let all : suc (left - 1) ≡ left = omega arith in
-    let turn = rw all at (leaves-turn ws v at tag (left - 1)) in
+    let turn = rw (all, cut-below at (h .number)) at (leaves-turn ws v at tag (left - 1)) in
     on h (leaves-numbered vs v (cut (at + v)) next (left - 1)) vs 1 m next (cut (at + v))
     some
-    (rw f (moved-one (eqb (label-at ws tag) (cut at))))
+    (rw f (moved-one (eqb (label-at ws tag) at)))
     (cut-small (at + v))
     step
     same
-    (rw e (length-with-label ws tag (cut at)))
+    (rw e (length-with-label ws tag at))
     (rw (step, e) (rw turn))
     (rw (step, f, e) (rw turn))
 

@@ -10,7 +10,7 @@ use lib.Dec.{leb, ltb, eqb}
 use Rattle.lists.proofs.Tests.{by-test, or-left-false}
 use Rattle.store_types.specs.Layout.{at-prior, field, label-at}
 use Rattle.shape.specs.Tables.{entry}
-use Rattle.edit_model.specs.Split.{highest-full, left-of}
+use Rattle.edit_model.specs.Split.{highest-full, left-border}
 
 -- TESTS: whether x is one of n and its label l is at least b
 pub outside : (n x : ℕ) (t : Bool) → n ≤ x → ltb x n ≡ not (leb n x || t)
@@ -26,23 +26,23 @@ inside n x l b h = rw (lt-leb n x h) (opposite l b)
 -- A WALK LEFT: it has taken so many steps and stands at x; what it does from here comes to the whole
 pub record Leftward (whole n : ℕ) (ws : List ℕ) (low x steps : ℕ) : Type 0 where
   pub fits : steps ≤ n
-  pub comes : left-of (n - steps) n ws low x ≡ whole
+  pub comes : left-border (n - steps) n ws low x ≡ whole
 
-pub left-start : (n : ℕ) (ws : List ℕ) (low x : ℕ) → Leftward (left-of n n ws low x) n ws low x 0
+pub left-start : (n : ℕ) (ws : List ℕ) (low x : ℕ) → Leftward (left-border n n ws low x) n ws low x 0
 left-start n ws low x = let all : n - 0 ≡ n = omega arith in record { fits = omega arith; comes = rw all }
 
 -- t says whether x is one of n and its label is at least low
 module _ {whole n : ℕ} {ws : List ℕ} {low x steps : ℕ} (a : Leftward whole n ws low x steps) where
   pub left-spent : n ≤ steps → x ≡ whole
-  unfolding left-of
+  unfolding left-border
   left-spent all = let none : n - steps ≡ 0 = omega arith in rw none at (a .comes)
 
   module _ {t : Bool} (more : steps < n) (test : t ≡ not (leb n x || ltb (label-at ws x) low)) where
     pub left-below : t ≡ true → x < n
     left-below e = leb-false n x (or-left-false (leb n x) (ltb (label-at ws x) low) (not-true (leb n x || ltb (label-at ws x) low) (sym test ∙ e)))
 
-    turn : cond (leb n x || ltb (label-at ws x) low) x (left-of (n - (steps + 1)) n ws low (field ws x at-prior)) ≡ whole
-    unfolding left-of
+    turn : cond (leb n x || ltb (label-at ws x) low) x (left-border (n - (steps + 1)) n ws low (field ws x at-prior)) ≡ whole
+    unfolding left-border
     turn = let left : n - steps ≡ suc (n - (steps + 1)) = omega arith in rw left at (a .comes)
 
     pub left-on : {y : ℕ} → t ≡ true → y ≡ field ws x at-prior → Leftward whole n ws low y (steps + 1)

@@ -3,27 +3,31 @@ use mathlib.Core.Path.{_≡_}
 use mathlib.Core.List.{List, map}
 use Prim.Native.Nat.{ℕ, _^_, _≤_, _<_}
 use Rattle.store_types.specs.Limits.{most-tags, label-limit}
-use Rattle.store_types.specs.Layout.{Records}
+use Rattle.store_types.specs.Layout.{at-count, word-at, Room}
 use Rattle.shape.specs.Tables.{entry, entry-limit}
+use Rattle.shape.specs.Packed.{widths-in, lows-in, r-in}
 use Rattle.tree.specs.Forest.{labels, leaf-row, spread}
 use Rattle.calls.specs.Words.{follow}
 use Rattle.shape.specs.Sums.{cut}
 use Rattle.edit_model.specs.Relabel.{Relabelled, relabel, along}
 
--- so many tags along next are tags of n
-pub record Row-there (ws : List ℕ) (n x count : ℕ) : Type 0 where
-  pub records : Records ws n
+-- how many tags there are
+abbrev pub issued : List ℕ → ℕ
+issued ws = word-at ws at-count
+
+-- so many tags along next have a record
+pub record Row-there (ws : List ℕ) (x count : ℕ) : Type 0 where
   pub most : count ≤ most-tags
-  pub below : (i : ℕ) → i < count → along i ws x < n
+  pub there : (i : ℕ) → i < count → Room ws (along i ws x)
 
 -- numbers for trees of height j over a row: from height 1 on there are leaves for one tree at least
-pub record Trees-fit (r j a count : ℕ) (w l : List ℕ) : Type 0 where
-  pub degree : 2 ≤ r
+pub record Trees-fit (j a count : ℕ) (tables : List ℕ) : Type 0 where
+  pub degree : 2 ≤ r-in tables
   pub height : j ≤ 22
-  pub least : 1 ≤ j → r ^ j ≤ count
+  pub least : 1 ≤ j → r-in tables ^ j ≤ count
   pub number : a < label-limit
-  pub widths : (k : ℕ) → entry w k ≤ entry-limit
-  pub lows : (k : ℕ) → k ≤ j → entry l k ≡ r ^ k
+  pub widths : (k : ℕ) → entry (widths-in tables) k ≤ entry-limit
+  pub lows : (k : ℕ) → k ≤ j → entry (lows-in tables) k ≡ r-in tables ^ k
 
 -- how many tags the next of so many parts takes: the last takes all that remain
 pub record Part-size (parts each left size : ℕ) : Type 0 where

@@ -4,7 +4,9 @@ ghost use mathlib.Core.Bool.{cond, not, _||_};
 ghost use Prim.Native.Nat.{_+_, _≤_};
 ghost use lib.Dec.{leb, ltb, eqb};
 ghost use Rattle.store_types.specs.Layout.{label-at, Records};
-ghost use Rattle.edit_model.specs.Split.{highest-full, left-of};
+ghost use Rattle.shape.specs.Packed.{highs-in};
+ghost use Rattle.renumber.specs.Needs.{issued};
+ghost use Rattle.edit_model.specs.Split.{highest-full, left-border};
 use store_types::TagId;
 
 // Whether x is a tag of n with a label of at least low.
@@ -16,10 +18,11 @@ fn at_least(words: &[u32], n: u32, x: TagId, low: u64) -> bool
 }
 
 // The tag left of the leaves whose labels are at least low, from x on along prior.
-pub fn left_of(words: &[u32], n: u32, low: u64, x: TagId) -> TagId
-    requires { ⌜ Records (now words) n ⌝ }
-    ensures { λ y. ⌜ y .0 ≡ left-of n n (now (words .entry)) low (x .0) ⌝ }
+pub fn left_border(words: &[u32], low: u64, x: TagId) -> TagId
+    requires { ⌜ Records (now words) (issued (now words)) ⌝ }
+    ensures { λ y. ⌜ y .0 ≡ left-border (issued (now (words .entry))) (issued (now (words .entry))) (now (words .entry)) low (x .0) ⌝ }
 {
+    let n = words[words::AT_COUNT];
     let mut tag = x;
     let mut steps: u32 = 0;
     while steps < n && at_least(words, n, tag, low) {
@@ -45,14 +48,18 @@ fn higher(lower: usize, here: usize, full: bool) -> usize
 
 // The height of the highest ancestor below the root that comes to its limit with k leaves more, by the sizes of the
 // ancestors; 0 if none does.
-pub fn highest_full(k: u32, under: usize, highs: &[u64; 24], sizes: &[u32; 24]) -> usize
+pub fn highest_full(k: u32, under: usize, tables: &[u64; 96], sizes: &[u32; 24]) -> usize
     requires { ⌜ under ≤ 22 ⌝ }
-    ensures { λ h. ⌜ h ≡ highest-full (now (highs .entry)) (now (sizes .entry)) k under 1 0 ⌝ }
+    ensures { λ h. ⌜ h ≡ highest-full (highs-in (now (tables .entry))) (now (sizes .entry)) k under 1 0 ⌝ }
 {
     let mut found: usize = 0;
     let mut h: usize = 1;
     while h <= under {
-        found = higher(found, h, is_full(highs[h], sizes[h], k));
+        found = higher(
+            found,
+            h,
+            is_full(shape::tables::high(tables, h), sizes[h], k),
+        );
         h += 1;
     }
     found

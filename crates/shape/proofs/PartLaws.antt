@@ -7,7 +7,7 @@ use native.Mathlib.Decide.{ℕ-discrete}
 use native.Mathlib.Omega.{arith}
 use lib.ListN.{length, getD, set, drop, length-set, length-drop}
 use lib.Seq.{getD-take, getD-drop, getD-set-same, getD-set-other, ext-getD, length-take-le}
-use Rattle.shape.specs.Packed.{part, With-part, Packed}
+use Rattle.shape.specs.Packed.{part, With-part, With-numbers, Packed}
 
 pub part-entry : (t : List ℕ) (k h : ℕ) → h < 24 → getD t (24 * k + h) 0 ≡ getD (part k t) h 0
 unfolding part
@@ -47,11 +47,19 @@ module _ (t : List ℕ) (k : ℕ) (from : List ℕ) (few : k < 4) where
         (λ i r. let s : i < 24 = omega (arith, part-length u j (w .long) q) in sym (part-entry u j i s) ∙ w .kept j i ne s ∙ part-entry t j i s);
   }
 
--- ALL FOUR
-pub packed : {a b c d w l h ns none : List ℕ} → With-part none 0 w a → With-part a 1 l b → With-part b 2 h c → With-part c 3 ns d → Packed d w l h ns
-packed p q r s = record {
-  widths-are = s .kept 0 (omega arith) (λ e. omega arith) ∙ r .kept 0 (omega arith) (λ e. omega arith) ∙ q .kept 0 (omega arith) (λ e. omega arith) ∙ p .new;
-  lows-are = s .kept 1 (omega arith) (λ e. omega arith) ∙ r .kept 1 (omega arith) (λ e. omega arith) ∙ q .new;
-  highs-are = s .kept 2 (omega arith) (λ e. omega arith) ∙ r .new;
-  numbers-are = s .new;
-}
+-- THE THREE, and numbers beside them
+pub packed : {none a b c w l h : List ℕ} → With-part none 0 w a → With-part a 1 l b → With-part b 2 h c → Packed c w l h
+packed p q r =
+    record {
+      widths-are = r .kept 0 (omega arith) (λ e. omega arith) ∙ q .kept 0 (omega arith) (λ e. omega arith) ∙ p .new;
+      lows-are = r .kept 1 (omega arith) (λ e. omega arith) ∙ q .new;
+      highs-are = r .new;
+    }
+
+pub packed-with : {t u w l h ns : List ℕ} → Packed t w l h → With-numbers t ns u → Packed u w l h
+packed-with p q =
+    record {
+      widths-are = q .kept 0 (omega arith) (λ e. omega arith) ∙ p .widths-are;
+      lows-are = q .kept 1 (omega arith) (λ e. omega arith) ∙ p .lows-are;
+      highs-are = q .kept 2 (omega arith) (λ e. omega arith) ∙ p .highs-are;
+    }

@@ -4,6 +4,7 @@ use mathlib.Core.Path.{_≡_}
 use mathlib.Core.List.{List}
 use Prim.Native.Nat.{ℕ, _*_, _<_}
 use lib.ListN.{take, drop}
+use Rattle.shape.specs.Tables.{entry}
 
 unfoldable pub part : (k : ℕ) → List ℕ → List ℕ
 part k t = take 24 (drop (24 * k) t)
@@ -20,13 +21,23 @@ highs-in t = part 2 t
 abbrev pub numbers-in : List ℕ → List ℕ
 numbers-in t = part 3 t
 
+-- s is the limit of a node of height 0, and r the least leaves of one of height 1
+abbrev pub s-in : List ℕ → ℕ
+s-in t = entry (highs-in t) 0
+
+abbrev pub r-in : List ℕ → ℕ
+r-in t = entry (lows-in t) 1
+
 -- u is t with one part replaced
 pub record With-part (t : List ℕ) (k : ℕ) (from u : List ℕ) : Type 0 where
   pub new : part k u ≡ from
   pub kept : (j : ℕ) → j < 4 → (j ≡ k → ⊥) → part j u ≡ part j t
 
-pub record Packed (t widths lows highs numbers : List ℕ) : Type 0 where
+abbrev pub With-numbers : (t numbers u : List ℕ) → Type 0
+With-numbers t ns u = With-part t 3 ns u
+
+-- the three that a header gives
+pub record Packed (t widths lows highs : List ℕ) : Type 0 where
   pub widths-are : widths-in t ≡ widths
   pub lows-are : lows-in t ≡ lows
   pub highs-are : highs-in t ≡ highs
-  pub numbers-are : numbers-in t ≡ numbers

@@ -2,7 +2,7 @@
 ghost use mathlib.Core.Path.{_≡_};
 ghost use Prim.Native.Nat.{_<_};
 ghost use Rattle.shape.specs.Tables.{entry as entry-of};
-ghost use Rattle.shape.specs.Packed.{Packed, With-part, part, widths-in, lows-in, highs-in, numbers-in};
+ghost use Rattle.shape.specs.Packed.{Packed, With-part, With-numbers, part, widths-in, lows-in, highs-in, numbers-in};
 
 const WIDTHS: usize = 0;
 
@@ -26,14 +26,20 @@ fn with_part(tables: [u64; 96], k: usize, from: [u64; 24]) -> [u64; 96]
     t
 }
 
-pub fn packed(widths: [u64; 24], lows: [u64; 24], highs: [u64; 24], numbers: [u64; 24]) -> [u64; 96]
-    ensures { λ t. ⌜ Packed t widths lows highs numbers ⌝ }
+// The three that a header gives, and no numbers.
+pub fn packed(widths: [u64; 24], lows: [u64; 24], highs: [u64; 24]) -> [u64; 96]
+    ensures { λ t. ⌜ Packed t widths lows highs ⌝ }
 {
     let none = [0u64; 96];
     let one = with_part(none, WIDTHS, widths);
     let two = with_part(one, LOWS, lows);
-    let three = with_part(two, HIGHS, highs);
-    with_part(three, NUMBERS, numbers)
+    with_part(two, HIGHS, highs)
+}
+
+pub fn with_numbers(tables: [u64; 96], numbers: [u64; 24]) -> [u64; 96]
+    ensures { λ t. ⌜ With-numbers tables numbers t ⌝ }
+{
+    with_part(tables, NUMBERS, numbers)
 }
 
 // The entry of a height in one of the four tables.

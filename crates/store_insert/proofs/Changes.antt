@@ -1,40 +1,36 @@
 -- An accepted call as the code has read it is ready to go in, and its edit is that of its kind. Assumes nothing.
 use mathlib.Core.Path.{_≡_, refl, ap, _∙_}
 use mathlib.Core.List.{List}
-use Prim.Native.Nat.{ℕ, _*_, _-_, _≤_, _<_}
-use native.Mathlib.Numerals.{sub-one}
+use Prim.Native.Nat.{ℕ, pred, _≤_, _<_}
 use native.Mathlib.Omega.{arith}
 use lib.ListN.{replicate}
 use borrow.Author.Tests.{eq-eqb, ne-eqb, lt-ltb, le-ltb}
-use Rattle.store_types.specs.Layout.{at-s, at-r, at-height, at-count, word-at}
-use Rattle.shape.specs.Tables.{table, widths-of, highs-of, lows-of}
-use Rattle.tree.specs.Book.{height}
+use Rattle.store_types.specs.Layout.{at-height, at-count, word-at}
+use Rattle.shape.specs.Packed.{widths-in, highs-in, s-in}
 use Rattle.calls.specs.Replies.{insert-refused}
-use Rattle.walk_model.specs.Watch.{sizes-at}
-use Rattle.edit_model.specs.Insert.{Plan, up-word, plan, plan-of, text-edit, both-edit, in-turn-edit, element-edit}
+use Rattle.walk_model.specs.Watch.{Tables-at, sizes-at}
+use Rattle.words.specs.Places.{up-word}
+use Rattle.edit_model.specs.Insert.{Plan, plan, plan-of, text-edit, both-edit, in-turn-edit, element-edit}
 use Rattle.store_insert.specs.Parts.{call-edit}
 use Rattle.store_insert.specs.Needs.{Ready, Edits}
-use Rattle.store_insert.proofs.Accepted.{kind-accepted}
+use Rattle.store_insert.proofs.Accepted.{s-said, says-accepted, kind-accepted}
 
--- THE CALL, as the code reads it: the tables, the sizes, the up of new tags and the plans
-module _ (ws : List ℕ) (c y : ℕ) (z : insert-refused c y ws ≡ 0) {u : ℕ} {w l hi sz : List ℕ} (up : u ≡ up-word ws y)
-    (widths : w ≡ table 1 (word-at ws at-s * word-at ws at-r - 1) (word-at ws at-height)) (lows : l ≡ table 1 (word-at ws at-r) (word-at ws at-height))
-    (highs : hi ≡ table (word-at ws at-s) (word-at ws at-r) (word-at ws at-height)) (sizes : sz ≡ sizes-at ws y (replicate 24 0)) where
-  planned : (k : ℕ) {p : Plan} → p ≡ plan ws (word-at ws at-s) w hi sz (word-at ws at-count) k (word-at ws at-height - 1) y → p ≡ plan-of ws k y
-  unfolding plan-of widths-of highs-of
-  planned k e = e ∙ rw (widths, highs, sizes, sub-one (word-at ws at-height))
+-- THE CALL, as the code reads it: the tables and sizes of its place, the up of new tags and the plans
+module _ (ws : List ℕ) (c y : ℕ) (z : insert-refused c y ws ≡ 0) {u : ℕ} {t sz : List ℕ} (up : u ≡ up-word ws y)
+    (tables : Tables-at ws y t) (sizes : sz ≡ sizes-at ws y (replicate 24 0)) where
+  planned : (k : ℕ) {p : Plan} → p ≡ plan ws (s-in t) (widths-in t) (highs-in t) sz (word-at ws at-count) k (pred (word-at ws at-height)) y → p ≡ plan-of ws k y
+  unfolding plan-of
+  planned k e = e ∙ rw (s-said ws (says-accepted ws c y z) (tables .packed), tables .packed .widths-are, tables .packed .highs-are, sizes)
 
-  pub text-ready : (c ≡ 1 → ⊥) → {p : Plan} → p ≡ plan ws (word-at ws at-s) w hi sz (word-at ws at-count) 1 (word-at ws at-height - 1) y → Ready 3 1 ws (word-at ws at-count) y u (word-at ws at-r) p w l
-  unfolding widths-of lows-of
+  pub text-ready : (c ≡ 1 → ⊥) → {p : Plan} → p ≡ plan ws (s-in t) (widths-in t) (highs-in t) sz (word-at ws at-count) 1 (pred (word-at ws at-height)) y → Ready 3 1 ws (word-at ws at-count) y u p t
   text-ready other e =
-      record { accepted = rw (kind-accepted ws c y z other) at z; tags = refl; up-is = up; degree = refl; plan = planned 1 e; widths = widths; lows = lows }
+      record { accepted = rw (kind-accepted ws c y z other) at z; tags = refl; up-is = up; plan = planned 1 e; packed = tables .packed }
 
-  pub element-ready : c ≡ 1 → (k : ℕ) {p : Plan} → p ≡ plan ws (word-at ws at-s) w hi sz (word-at ws at-count) k (word-at ws at-height - 1) y → Ready 1 k ws (word-at ws at-count) y u (word-at ws at-r) p w l
-  unfolding widths-of lows-of
-  element-ready element k e = record { accepted = rw element at z; tags = refl; up-is = up; degree = refl; plan = planned k e; widths = widths; lows = lows }
+  pub element-ready : c ≡ 1 → (k : ℕ) {p : Plan} → p ≡ plan ws (s-in t) (widths-in t) (highs-in t) sz (word-at ws at-count) k (pred (word-at ws at-height)) y → Ready 1 k ws (word-at ws at-count) y u p t
+  element-ready element k e = record { accepted = rw element at z; tags = refl; up-is = up; plan = planned k e; packed = tables .packed }
 
 -- AN ELEMENT by two plans
-module _ {ws w l : List ℕ} {n y u r : ℕ} {p q : Plan} (one : Ready 1 1 ws n y u r p w l) (two : Ready 1 2 ws n y u r q w l) where
+module _ {ws t : List ℕ} {n y u : ℕ} {p q : Plan} (one : Ready 1 1 ws n y u p t) (two : Ready 1 2 ws n y u q t) where
   heights : (p .height ≡ plan-of ws 1 y .height) × (q .height ≡ plan-of ws 2 y .height)
   heights = (ap (λ (t : Plan). t .height) (one .plan), ap (λ (t : Plan). t .height) (two .plan))
 

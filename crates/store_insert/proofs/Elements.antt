@@ -10,6 +10,7 @@ use native.Mathlib.Omega.{arith}
 use lib.ListN.{length, drop}
 use Rattle.store_types.specs.Limits.{most-tags}
 use Rattle.store_types.specs.Layout.{at-r, at-height, at-count, header-words, word-at, words-for, Records}
+use Rattle.shape.specs.Packed.{widths-in, r-in}
 use Rattle.tree.specs.Book.{height, root-full}
 use Rattle.tree_laws.proofs.Insertion.{inserted-r, inserted-under}
 use Rattle.calls.specs.Kind.{begin, end, code, kind-word}
@@ -21,23 +22,24 @@ use Rattle.calls_laws.proofs.Inserts.{Row-accepted}
 use Rattle.calls_laws.proofs.Fields.{header-says}
 use Rattle.calls_laws.proofs.WordSteps.{header-said}
 use Rattle.edit_model.specs.Image.{image-of}
-use Rattle.edit_model.specs.Insert.{Plan, added, up-word, plan, plan-of, put-words, both-edit, begin-edit, end-edit, in-turn-edit}
+use Rattle.words.specs.Places.{up-word}
+use Rattle.edit_model.specs.Insert.{Plan, added, plan, plan-of, put-words, both-edit, begin-edit, end-edit, in-turn-edit}
 use Rattle.edit_model.proofs.Image.{store-image}
 use Rattle.edit_model.proofs.Added.{one-more}
 use Rattle.edit_model.proofs.Single.{grown, book-with, proper-grown}
 use Rattle.edit_model.proofs.Renumbered.{Words-in, Row-in}
 use Rattle.edit_model.proofs.Inserted.{position-said, few-said, room-said, labels-said, begin-fact, begin-words}
 use Rattle.edit_model.proofs.Elements.{element-row}
+use Rattle.renumber.specs.Needs.{issued}
 use Rattle.insert_link.specs.Needs.{New-tag-fits}
 use Rattle.store_insert.specs.Needs.{Put-fits, End-fits, Ready, Edits}
 use Rattle.insert_refuse.proofs.Headers.{ranges}
-use Rattle.store_insert.proofs.Keeps.{length-added, added-header}
-use Rattle.store_insert.proofs.Rows.{behind-or-none}
-use Rattle.store_insert.proofs.Accepted.{widths-most, widths-least, lows-at, applicable, tag-fits, one-applicable, next-or-none, says-accepted, store-accepted, row-accepted}
-use Rattle.store_insert.proofs.Edits.{more-by-two}
+use Rattle.store_insert.proofs.Keeps.{length-added, added-header, added-count}
+use Rattle.store_insert.proofs.Rows.{records-in, issued-in, behind-or-none}
+use Rattle.store_insert.proofs.Accepted.{widths-least, widths-said, r-said, lows-at, applicable, tag-fits, one-applicable, next-or-none, says-accepted, store-accepted, row-accepted}
 
 -- AN ELEMENT. Its begin goes in first, with or without the end
-module _ {k : ℕ} {ws w l : List ℕ} {n y u r : ℕ} {p : Plan} (h : Ready 1 k ws n y u r p w l) where
+module _ {k : ℕ} {ws t : List ℕ} {n y u : ℕ} {p : Plan} (h : Ready 1 k ws n y u p t) where
   said-now : Says ws (said ws)
   said-now = says-accepted ws 1 y (h .accepted)
 
@@ -45,8 +47,8 @@ module _ {k : ℕ} {ws w l : List ℕ} {n y u r : ℕ} {p : Plan} (h : Ready 1 k
   unfolding insert-kinds
   both-row = row-accepted ws 1 y (h .accepted)
 
-  issued : n ≡ count (said ws)
-  issued = h .tags ∙ header-said ws (said ws) said-now .issued
+  tags-said : n ≡ count (said ws)
+  tags-said = h .tags ∙ header-said ws (said ws) said-now .issued
 
   -- the begin, its mate one further
   abbrev first : Fact
@@ -57,8 +59,8 @@ module _ {k : ℕ} {ws w l : List ℕ} {n y u r : ℕ} {p : Plan} (h : Ready 1 k
 
   pub room-for-two : Records ws (suc (suc n))
   room-for-two =
-      let two : count (said ws) + 2 ≡ suc (suc n) = omega (arith, issued) in
-      record { few = omega (arith, issued, both-row .few); long = rw two at (both-row .room) }
+      let two : count (said ws) + 2 ≡ suc (suc n) = omega (arith, tags-said) in
+      record { few = omega (arith, tags-said, both-row .few); long = rw two at (both-row .room) }
 
   low-there : word-at ws at-height ≤ 22
   low-there = omega (arith, ranges ws said-now .high)
@@ -84,7 +86,7 @@ module _ {k : ℕ} {ws w l : List ℕ} {n y u r : ℕ} {p : Plan} (h : Ready 1 k
         })
 
 -- BOTH AT ONCE
-module _ {ws w l : List ℕ} {n y u r : ℕ} {p : Plan} (h : Ready 1 2 ws n y u r p w l) (lower : plan-of ws 1 y .height < plan-of ws 2 y .height)
+module _ {ws t : List ℕ} {n y u : ℕ} {p : Plan} (h : Ready 1 2 ws n y u p t) (lower : plan-of ws 1 y .height < plan-of ws 2 y .height)
     {vs us : List ℕ} (put : vs ≡ added ws n y (n + 1) u 1) (end-put : us ≡ added vs (n + 1) n n u 2) where
   abbrev with-both : List ℕ
   with-both = added (added ws (word-at ws at-count) y (suc (word-at ws at-count)) (up-word ws y) 1) (suc (word-at ws at-count)) (word-at ws at-count) (word-at ws at-count) (up-word ws y) 2
@@ -96,34 +98,38 @@ module _ {ws w l : List ℕ} {n y u r : ℕ} {p : Plan} (h : Ready 1 2 ws n y u 
   row-both zero top l = absurd (omega arith)
   row-both (suc g) top l = element-row ws (said ws) (said-now h) y (store-accepted ws 1 y (h .accepted)) g top l
 
-  pub both-put : Put-fits us (n + 2) r p w l
+  pub both-put : Put-fits us p t
   both-put =
       let few : suc (suc (word-at ws at-count)) ≤ most-tags = rw (h .tags) at (room-for-two h .few) in
       let levels : word-at us at-height ≤ 22 = rw (end-put, added-header 3 (omega arith) vs (n + 1) n n u 2 (λ e. omega arith) (λ e. omega arith)) (levels-kept h put) in
-      rw (more-by-two n) (record {
-        plan = rw (both-are, h .tags, h .degree, h .plan, h .widths, h .lows) (applicable ws (said-now h) 2 y (suc (suc (word-at ws at-count))) with-both few (row-both (plan-of ws 2 y .height) refl lower));
+      record {
+        plan = rw (both-are, h .plan) (applicable ws (said-now h) (h .packed) 2 y (suc (suc (word-at ws at-count))) with-both few (row-both (plan-of ws 2 y .height) refl lower));
         levels = levels;
-      })
+      }
 
-  pub both-edits : {xs : List ℕ} {m s : ℕ} → Edits xs m s (put-words us w r (n + 2) 2 p) → Edits xs m s (both-edit y ws)
+  pub both-edits : {xs : List ℕ} {m s : ℕ} → Edits xs m s (put-words us (widths-in t) (r-in t) (issued us) 2 p) → Edits xs m s (both-edit y ws)
   unfolding both-edit
-  both-edits e = rw (both-are, more-by-two, h .tags, h .degree, h .plan, h .widths) at e
+  both-edits e =
+      let count = ap issued end-put ∙ added-count vs (n + 1) n n u 2 (end-next h put) in
+      rw (count, both-are, add-one, h .tags, r-said ws (said-now h) (h .packed), h .plan, h .packed .widths-are) at e
 
 -- IN TURN
-module _ {ws w l : List ℕ} {n y u r : ℕ} {p : Plan} (h : Ready 1 1 ws n y u r p w l) {vs : List ℕ} (put : vs ≡ added ws n y (n + 1) u 1) where
-  pub turn-put : Put-fits vs (n + 1) r p w l
+module _ {ws t : List ℕ} {n y u : ℕ} {p : Plan} (h : Ready 1 1 ws n y u p t) {vs : List ℕ} (put : vs ≡ added ws n y (n + 1) u 1) where
+  pub turn-put : Put-fits vs p t
   unfolding kind-word code
   turn-put =
-      rw add-one (record {
-        plan = rw (with-begin h put, h .tags, h .degree, h .plan, h .widths, h .lows) (one-applicable ws (said-now h) begin (end ∷ []) y (both-row h) (first h));
+      record {
+        plan = rw (with-begin h put, h .plan) (one-applicable ws (said-now h) begin (end ∷ []) y (both-row h) (first h) (h .packed));
         levels = levels-kept h put;
-      })
+      }
 
   -- the words with the begin, numbered
-  module _ {us : List ℕ} {m s : ℕ} (e : Edits us m s (put-words vs w r (n + 1) 1 p)) where
+  module _ {us : List ℕ} {m s : ℕ} (e : Edits us m s (put-words vs (widths-in t) (r-in t) (issued vs) 1 p)) where
     begin-edits : Edits us m s (begin-edit y ws)
     unfolding begin-edit
-    begin-edits = rw (with-begin h put, add-one, h .tags, h .degree, h .plan, h .widths, h .up-is) at e
+    begin-edits =
+        let count = ap issued put ∙ added-count ws n y (n + 1) u 1 (begin-tag h) in
+        rw (count, with-begin h put, h .tags, r-said ws (said-now h) (h .packed), h .plan, h .packed .widths-are, h .up-is) at e
 
     -- say a store, but for the stamp
     abbrev at : ℕ
@@ -152,7 +158,7 @@ module _ {ws w l : List ℕ} {n y u r : ℕ} {p : Plan} (h : Ready 1 1 ws n y u 
           words-are = words-begun ∙ rw store-image;
           proper =
               proper-grown ws (said ws) (said-now h) at fits (begin-fact (said ws) y) (few-said ws (said ws) (said-now h) begin (end ∷ []) y a) (room-said ws (said ws) (said-now h) begin (end ∷ []) y a) labels-begun;
-          counted = one-more (said ws .facts) (begin-fact (said ws) y) ∙ ap suc (sym (issued h));
+          counted = one-more (said ws .facts) (begin-fact (said ws) y) ∙ ap suc (sym (tags-said h));
         }
 
     -- H at most one higher
@@ -167,7 +173,7 @@ module _ {ws w l : List ℕ} {n y u r : ℕ} {p : Plan} (h : Ready 1 1 ws n y u 
     low-begun : book-with at (said ws) .under ≤ 22
     low-begun = omega (arith, under-begun, ranges ws (said-now h) .high)
 
-    pub end-ready : length us ≡ length ws → End-fits us n r w l
+    pub end-ready : length us ≡ length ws → End-fits us n t
     unfolding grown
     end-ready long =
         let f = ranges ws (said-now h) in
@@ -177,22 +183,27 @@ module _ {ws w l : List ℕ} {n y u r : ℕ} {p : Plan} (h : Ready 1 1 ws n y u 
         let degree : word-at us at-r ≡ word-at ws at-r =
         rw words-begun (head .degree-r) ∙ inserted-r at (count (said ws)) (said ws .book) ∙ sym (header-said ws (said ws) (said-now h) .degree-r) in
         let one-fewer : suc n ≤ most-tags = omega (arith, two .few) in
+        let issued-is = issued-in words-in-begun one-fewer in
         record {
           tag = record {
             records = record { few = two .few; long = rw long (two .long) };
             place = λ e. omega arith;
             next = behind-or-none words-in-begun one-fewer n (omega arith);
           };
-          levels = rw levels (omega arith);
-          ancestors = rw levels (record { height = omega (arith, low-begun); widths = λ i low high. rw (h .widths) (widths-least ws (said-now h) i (omega (arith, under-begun))) });
-          widths = λ i. rw (h .widths) (omega (arith, widths-most ws (said-now h) i));
-          degree = h .degree ∙ sym degree;
-          degree-least = rw (h .degree) (f .degrees .r-least);
-          low = rw (h .lows) (lows-at ws (said-now h) 0 (omega arith) ∙ pow-zero (word-at ws at-r));
+          tags = issued-is;
+          parent = record {
+            records = rw issued-is (records-in words-in-begun one-fewer);
+            levels = rw levels (omega arith);
+            ancestors = rw levels (record { height = omega (arith, low-begun); widths = λ i low high. rw (h .packed .widths-are) (widths-least ws (said-now h) i (omega (arith, under-begun))) });
+          };
+          widths = widths-said ws (said-now h) (h .packed);
+          degree = r-said ws (said-now h) (h .packed) ∙ sym degree;
+          degree-least = rw (r-said ws (said-now h) (h .packed)) (f .degrees .r-least);
+          low = rw (h .packed .lows-are) (lows-at ws (said-now h) 0 (omega arith) ∙ pow-zero (word-at ws at-r));
         }
 
-    pub turn-edits : {xs : List ℕ} → xs ≡ end-edit w n u us → Edits xs m s (in-turn-edit y ws)
+    pub turn-edits : {xs : List ℕ} → xs ≡ end-edit (widths-in t) n u us → Edits xs m s (in-turn-edit y ws)
     unfolding in-turn-edit
     turn-edits end-put =
         let b = begin-edits in
-        record { words-are = end-put ∙ rw (h .widths, h .tags, h .up-is, b .words-are); moved-is = b .moved-is; split-is = b .split-is }
+        record { words-are = end-put ∙ rw (h .packed .widths-are, h .tags, h .up-is, b .words-are); moved-is = b .moved-is; split-is = b .split-is }

@@ -1,46 +1,29 @@
--- What an insertion's steps keep of plain words: how many there are, and the header; and a tag that goes in by itself
--- stands behind its place. Assumes nothing.
+-- What a new tag's links keep of plain words: how many there are, and the header; and a tag that goes in by itself stands
+-- behind its place. Assumes nothing.
 use mathlib.Core.Path.{_≡_, refl, sym, _∙_}
-use mathlib.Core.List.{List, [], _∷_}
-use Prim.Native.Nat.{ℕ, zero, suc, _+_, _≤_, _<_}
+use mathlib.Core.List.{List}
+use Prim.Native.Nat.{ℕ, suc, _≤_, _<_}
 use native.Mathlib.Nat.{pow-zero, not-suc-le-zero}
 use native.Mathlib.Omega.{arith}
 use borrow.Author.Tests.{eqb-false}
-use lib.Dec.{leb, eqb}
+use lib.Dec.{eqb}
 use lib.ListN.{length, length-set}
 use lib.Seq.{getD-set-same, getD-set-other}
-use mathlib.Core.Bool.{_||_}
 use Rattle.store_types.specs.Limits.{no-tag}
-use Rattle.store_types.specs.Layout.{at-count, at-first, header-words, at-next, at-prior, at-mate, at-up, at-kind, word-at, field, label-at, with-label, Records}
+use Rattle.store_types.specs.Layout.{at-count, at-first, header-words, at-next, at-prior, at-mate, at-up, at-kind, word-at, field, Records}
 use Rattle.lists.proofs.Tests.{by-test}
 use Rattle.shape.specs.Tables.{entry, entry-limit}
-use Rattle.words.proofs.Fields.{header-fits, room, room-same, records-kept, field-same, field-other-word, header-kept, header-kept-label, length-with-field, length-with-label, field-past-header}
-use Rattle.shape.specs.Sums.{cut}
-use Rattle.edit_model.specs.Relabel.{relabel, along, shift}
-use Rattle.edit_model.specs.Insert.{Plan, behind, with-record, linked-place, linked-next, added, plain-plan, applied}
+use Rattle.words.proofs.Fields.{header-fits, header-long, room, room-same, records-kept, field-same, field-other-word, header-kept, header-kept-label, length-with-field, length-with-label, field-past-header}
+use Rattle.shape.specs.Packed.{widths-in, lows-in, r-in}
+use Rattle.edit_model.specs.Relabel.{along}
+use Rattle.words.specs.Places.{behind}
+use Rattle.edit_model.specs.Insert.{with-record, linked-place, linked-next, added, plain-plan}
 use Rattle.shape.proofs.Sums.{cut-small}
+use Rattle.renumber.specs.Needs.{issued}
 use Rattle.insert_link.specs.Needs.{New-tag-fits}
 use Rattle.insert_plan.specs.Needs.{Applicable}
-use Rattle.insert_link.proofs.Links.{behind-front, behind-tag, linked-front, linked-tag}
-
--- THE HEADER stays where labels are written
-module _ (i : ℕ) (low : i < header-words) where
-  relabel-header : (xs ls ws : List ℕ) → word-at (relabel xs ls ws .words) i ≡ word-at ws i
-  unfolding relabel
-  relabel-header [] ls ws = refl
-  relabel-header (x ∷ xs) [] ws = refl
-  relabel-header (x ∷ xs) (l ∷ ls) ws = relabel-header xs ls (with-label ws x l) ∙ header-kept-label ws x l i low
-
-  shift-header : (k n : ℕ) (ws : List ℕ) (x b d : ℕ) → word-at (shift k n ws x b d .words) i ≡ word-at ws i
-  unfolding shift
-  shift-header zero n ws x b d = refl
-  shift-header (suc k) n ws x b d =
-      by-test (leb n x || leb b (label-at ws x)) (λ e. rw e)
-      (λ e. rw e (shift-header k n (with-label ws x (cut (label-at ws x + d))) (field ws x at-next) b d ∙ header-kept-label ws x (cut (label-at ws x + d)) i low))
-
-  pub applied-header : (ws w : List ℕ) (r n : ℕ) (p : Plan) → word-at (applied ws w r n p .words) i ≡ word-at ws i
-  unfolding applied
-  applied-header ws w r n p = shift-header n n _ _ (p .bound) (p .by) ∙ relabel-header _ _ ws
+use Rattle.words.proofs.PlaceLaws.{behind-front, behind-tag}
+use Rattle.insert_link.proofs.Links.{linked-front, linked-tag}
 
 -- AS MANY WORDS with a tag more
 length-record : (ws : List ℕ) (x next prior mate up kind : ℕ) → length (with-record ws x next prior mate up kind) ≡ length ws
@@ -108,20 +91,28 @@ module _ (ws : List ℕ) (n y mate up kind : ℕ) (h : New-tag-fits ws n y) wher
       ∙ (let below = h .place (eqb-false y no-tag e) in
       rw (← linked-tag recorded y refl n e refl) (field-same recorded y at-next n (room-same (room (h .records) (omega arith)) long) (omega arith))))
 
+  -- there is a tag more
+  pub added-count : issued (added ws n y mate up kind) ≡ suc n
+  unfolding added
+  added-count =
+      let x = behind ws y in
+      let long = length-next (linked-place recorded y n) x n ∙ length-place recorded y n ∙ length-record ws n x y mate up kind in
+      getD-set-same (linked-next (linked-place recorded y n) x n) at-count (suc n) 0 (omega (arith, long, header-long (h .records)))
+
   pub records-added : Records (added ws n y mate up kind) (suc n)
   records-added = records-kept (h .records) (length-added ws n y mate up kind)
 
   -- AND BY ITSELF it can be numbered
-  pub plain-applicable : (w l : List ℕ) (r u : ℕ) → 2 ≤ r → ((k : ℕ) → entry w k ≤ entry-limit) → entry l 0 ≡ 1 →
-      Applicable (added ws n y mate up kind) (suc n) r (plain-plan ws w u y) w l
+  pub plain-applicable : (t : List ℕ) (u : ℕ) → 2 ≤ r-in t → ((k : ℕ) → entry (widths-in t) k ≤ entry-limit) → entry (lows-in t) 0 ≡ 1 →
+      Applicable (added ws n y mate up kind) (plain-plan ws (widths-in t) u y) t
   unfolding plain-plan along
-  plain-applicable w l r u degree widths low =
+  plain-applicable t u degree widths low =
       record {
-        left = λ e. omega (arith, h .place e);
+        records = rw added-count records-added;
+        left = rw added-count (λ e. omega (arith, h .place e));
         row = record {
-          records = records-added;
           most = omega arith;
-          below = λ i one. let first : i ≡ 0 = omega arith in rw (first, behind-added) (omega arith);
+          there = λ i one. let first : i ≡ 0 = omega arith in rw (first, behind-added) (room records-added (omega arith));
         };
         trees = record {
           degree = degree;

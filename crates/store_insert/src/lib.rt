@@ -2,12 +2,14 @@
 ghost use mathlib.Core.Path.{_≡_};
 ghost use Prim.Native.Nat.{_-_};
 ghost use lib.ListN.{replicate};
+ghost use Rattle.shape.specs.Packed.{widths-in, r-in};
 ghost use Rattle.calls.specs.Replies.{insert-reply, insert-words, insert-refused};
-ghost use Rattle.walk_model.specs.Watch.{sizes-at};
+ghost use Rattle.walk_model.specs.Watch.{Tables-at, sizes-at};
 ghost use Rattle.edit_model.specs.Insert.{put-words, text-edit, both-edit, in-turn-edit, end-edit, element-edit};
+ghost use Rattle.renumber.specs.Needs.{issued};
 ghost use Rattle.insert_plan.specs.Parts.{plan-record};
 ghost use Rattle.store_insert.specs.Parts.{call-edit};
-ghost use Rattle.store_insert.specs.Needs.{Edits, Put-fits, End-fits, Ready, Both-ready};
+ghost use Rattle.store_insert.specs.Needs.{Edits, Put-fits, Parent-reads, Parent-of, End-fits, Ready, Both-ready};
 use insert_plan::Plan;
 use store_types::InsertReply;
 use store_types::TagId;
@@ -19,20 +21,12 @@ struct Done {
 }
 
 // New tags are in: what was planned is done. Of the tags that were numbered, `new` are new.
-fn put(
-    words: &mut [u32],
-    n: u32,
-    new: u32,
-    r: u64,
-    p: Plan,
-    widths: &[u64; 24],
-    lows: &[u64; 24],
-) -> Done
-    requires { ⌜ Put-fits (now words) n r (plan-record p) (now widths) (now lows) ⌝ }
-    ensures { λ d. ⌜ Edits (now (words .exit)) (d .moved) (d .split) (put-words (now (words .entry)) (now (widths .entry)) r n new (plan-record p)) ⌝ }
+fn put(words: &mut [u32], new: u32, p: Plan, tables: &[u64; 96]) -> Done
+    requires { ⌜ Put-fits (now words) (plan-record p) (now tables) ⌝ }
+    ensures { λ d. ⌜ Edits (now (words .exit)) (d .moved) (d .split) (put-words (now (words .entry)) (widths-in (now (tables .entry))) (r-in (now (tables .entry))) (issued (now (words .entry))) new (plan-record p)) ⌝ }
 {
     let split = p.height;
-    let numbered = insert_plan::apply(words, n, r, p, widths, lows);
+    let numbered = insert_plan::apply(words, p, tables);
     insert_link::raise(words, split);
     Done {
         moved: less(numbered, new),
@@ -56,16 +50,14 @@ fn insert_text(
     n: u32,
     place: TagId,
     up: TagId,
-    r: u64,
     p: Plan,
-    widths: &[u64; 24],
-    lows: &[u64; 24],
+    tables: &[u64; 96],
 ) -> Done
-    requires { ⌜ Ready 3 1 (now words) n (place .0) (up .0) r (plan-record p) (now widths) (now lows) ⌝ }
+    requires { ⌜ Ready 3 1 (now words) n (place .0) (up .0) (plan-record p) (now tables) ⌝ }
     ensures { λ d. ⌜ Edits (now (words .exit)) (d .moved) (d .split) (text-edit (place .0) (now (words .entry))) ⌝ }
 {
-    insert_link::add_tag(words, n, place, TagId(n), up, 3);
-    put(words, n + 1, 1, r, p, widths, lows)
+    insert_link::add_tag(words, n, place, TagId(n), up, words::KIND_TEXT);
+    put(words, 1, p, tables)
 }
 
 // Both tags of an element, where the second splits: they go in before anything is numbered, and only that split is made.
@@ -74,28 +66,38 @@ fn insert_both(
     n: u32,
     place: TagId,
     up: TagId,
-    r: u64,
     p: Plan,
-    widths: &[u64; 24],
-    lows: &[u64; 24],
+    tables: &[u64; 96],
 ) -> Done
-    requires { ⌜ Both-ready (now words) n (place .0) (up .0) r (plan-record p) (now widths) (now lows) ⌝ }
+    requires { ⌜ Both-ready (now words) n (place .0) (up .0) (plan-record p) (now tables) ⌝ }
     ensures { λ d. ⌜ Edits (now (words .exit)) (d .moved) (d .split) (both-edit (place .0) (now (words .entry))) ⌝ }
 {
-    insert_link::add_tag(words, n, place, TagId(n + 1), up, 1);
-    insert_link::add_tag(words, n + 1, TagId(n), TagId(n), up, 2);
-    put(words, n + 2, 2, r, p, widths, lows)
+    insert_link::add_tag(words, n, place, TagId(n + 1), up, words::KIND_BEGIN);
+    insert_link::add_tag(words, n + 1, TagId(n), TagId(n), up, words::KIND_END);
+    put(words, 2, p, tables)
+}
+
+// The number of a place's parent.
+fn parent_of(words: &[u32], place: TagId, tables: &[u64; 96]) -> u64
+    requires { ⌜ Parent-reads (now words) (now tables) ⌝ }
+    ensures { λ a. ⌜ Parent-of (now (words .entry)) (place .0) (now (tables .entry)) a ⌝ }
+{
+    let under = words[words::AT_HEIGHT] as usize - 1;
+    let label = words::places::watched_label(words, place);
+    let numbers = walk_levels::ancestors::numbers(label, under, tables);
+    numbers[1]
 }
 
 // The end of an element, behind its begin n: it splits nothing, and shifts only tags that the begin has moved.
-fn insert_end(words: &mut [u32], n: u32, up: TagId, r: u64, widths: &[u64; 24], lows: &[u64; 24])
-    requires { ⌜ End-fits (now words) n r (now widths) (now lows) ⌝ }
-    ensures { λ _. ⌜ now (words .exit) ≡ end-edit (now (widths .entry)) n (up .0) (now (words .entry)) ⌝ }
+fn insert_end(words: &mut [u32], n: u32, up: TagId, tables: &[u64; 96])
+    requires { ⌜ End-fits (now words) n (now tables) ⌝ }
+    ensures { λ _. ⌜ now (words .exit) ≡ end-edit (widths-in (now (tables .entry))) n (up .0) (now (words .entry)) ⌝ }
 {
-    let under = words[words::AT_HEIGHT] as usize - 1;
-    let p = insert_plan::plain_plan(words, n + 1, TagId(n), under, widths);
-    insert_link::add_tag(words, n + 1, TagId(n), TagId(n), up, 2);
-    insert_plan::apply(words, n + 2, r, p, widths, lows);
+    let begin = TagId(n);
+    let parent = parent_of(words, begin, tables);
+    let p = insert_plan::plain_plan(words, begin, parent, tables);
+    insert_link::add_tag(words, n + 1, begin, begin, up, words::KIND_END);
+    insert_plan::apply(words, p, tables);
 }
 
 // The tags of an element one after the other, where the second does not split.
@@ -104,17 +106,15 @@ fn insert_in_turn(
     n: u32,
     place: TagId,
     up: TagId,
-    r: u64,
     p: Plan,
-    widths: &[u64; 24],
-    lows: &[u64; 24],
+    tables: &[u64; 96],
 ) -> Done
-    requires { ⌜ Ready 1 1 (now words) n (place .0) (up .0) r (plan-record p) (now widths) (now lows) ⌝ }
+    requires { ⌜ Ready 1 1 (now words) n (place .0) (up .0) (plan-record p) (now tables) ⌝ }
     ensures { λ d. ⌜ Edits (now (words .exit)) (d .moved) (d .split) (in-turn-edit (place .0) (now (words .entry))) ⌝ }
 {
-    insert_link::add_tag(words, n, place, TagId(n + 1), up, 1);
-    let done = put(words, n + 1, 1, r, p, widths, lows);
-    insert_end(words, n, up, r, widths, lows);
+    insert_link::add_tag(words, n, place, TagId(n + 1), up, words::KIND_BEGIN);
+    let done = put(words, 1, p, tables);
+    insert_end(words, n, up, tables);
     done
 }
 
@@ -124,53 +124,46 @@ fn insert_element(
     n: u32,
     place: TagId,
     up: TagId,
-    r: u64,
     p: Plan,
     q: Plan,
-    widths: &[u64; 24],
-    lows: &[u64; 24],
+    tables: &[u64; 96],
 ) -> Done
-    requires { ⌜ Ready 1 1 (now words) n (place .0) (up .0) r (plan-record p) (now widths) (now lows) × Ready 1 2 (now words) n (place .0) (up .0) r (plan-record q) (now widths) (now lows) ⌝ }
+    requires { ⌜ Ready 1 1 (now words) n (place .0) (up .0) (plan-record p) (now tables) × Ready 1 2 (now words) n (place .0) (up .0) (plan-record q) (now tables) ⌝ }
     ensures { λ d. ⌜ Edits (now (words .exit)) (d .moved) (d .split) (element-edit (place .0) (now (words .entry))) ⌝ }
 {
     if p.height < q.height {
-        return insert_both(words, n, place, up, r, q, widths, lows);
+        return insert_both(words, n, place, up, q, tables);
     }
-    insert_in_turn(words, n, place, up, r, p, widths, lows)
+    insert_in_turn(words, n, place, up, p, tables)
 }
 
-// An accepted insertion, but for the stamp; `sizes` are those of the ancestors of its place.
-fn change(kind: u8, place: TagId, words: &mut [u32], sizes: &[u32; 24]) -> Done
-    requires { ⌜ (insert-refused kind (place .0) (now words) ≡ 0) × (now sizes ≡ sizes-at (now words) (place .0) (replicate 24 0)) ⌝ }
+// An accepted insertion, but for the stamp; `tables` and `sizes` are those of its place.
+fn change(kind: u8, place: TagId, words: &mut [u32], tables: &[u64; 96], sizes: &[u32; 24]) -> Done
+    requires { ⌜ (insert-refused kind (place .0) (now words) ≡ 0) × Tables-at (now words) (place .0) (now tables) × (now sizes ≡ sizes-at (now words) (place .0) (replicate 24 0)) ⌝ }
     ensures { λ d. ⌜ Edits (now (words .exit)) (d .moved) (d .split) (call-edit kind (place .0) (now (words .entry))) ⌝ }
 {
-    let s = words[words::AT_S] as u64;
-    let r = words[words::AT_R] as u64;
-    let h = words[words::AT_HEIGHT] as usize;
     let n = words[words::AT_COUNT];
-    let widths = shape::table(1, s * r - 1, h);
-    let lows = shape::table(1, r, h);
-    let highs = shape::table(s, r, h);
-    let up = insert_link::up_at(words, n, place);
-    let p = insert_plan::plan_at(words, n, 1, place, s, h - 1, &widths, &highs, sizes);
-    if kind != 1 {
-        return insert_text(words, n, place, up, r, p, &widths, &lows);
+    let up = words::places::up_at(words, place);
+    let p = insert_plan::plan_at(words, 1, place, tables, sizes);
+    if kind != store_types::BEGIN {
+        return insert_text(words, n, place, up, p, tables);
     }
-    let q = insert_plan::plan_at(words, n, 2, place, s, h - 1, &widths, &highs, sizes);
-    insert_element(words, n, place, up, r, p, q, &widths, &lows)
+    let q = insert_plan::plan_at(words, 2, place, tables, sizes);
+    insert_element(words, n, place, up, p, q, tables)
 }
 
 pub fn insert(kind: u8, place: TagId, words: &mut [u32]) -> InsertReply
     ensures reply { λ q. ⌜ q ≡ insert-reply kind (place .0) (now (words .entry)) ⌝ }
     ensures words { λ _. ⌜ now (words .exit) ≡ insert-words kind (place .0) (now (words .entry)) ⌝ }
 {
+    let mut tables = [0u64; 96];
     let mut sizes = [0u32; 24];
-    let refusal = insert_refuse::insert_refused(kind, place, words, &mut sizes);
+    let refusal = insert_refuse::insert_refused(kind, place, words, &mut tables, &mut sizes);
     if refusal != 0 {
         return InsertReply::Refused(refusal);
     }
     let n = words[words::AT_COUNT];
-    let done = change(kind, place, words, &sizes);
+    let done = change(kind, place, words, &tables, &sizes);
     words[words::AT_STAMP] = words[words::AT_STAMP] + 1;
     InsertReply::Inserted {
         first: TagId(n),

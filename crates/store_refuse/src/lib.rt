@@ -2,19 +2,25 @@
 ghost use mathlib.Core.Path.{_≡_};
 ghost use Rattle.calls.specs.Mark.{section-refusal};
 ghost use Rattle.calls.specs.Replies.{refusal-over};
-ghost use Rattle.walk_model.specs.Watch.{sizes-at};
+ghost use Rattle.walk_model.specs.Watch.{Tables-at, sizes-at};
 use store_types::TagId;
 
-// 1 and 2, which come first on every call but load; 0 where the words say a store, and then `sizes` has the number of
-// leaves of each ancestor of a place below the root, by height.
-pub fn words_refused_at(words: &[u32], place: TagId, sizes: &mut [u32; 24]) -> u32
+// 1 and 2, which come first on every call but load; 0 where the words say a store. Then `tables` has the tables of their
+// header with the numbers of the ancestors of a place, and `sizes` the leaves of each of these below the root, by height.
+pub fn words_refused_at(
+    words: &[u32],
+    place: TagId,
+    tables: &mut [u64; 96],
+    sizes: &mut [u32; 24],
+) -> u32
     ensures refusal { λ k. ⌜ k ≡ refusal-over (now (words .entry)) (λ st. 0) ⌝ }
+    ensures tables { λ k. ⌜ (k ≡ 0 → Tables-at (now (words .entry)) (place .0) (now (tables .exit))) ⌝ }
     ensures sizes { λ k. ⌜ (k ≡ 0 → now (sizes .exit) ≡ sizes-at (now (words .entry)) (place .0) (now (sizes .entry))) ⌝ }
 {
     if words.len() < words::HEADER_WORDS {
         return 1;
     }
-    if !walk::sound_at(words, place, sizes) {
+    if !walk::sound_at(words, place, tables, sizes) {
         return 2;
     }
     0
@@ -24,8 +30,9 @@ pub fn words_refused_at(words: &[u32], place: TagId, sizes: &mut [u32; 24]) -> u
 pub fn words_refused(words: &[u32]) -> u32
     ensures { λ k. ⌜ k ≡ refusal-over (now (words .entry)) (λ st. 0) ⌝ }
 {
+    let mut tables = [0u64; 96];
     let mut sizes = [0u32; 24];
-    words_refused_at(words, TagId::NONE, &mut sizes)
+    words_refused_at(words, TagId::NONE, &mut tables, &mut sizes)
 }
 
 // The refusals of mark and hold.

@@ -18,7 +18,8 @@ use Rattle.calls.specs.Store.{labels-fit}
 use Rattle.calls.specs.Sound.{degrees-fit}
 use Rattle.calls.specs.Words.{header-width}
 use Rattle.walk_model.specs.Walk.{shape-of, start, walk, header-passes, words-pass}
-use Rattle.walk_model.specs.Watch.{ancestor-numbers, watched-label, watched-numbers, walk-sizes, sizes-at}
+use Rattle.words.specs.Places.{watched-label}
+use Rattle.walk_model.specs.Watch.{ancestor-numbers, watched-numbers, Tables-at, walk-sizes, sizes-at}
 use Rattle.shape.specs.Packed.{Packed, widths-in, numbers-in}
 use Rattle.walk_levels.specs.Needs.{Ancestors-fit, tables-of, levels-of}
 use Rattle.shape.specs.Needs.{Root-fits, frame-passes, root-passes}
@@ -90,8 +91,8 @@ module _ (ws lo : List ℕ) (a : Frame ws) (of-lo : lo ≡ table 1 (r-of ws) (h-
   pub root-fits : Root-fits (h-of ws) lo
   root-fits = record { low = a .low; high = omega (arith, a .high); lows = entries-fit (lows-fit (framed-fits ws a)) of-lo }
 
-  pub pass-fits : {w hi ns t : List ℕ} {l : ℕ} → Packed t w lo hi ns → w ≡ table 1 (s-of ws * r-of ws - 1) (h-of ws) → hi ≡ table (s-of ws) (r-of ws) (h-of ws) → ns ≡ ancestor-numbers w (h-of ws - 1) l 0 (replicate 24 0) → l < word-limit → Pass-fits ws (n-of ws) (h-of ws - 1) t
-  pass-fits {w} p of-w of-hi of-ns fits =
+  pub pass-fits : {w hi ns t : List ℕ} {l : ℕ} → Packed t w lo hi → numbers-in t ≡ ns → w ≡ table 1 (s-of ws * r-of ws - 1) (h-of ws) → hi ≡ table (s-of ws) (r-of ws) (h-of ws) → ns ≡ ancestor-numbers w (h-of ws - 1) l 0 (replicate 24 0) → l < word-limit → Pass-fits ws (n-of ws) (h-of ws - 1) t
+  pass-fits {w} p numbers of-w of-hi of-ns fits =
       let b = s-of ws * r-of ws - 1 in
       record {
         records = a .records;
@@ -102,7 +103,7 @@ module _ (ws lo : List ℕ) (a : Frame ws) (of-lo : lo ≡ table 1 (r-of ws) (h-
             lows = λ k. rw (p .lows-are) (entries-fit (lows-fit (framed-fits ws a)) of-lo k);
             highs = λ k. rw (p .highs-are) (entries-fit (highs-fit (framed-fits ws a)) of-hi k);
           },
-          λ k. rw (p .numbers-are) (numbers-fit w (h-of ws - 1) of-ns fits k),
+          λ k. rw numbers (numbers-fit w (h-of ws - 1) of-ns fits k),
         );
         unit = rw (p .widths-are, of-w, table-at 1 b (h-of ws) 0 (omega arith), one-mul) (pow-zero b);
         wide = rw (p .widths-are, of-w, table-at 1 b (h-of ws) 1 (omega (arith, a .low)), one-mul) (one-le-pow 1 b (omega (arith, f-range ws a)));
@@ -129,17 +130,26 @@ module _ (ws : List ℕ) where
       unfolding words-pass
       root-refuses e p = simp (header-split, ← of-lo, ← of-hi, sym e ∙ not-true t p, and-false)
 
-      pub pass-decides : {w ns tables : List ℕ} {q r : Bool} → Packed tables w lo hi ns → w ≡ table 1 (s-of ws * r-of ws - 1) (h-of ws) → q ≡ frame-passes ws → not q ≡ false → r ≡ root-passes (n-of ws) (h-of ws) lo hi → not r ≡ false →
+      pub pass-decides : {w tables : List ℕ} {q r : Bool} → Packed tables w lo hi → w ≡ table 1 (s-of ws * r-of ws - 1) (h-of ws) → q ≡ frame-passes ws → not q ≡ false → r ≡ root-passes (n-of ws) (h-of ws) lo hi → not r ≡ false →
           t ≡ walk ws (shape-in tables (h-of ws - 1) (n-of ws)) (n-of ws) 0 (start-with ws (widths-in tables)) → t ≡ words-pass ws
       unfolding words-pass shape-of widths-of lows-of highs-of start shape-with start-with tables-of levels-of
       pass-decides p of-w a b c d e =
           rw (header-split, sym a ∙ not-false _ b, ← of-lo, ← of-hi, ← of-w, sym c ∙ not-false _ d, ← sub-one (h-of ws))
           (rw (p .widths-are, p .lows-are, p .highs-are) at e)
 
--- THE SIZES where they pass: l is the label at the place, and ns are the numbers of its ancestors
-module _ (ws lo hi w : List ℕ) (of-lo : lo ≡ table 1 (r-of ws) (h-of ws)) (of-hi : hi ≡ table (s-of ws) (r-of ws) (h-of ws)) (of-w : w ≡ table 1 (s-of ws * r-of ws - 1) (h-of ws)) where
-  pub sizes-taken : (y l : ℕ) (ns sz : List ℕ) {tables sz′ : List ℕ} → Packed tables w lo hi ns → l ≡ watched-label ws y → ns ≡ ancestor-numbers w (h-of ws - 1) l 0 (replicate 24 0) →
-      sz′ ≡ walk-sizes ws (shape-in tables (h-of ws - 1) (n-of ws)) (numbers-in tables) (n-of ws) 0 (start-with ws (widths-in tables)) sz → sz′ ≡ sizes-at ws y sz
-  unfolding sizes-at watched-numbers shape-of widths-of lows-of highs-of start shape-with start-with tables-of levels-of
-  sizes-taken y l ns sz p label numbers e =
-      rw (← label, ← of-lo, ← of-hi, ← of-w, ← sub-one (h-of ws), ← numbers) (rw (p .widths-are, p .lows-are, p .highs-are, p .numbers-are) at e)
+-- WHERE THEY PASS, the sizes and the tables: l is the label at the place y, and ns are the numbers of its ancestors
+module _ (ws lo hi w : List ℕ) (of-lo : lo ≡ table 1 (r-of ws) (h-of ws)) (of-hi : hi ≡ table (s-of ws) (r-of ws) (h-of ws)) (of-w : w ≡ table 1 (s-of ws * r-of ws - 1) (h-of ws))
+    (y l : ℕ) (ns : List ℕ) {tables : List ℕ} (p : Packed tables w lo hi) (numbers-are : numbers-in tables ≡ ns) (label : l ≡ watched-label ws y) (numbers : ns ≡ ancestor-numbers w (h-of ws - 1) l 0 (replicate 24 0)) where
+  pub sizes-taken : (sz : List ℕ) {sz′ : List ℕ} → sz′ ≡ walk-sizes ws (shape-in tables (h-of ws - 1) (n-of ws)) (numbers-in tables) (n-of ws) 0 (start-with ws (widths-in tables)) sz → sz′ ≡ sizes-at ws y sz
+  unfolding sizes-at watched-numbers shape-of start shape-with start-with tables-of levels-of widths-of lows-of highs-of
+  sizes-taken sz e =
+      rw (← label, ← of-lo, ← of-hi, ← of-w, ← sub-one (h-of ws), ← numbers) (rw (p .widths-are, p .lows-are, p .highs-are, numbers-are) at e)
+
+  pub tables-taken : l < word-limit → Tables-at ws y tables
+  unfolding watched-numbers shape-of widths-of lows-of highs-of
+  tables-taken fits =
+      record {
+        packed = record { widths-are = p .widths-are ∙ of-w; lows-are = p .lows-are ∙ of-lo; highs-are = p .highs-are ∙ of-hi };
+        numbers = numbers-are ∙ rw (← label, ← of-w, ← sub-one (h-of ws)) numbers;
+        fit = λ h. rw numbers-are (numbers-fit w (h-of ws - 1) numbers fits h);
+      }

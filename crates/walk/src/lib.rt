@@ -4,7 +4,7 @@ ghost use mathlib.Core.Bool.{true};
 ghost use Prim.Native.Nat.{_<_};
 ghost use Rattle.store_types.specs.Layout.{at-kind, field, label-at};
 ghost use Rattle.walk_model.specs.Walk.{kind-fits, placed, walk, words-pass};
-ghost use Rattle.walk_model.specs.Watch.{place-sizes, close-sizes, walk-sizes, sizes-at};
+ghost use Rattle.walk_model.specs.Watch.{Tables-at, place-sizes, close-sizes, walk-sizes, sizes-at};
 ghost use Rattle.walk_tags.specs.Needs.{Tag-reads};
 ghost use Rattle.shape.specs.Packed.{widths-in, lows-in, highs-in, numbers-in};
 ghost use Rattle.walk_levels.specs.Needs.{levels-of};
@@ -146,10 +146,11 @@ fn pass(
     ends_well(words, size, v, tables, &ends, &firsts, sizes)
 }
 
-// Whether words say a store: refusal 2 where they do not. Where they do, `sizes` has then the number of leaves of each
-// ancestor of a place below the root, by height.
-pub fn sound_at(words: &[u32], place: TagId, sizes: &mut [u32; 24]) -> bool
+// Whether words say a store: refusal 2 where they do not. Where they do, `tables` has then the tables of their header with
+// the numbers of the ancestors of a place, and `sizes` the leaves of each of these below the root, by height.
+pub fn sound_at(words: &[u32], place: TagId, tables: &mut [u64; 96], sizes: &mut [u32; 24]) -> bool
     ensures ok { λ t. ⌜ t ≡ words-pass (now (words .entry)) ⌝ }
+    ensures tables { λ t. ⌜ (t ≡ true → Tables-at (now (words .entry)) (place .0) (now (tables .exit))) ⌝ }
     ensures sizes { λ t. ⌜ (t ≡ true → now (sizes .exit) ≡ sizes-at (now (words .entry)) (place .0) (now (sizes .entry))) ⌝ }
 {
     if !shape::frame_passes(words) {
@@ -165,9 +166,10 @@ pub fn sound_at(words: &[u32], place: TagId, sizes: &mut [u32; 24]) -> bool
     if !shape::root_passes(n, h, &lows, &highs) {
         return false;
     }
-    let label = walk_levels::ancestors::watched_label(words, place);
-    let numbers = walk_levels::ancestors::numbers(label, h - 1, &widths);
-    let tables = shape::tables::packed(widths, lows, highs, numbers);
+    let label = words::places::watched_label(words, place);
+    let header = shape::tables::packed(widths, lows, highs);
+    let numbers = walk_levels::ancestors::numbers(label, h - 1, &header);
+    *tables = shape::tables::with_numbers(header, numbers);
     let size = Extent { n, under: h - 1 };
-    pass(words, size, widths, &tables, sizes)
+    pass(words, size, widths, tables, sizes)
 }

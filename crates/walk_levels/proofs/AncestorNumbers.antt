@@ -1,15 +1,13 @@
--- The numbers of a label's ancestors, from the top down, and the label of a place. Assumes nothing.
+-- The numbers of a label's ancestors, from the top down. Assumes nothing.
 use mathlib.Core.Path.{_≡_, refl}
 use mathlib.Core.List.{List, [], _∷_}
 use Prim.Native.Nat.{ℕ, zero, suc, _+_, _*_, _-_, _/_, _≤_, _<_}
 use native.Mathlib.Nat.{div-mul-le-self}
 use native.Mathlib.Omega.{arith}
-use borrow.Author.Tests.{lt-ltb, le-ltb}
 use lib.ListN.{set, replicate}
 use Rattle.store_types.specs.Limits.{word-limit}
-use Rattle.store_types.specs.Layout.{at-count, word-at, label-at}
 use Rattle.shape.specs.Tables.{entry, entry-limit}
-use Rattle.walk_model.specs.Watch.{ancestor-numbers, watched-label}
+use Rattle.walk_model.specs.Watch.{ancestor-numbers}
 
 -- what is added to the number above goes no further than the label
 pub step-fits : (l a v : ℕ) → (l - a) / v * v ≤ l - a
@@ -61,13 +59,3 @@ numbers-from w (suc u) l a ns h all i =
 pub numbers-fit : (w : List ℕ) (u : ℕ) {ns : List ℕ} {l : ℕ} → ns ≡ ancestor-numbers w u l 0 (replicate 24 0) → l < word-limit → (i : ℕ) → entry ns i ≤ entry-limit
 numbers-fit w u {ns} {l} e fits i =
     rw e (omega (arith, numbers-from w u l 0 (replicate 24 0) (omega arith) (λ j. noughts-most 24 j l) i))
-
--- THE LABEL AT A PLACE
-module _ (ws : List ℕ) (y : ℕ) where
-  pub label-tag : {l : ℕ} → y < word-at ws at-count → l ≡ label-at ws y → l ≡ watched-label ws y
-  unfolding watched-label
-  label-tag p e = rw (lt-ltb y (word-at ws at-count) p) e
-
-  pub label-none : word-at ws at-count ≤ y → 0 ≡ watched-label ws y
-  unfolding watched-label
-  label-none p = rw (le-ltb y (word-at ws at-count) p)

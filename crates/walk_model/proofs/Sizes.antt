@@ -27,7 +27,8 @@ use Rattle.calls_laws.proofs.Widths.{store-widths, header-unit, header-divides}
 use Rattle.calls_laws.proofs.WordSteps.{header-said, width-said, row-said, labels-said}
 use Rattle.walk_model.specs.Levels.{Tables, Levels, start-levels, place-label, labels-pass}
 use Rattle.walk_model.specs.Walk.{Shape, State, placed, passed, shape-of, start}
-use Rattle.walk_model.specs.Watch.{taken, place-sizes, close-sizes, walk-sizes, watched-label, watched-numbers, sizes-at}
+use Rattle.words.specs.Places.{watched-label}
+use Rattle.walk_model.specs.Watch.{taken, place-sizes, close-sizes, walk-sizes, watched-numbers, sizes-at}
 use Rattle.walk_model.proofs.Levels.{levels-right}
 use Rattle.walk_model.proofs.Shapes.{Header, widths-given, tables-right}
 use Rattle.walk_model.proofs.WalkRight.{given, facts, good, row-walked}

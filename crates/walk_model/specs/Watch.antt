@@ -1,13 +1,16 @@
 -- How many leaves the ancestors of a place have, found in the pass that decides soundness: of each height below the root
 -- the node of a given number is watched, and its size is taken where it closes. Follows the code of crate walk.
 -- Assumes nothing: these are definitions.
+use mathlib.Core.Path.{_≡_}
 use mathlib.Core.Bool.{_&&_, cond}
 use mathlib.Core.List.{List}
-use Prim.Native.Nat.{ℕ, zero, suc, pred, _+_, _*_, _-_, _/_}
+use Prim.Native.Nat.{ℕ, zero, suc, pred, _+_, _*_, _-_, _/_, _≤_}
 use lib.Dec.{ltb, eqb}
 use lib.ListN.{set, replicate}
 use Rattle.store_types.specs.Layout.{at-height, at-count, word-at, label-at}
-use Rattle.shape.specs.Tables.{entry}
+use Rattle.words.specs.Places.{watched-label}
+use Rattle.shape.specs.Tables.{entry, entry-limit, widths-of, lows-of, highs-of}
+use Rattle.shape.specs.Packed.{Packed, numbers-in}
 use Rattle.walk_model.specs.Levels.{Levels}
 use Rattle.walk_model.specs.Walk.{Shape, State, passed, shape-of, start}
 
@@ -44,12 +47,14 @@ walk-sizes ws k ns (suc m) i v sz =
     let placed = place-sizes (k .tables .widths) ns (k .under) (v .expect) (label-at ws (v .tag)) i (v .levels) sz in
     walk-sizes ws k ns m (suc i) (passed ws k i v) placed
 
--- the label at a place; 0, that of the first leaf, where the place is no tag of the book
-unfoldable pub watched-label : List ℕ → (place : ℕ) → ℕ
-watched-label ws y = cond (ltb y (word-at ws at-count)) (label-at ws y) 0
-
 unfoldable pub watched-numbers : List ℕ → (place : ℕ) → List ℕ
 watched-numbers ws y = ancestor-numbers (shape-of ws .tables .widths) (pred (word-at ws at-height)) (watched-label ws y) 0 (replicate 24 0)
+
+-- four tables in one array: those of the words, and the numbers of the ancestors of a place
+pub record Tables-at (ws : List ℕ) (y : ℕ) (tables : List ℕ) : Type 0 where
+  pub packed : Packed tables (widths-of ws) (lows-of ws) (highs-of ws)
+  pub numbers : numbers-in tables ≡ watched-numbers ws y
+  pub fit : (h : ℕ) → entry (numbers-in tables) h ≤ entry-limit
 
 -- the sizes of the ancestors of a place, over sizes from before
 unfoldable pub sizes-at : List ℕ → (place : ℕ) → (sizes : List ℕ) → List ℕ

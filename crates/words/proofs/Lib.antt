@@ -1,3 +1,4 @@
 pub mod Fields
 pub mod Offsets
 pub mod Records
+pub mod PlaceLaws

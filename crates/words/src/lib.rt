@@ -1,6 +1,8 @@
 // The store's words (document 01, "The book in words"): header words at their places, and records behind the header. Every
 // record is read and written through one pair of field functions and one pair for its label; only a tag number finds a
 // record.
+pub mod places;
+
 ghost use mathlib.Core.Path.{_≡_};
 ghost use Prim.Native.Nat.{ℕ, _<_};
 ghost use Rattle.store_types.specs.Layout.{at-next, at-prior, at-mate, at-up, at-kind, tag-words, field, label-at, with-field, with-label, Room};

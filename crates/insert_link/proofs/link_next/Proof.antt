@@ -1,6 +1,7 @@
 -- `insert_link::link_next` meets its contract. Assumes nothing.
 use borrow.Author.Needs.{needs}
-use Rattle.insert_link.proofs.Links.{place-room, linked-none, linked-back}
+use Rattle.words.proofs.PlaceLaws.{place-room}
+use Rattle.insert_link.proofs.Links.{linked-none, linked-back}
 use Rattle.insert_link.proofs.link_next.Statement.{statement}
 use Rattle.insert_link.proofs.link_next.Tie as tie
 

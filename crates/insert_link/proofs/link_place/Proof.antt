@@ -1,8 +1,7 @@
 -- `insert_link::link_place` meets its contract. Assumes nothing.
 use borrow.Author.Needs.{needs}
-use native.Mathlib.Omega.{arith}
-use Rattle.words.proofs.Fields.{header-long}
-use Rattle.insert_link.proofs.Links.{place-room, linked-front, linked-tag}
+use Rattle.words.proofs.PlaceLaws.{place-room}
+use Rattle.insert_link.proofs.Links.{linked-front, linked-tag}
 use Rattle.insert_link.proofs.link_place.Statement.{statement}
 use Rattle.insert_link.proofs.link_place.Tie as tie
 
@@ -10,7 +9,7 @@ is-none-requires : tie.Need-is-none-requires
 is-none-requires c κs = search needs
 
 slice-write-words : tie.Need-slice-write-words
-slice-write-words c = omega (arith, header-long)
+slice-write-words c = search needs
 
 set-next-requires : tie.Need-set-next-requires
 set-next-requires c κs =

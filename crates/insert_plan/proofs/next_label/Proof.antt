@@ -1,6 +1,6 @@
 -- `insert_plan::next_label` meets its contract. Assumes nothing.
 use borrow.Author.Needs.{needs}
-use Rattle.insert_link.proofs.Links.{place-room}
+use Rattle.words.proofs.PlaceLaws.{place-room}
 use Rattle.insert_plan.proofs.Plans.{next-front, next-tag}
 use Rattle.insert_plan.proofs.next_label.Statement.{statement}
 use Rattle.insert_plan.proofs.next_label.Tie as tie

@@ -3,80 +3,76 @@ use borrow.Author.Needs.{needs}
 use Prim.Native.Nat.{_+_, _-_, _≤_}
 use native.Mathlib.Omega.{arith}
 use native.Mathlib.Nat.{mul-le-mul}
+use Rattle.shape.specs.Tables.{entry-limit}
+use Rattle.shape.specs.Packed.{widths-in, highs-in, numbers-in}
 use Rattle.insert_plan.specs.Parts.{plan-record}
 use Rattle.insert_plan.proofs.Plans.{split-made}
 use Rattle.insert_plan.proofs.split_plan.Statement.{statement}
 use Rattle.insert_plan.proofs.split_plan.Tie as tie
 
-mul-width : tie.Need-mul-width
-mul-width c = search needs
+high-requires : tie.Need-high-requires
+high-requires c κs = omega arith
 
-element-copy-out-width : tie.Need-element-copy-out-width
-element-copy-out-width c = search needs
+add-number : tie.Need-add-number
+add-number c = omega (arith, c .before .pre .height)
 
-mul-t8 : tie.Need-mul-t8
-mul-t8 c = search needs
+number-requires : tie.Need-number-requires
+number-requires c κs = omega (arith, c .before .pre .height)
 
-element-copy-out-t11 : tie.Need-element-copy-out-t11
-element-copy-out-t11 c = search needs
+add-width : tie.Need-add-width
+add-width c = omega (arith, c .before .before .pre .height)
 
-mul-t14 : tie.Need-mul-t14
-mul-t14 c = search needs
+width-requires : tie.Need-width-requires
+width-requires c κs = omega (arith, c .before .before .pre .height)
 
-element-copy-out-t17 : tie.Need-element-copy-out-t17
-element-copy-out-t17 c = search needs
+add-end : tie.Need-add-end
+add-end c =
+    let start = c .before .before .before in
+    omega (arith, c .width .ensures, c .before .number .ensures, start .pre .widths (start .args .h + 1), start .pre .numbers (start .args .h + 1))
 
-add-t18 : tie.Need-add-t18
-add-t18 c = search needs
+number-requires-2 : tie.Need-number-requires-2
+number-requires-2 c κs = omega (arith, c .before .before .before .pre .height)
 
-mul-t19 : tie.Need-mul-t19
-mul-t19 c = search needs
+high-requires-2 : tie.Need-high-requires-2
+high-requires-2 c κs = omega (arith, c .before .before .before .before .pre .height)
 
-element-copy-out-t22 : tie.Need-element-copy-out-t22
-element-copy-out-t22 c = search needs
+sub-t10 : tie.Need-sub-t10
+sub-t10 c = let read = c .before .before .before .before in omega (arith, read .high .ensures, read .before .pre .least)
 
-add-t23 : tie.Need-add-t23
-add-t23 c = search needs
+width-requires-2 : tie.Need-width-requires-2
+width-requires-2 c κs = omega (arith, c .before .before .before .before .before .pre .height)
 
-mul-t24 : tie.Need-mul-t24
-mul-t24 c = search needs
-
-element-copy-out-t27 : tie.Need-element-copy-out-t27
-element-copy-out-t27 c = search needs
-
-add-t28 : tie.Need-add-t28
-add-t28 c =
-    omega (arith, c .before .before .before .before .before .pre .widths (c .before .before .before .before .before .args .h + 1), c .before .before .before .before .before .pre .numbers (c .before .before .before .before .before .args .h + 1))
-
-sub-t29 : tie.Need-sub-t29
-sub-t29 c = search needs
-
-mul-t30 : tie.Need-mul-t30
-mul-t30 c =
-    let few : c .before .before .before .before .before .args .s - 1 ≤ 15 = omega (arith, c .before .before .before .before .before .pre .most) in
-    omega (arith, mul-le-mul few (c .before .before .before .before .before .pre .widths (c .before .before .before .before .before .args .h)))
+mul-t12 : tie.Need-mul-t12
+mul-t12 c =
+    let read = c .before .before .before .before .before in
+    let start = read .before in
+    let few : read .high .result - 1 ≤ 15 = omega (arith, read .high .ensures, start .pre .most) in
+    let wide : c .width2 .result ≤ entry-limit = rw (c .width2 .ensures) (start .pre .widths (start .args .h)) in
+    omega (arith, mul-le-mul few wide)
 
 returns : tie.Need-returns
 unfolding plan-record
-returns c = split-made _ _ _ _ _ _
+returns c =
+    let limit = c .before in
+    let number = limit .before in
+    let end = number .before in
+    let args = end .before .before .before .args in
+    let t = args .tables .now in
+    split-made (widths-in t) (highs-in t) (numbers-in t) (args .h) (args .left .0) (end .before .before .high .ensures) (end .before .number .ensures) (end .width .ensures) (number .number2 .ensures) (limit .high2 .ensures) (c .width2 .ensures)
 
 pub split-plan-spec : {M : Type 1} → statement M
 split-plan-spec =
     tie.close
     (tie.spec
-    mul-width
-    element-copy-out-width
-    mul-t8
-    element-copy-out-t11
-    mul-t14
-    element-copy-out-t17
-    add-t18
-    mul-t19
-    element-copy-out-t22
-    add-t23
-    mul-t24
-    element-copy-out-t27
-    add-t28
-    sub-t29
-    mul-t30
+    high-requires
+    add-number
+    number-requires
+    add-width
+    width-requires
+    add-end
+    number-requires-2
+    high-requires-2
+    sub-t10
+    width-requires-2
+    mul-t12
     returns)

@@ -1,7 +1,6 @@
 -- `renumber::number_leaf` meets its contract. Assumes nothing.
 use borrow.Author.Needs.{needs}
 use Rattle.words.proofs.Fields.{room}
-use Rattle.shape.specs.Sums.{cut}
 use Rattle.renumber.proofs.Rows.{same-label, other-label}
 use Rattle.renumber.proofs.number_leaf.Statement.{statement}
 use Rattle.renumber.proofs.number_leaf.Tie as tie
@@ -19,7 +18,6 @@ same-length : tie.Need-same-length
 same-length c = search needs
 
 returns : tie.Need-returns
-unfolding cut
 returns c =
     let at = c .before .before .before .before in
     (at .set-label .ensures, same-label (at .before .before .label-of .ensures) (c .if1 .taken))
@@ -28,7 +26,6 @@ same-length-2 : tie.Need-same-length-2
 same-length-2 c = search needs
 
 returns-2 : tie.Need-returns-2
-unfolding cut
 returns-2 c =
     let at = c .before .before .before .before in
     (at .set-label .ensures, other-label (at .before .before .label-of .ensures) (c .if1 .left))

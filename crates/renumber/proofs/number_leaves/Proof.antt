@@ -5,31 +5,31 @@ use native.Mathlib.Omega.{arith}
 use lib.Dec.{eqb}
 use Rattle.words.proofs.Fields.{room-with-label}
 use Rattle.store_types.specs.Layout.{label-at}
-use Rattle.shape.specs.Sums.{cut}
 use Rattle.renumber.specs.Needs.{leaves-numbered}
 use Rattle.renumber.proofs.Rows.{On-way, start, tag-room, moved-one, leaf-on, leaves-end, arrived}
 use Rattle.renumber.proofs.number_leaves.Statement.{statement}
 use Rattle.renumber.proofs.number_leaves.Tie as tie
 
 abbrev Inv-loop : tie.InvT-loop
-Inv-loop words₀ n a count width at₀ tag₀ left₀ moved₀ words at tag left moved =
-    On-way (leaves-numbered words₀ width a (tag₀ .0) count) (leaves-numbered words width at (tag .0) left) words₀ words n (tag₀ .0) count (tag .0) left at moved
+Inv-loop words₀ a count width at₀ tag₀ left₀ moved₀ words at tag left moved =
+    On-way (leaves-numbered words₀ width a (tag₀ .0) count) (leaves-numbered words width at (tag .0) left) words₀ words (tag₀ .0) count (tag .0) left at moved
 
 abbrev μ-loop : tie.MeasureT-loop
-μ-loop words₀ n a count width at₀ tag₀ left₀ moved₀ words at tag left moved = left
+μ-loop words₀ a count width at₀ tag₀ left₀ moved₀ words at tag left moved = left
 
 loop-holds : tie.Need-loop-holds Inv-loop μ-loop
-loop-holds c = start _ _ _ _ _ _ (c .before .pre .0) (c .before .pre .1)
+loop-holds c = start _ _ _ _ _ (c .before .pre .0) (c .before .pre .1)
 
 number-leaf-requires : tie.Need-number-leaf-requires Inv-loop μ-loop
 number-leaf-requires c κs =
-    tag-room (c .before .before .loop .inv .row) (c .before .loop-test .taken)
+    let turn = c .before in
+    (tag-room (turn .before .loop .inv .row) (turn .loop-test .taken), turn .before .loop .inv .number)
 
 add-moved : tie.Need-add-moved Inv-loop μ-loop
 add-moved c =
     let turn = c .before .before .before .before in
     let loop = turn .before .loop in
-    let few = rw (← c .before .before .number-leaf .ensures .1) at (moved-one (eqb (label-at (loop .words) (loop .tag .0)) (cut (loop .at)))) in
+    let few = rw (← c .before .before .number-leaf .ensures .1) at (moved-one (eqb (label-at (loop .words) (loop .tag .0)) (loop .at))) in
     omega (arith, few, loop .inv .counted, turn .loop-test .taken, turn .before .before .before .pre .0 .most)
 
 next-of-requires : tie.Need-next-of-requires Inv-loop μ-loop
@@ -37,10 +37,10 @@ next-of-requires c κs =
     let turn = c .before .before .before .before .before in
     rw (c .before .before .before .number-leaf .ensures .0) (room-with-label _ _ _ _ (tag-room (turn .before .loop .inv .row) (turn .loop-test .taken)))
 
-add-at : tie.Need-add-at Inv-loop μ-loop
-add-at c =
+sum-requires : tie.Need-sum-requires Inv-loop μ-loop
+sum-requires c κs =
     let turn = c .before .before .before .before .before .before in
-    omega (arith, turn .before .loop .inv .number, turn .before .before .before .pre .2)
+    (omega (arith, turn .before .loop .inv .number), turn .before .before .before .pre .2)
 
 sub-left : tie.Need-sub-left Inv-loop μ-loop
 sub-left c = omega arith
@@ -49,11 +49,12 @@ loop-less : tie.Need-loop-less Inv-loop μ-loop
 loop-less c = omega arith
 
 loop-again : tie.Need-loop-again Inv-loop μ-loop
-unfolding cut
 loop-again c =
-    let turn = c .before .before .before .before .before .before in
-    let leaf = c .before .before .before .before .number-leaf in
-    leaf-on (turn .before .before .before .args .width) (turn .before .loop .inv) (turn .loop-test .taken) (leaf .last .0) (leaf .result) (c .next-of .result .0) (leaf .ensures .0) (leaf .ensures .1) (c .next-of .ensures)
+    let next = c .before in
+    let leaf = next .before .before .before .before in
+    let turn = leaf .before .before in
+    rw (c .sum .ensures)
+    (leaf-on (turn .before .before .before .args .width) (turn .before .loop .inv) (turn .loop-test .taken) (leaf .number-leaf .last .0) (leaf .number-leaf .result) (next .next-of .result .0) (leaf .number-leaf .ensures .0) (leaf .number-leaf .ensures .1) (next .next-of .ensures))
 
 same-length : tie.Need-same-length Inv-loop μ-loop
 same-length c = c .before .loop .inv .long
@@ -74,7 +75,7 @@ number-leaves-spec =
     number-leaf-requires
     add-moved
     next-of-requires
-    add-at
+    sum-requires
     sub-left
     loop-less
     loop-again

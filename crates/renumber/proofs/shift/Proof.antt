@@ -3,32 +3,40 @@
 use Prim.Native.Nat.{_-_, _≤_, _<_}
 use native.Mathlib.Omega.{arith}
 use borrow.Author.Tests.{ltb-true, ltb-false}
-use Rattle.store_types.specs.Layout.{label-at, Room}
-use Rattle.shape.specs.Sums.{cut}
+use Rattle.store_types.specs.Layout.{at-count, word-at, label-at, Room}
 use Rattle.edit_model.specs.Relabel.{shift}
-use Rattle.words.proofs.Fields.{room, room-with-label}
+use Rattle.words.proofs.Fields.{room, room-with-label, header-long}
 use Rattle.renumber.proofs.Shifts.{Shifting, shift-start, shift-on, shift-end, shift-spent, shift-out, shift-far}
 use Rattle.renumber.proofs.shift.Statement.{statement}
 use Rattle.renumber.proofs.shift.Tie as tie
 
 abbrev Inv-loop : tie.InvT-loop
-Inv-loop words₀ n bound by tag₀ moved₀ words tag moved =
+Inv-loop words₀ bound by n tag₀ moved₀ words tag moved =
     Shifting (shift n n words₀ (tag₀ .0) bound by) words₀ words n (tag .0) bound by moved
 
 abbrev μ-loop : tie.MeasureT-loop
-μ-loop words₀ n bound by tag₀ moved₀ words tag moved = n - moved
+μ-loop words₀ bound by n tag₀ moved₀ words tag moved = n - moved
 
--- in a turn the tag is one of n, and has a record
-below : (c : tie.Then1 Inv-loop μ-loop) → c .before .before .before .loop .tag .0 < c .before .before .before .before .before .args .n
+-- where it started, and in a turn: the tag is one of n, and has a record
+abbrev first : tie.At-loop Inv-loop μ-loop → tie.Start Inv-loop μ-loop
+first c = c .before .before .before
+
+abbrev at-loop : tie.Then1 Inv-loop μ-loop → tie.At-loop Inv-loop μ-loop
+at-loop c = c .before .before .before
+
+below : (c : tie.Then1 Inv-loop μ-loop) → at-loop c .loop .tag .0 < word-at (first (at-loop c) .args .words .now) at-count
 below c = ltb-true _ _ (c .if1 .taken)
 
-there : (c : tie.Then1 Inv-loop μ-loop) → Room (c .before .before .before .loop .words) (c .before .before .before .loop .tag .0)
-there c = room (c .before .before .before .loop .inv .records) (below c)
+there : (c : tie.Then1 Inv-loop μ-loop) → Room (at-loop c .loop .words) (at-loop c .loop .tag .0)
+there c = room (at-loop c .loop .inv .records) (below c)
+
+slice-read-n : tie.Need-slice-read-n Inv-loop μ-loop
+slice-read-n c = omega (arith, header-long (c .before .before .pre .0))
 
 loop-holds : tie.Need-loop-holds Inv-loop μ-loop
 loop-holds c =
-    let args = c .before .args in
-    shift-start (args .words .now) (args .n) (args .x .0) (args .bound) (args .by) (c .before .pre .0)
+    let args = c .before .before .args in
+    shift-start (args .words .now) (word-at (args .words .now) at-count) (args .x .0) (args .bound) (args .by) (c .before .before .pre .0)
 
 label-of-requires : tie.Need-label-of-requires Inv-loop μ-loop
 label-of-requires c κs = there (c .before)
@@ -37,18 +45,18 @@ cast-if2 : tie.Need-cast-if2 Inv-loop μ-loop
 cast-if2 c = omega (arith, c .struct-known2 .given)
 
 same-length : tie.Need-same-length Inv-loop μ-loop
-same-length c = c .before .before .before .before .before .before .before .loop .inv .long
+same-length c = at-loop (c .before .before .before .before) .loop .inv .long
 
 returns : tie.Need-returns Inv-loop μ-loop
 returns c =
     let turn = c .before .before .before .before in
-    let loop = turn .before .before .before .loop in
-    let args = turn .before .before .before .before .before .args in
+    let loop = at-loop turn .loop in
+    let args = first (at-loop turn) .args in
     let far : args .bound ≤ label-at (loop .words) (loop .tag .0) = omega (arith, c .before .before .label-of .ensures) in
     shift-end (loop .inv) (shift-far _ _ (loop .words) (loop .tag .0) (args .bound) (args .by) far)
 
 raised-requires : tie.Need-raised-requires Inv-loop μ-loop
-raised-requires c κs = c .before .before .before .before .before .before .before .before .before .before .pre .1
+raised-requires c κs = first (at-loop (c .before .before .before .before .before)) .pre .1
 
 set-label-requires : tie.Need-set-label-requires Inv-loop μ-loop
 set-label-requires c κs = there (c .before .before .before .before .before .before)
@@ -65,13 +73,12 @@ loop-less : tie.Need-loop-less Inv-loop μ-loop
 loop-less c = omega arith
 
 loop-again : tie.Need-loop-again Inv-loop μ-loop
-unfolding cut
 loop-again c =
     let set = c .before .before .before .before in
     let read = set .before .before .before .before .before in
     let turn = read .before .before in
-    let loop = turn .before .before .before .loop in
-    let args = turn .before .before .before .before .before .args in
+    let loop = at-loop turn .loop in
+    let args = first (at-loop turn) .args in
     let same = read .label-of .ensures in
     let near : label-at (loop .words) (loop .tag .0) < args .bound = omega (arith, same, set .before .before .before .if2 .left) in
     let put = rw (set .before .raised .ensures, same) at (set .set-label .ensures) in
@@ -83,8 +90,8 @@ same-length-2 c = c .before .before .before .loop .inv .long
 returns-2 : tie.Need-returns-2 Inv-loop μ-loop
 returns-2 c =
     let loop = c .before .before .before .loop in
-    let args = c .before .before .before .before .before .args in
-    shift-end (loop .inv) (shift-out _ (args .n) (loop .words) (loop .tag .0) (args .bound) (args .by) (ltb-false _ _ (c .if1 .left)))
+    let args = first (c .before .before .before) .args in
+    shift-end (loop .inv) (shift-out _ (word-at (args .words .now) at-count) (loop .words) (loop .tag .0) (args .bound) (args .by) (ltb-false _ _ (c .if1 .left)))
 
 same-length-3 : tie.Need-same-length-3 Inv-loop μ-loop
 same-length-3 c = c .before .loop .inv .long
@@ -92,8 +99,8 @@ same-length-3 c = c .before .loop .inv .long
 returns-3 : tie.Need-returns-3 Inv-loop μ-loop
 returns-3 c =
     let loop = c .before .loop in
-    let args = c .before .before .before .args in
-    shift-end (loop .inv) (shift-spent _ (args .n) (loop .words) (loop .tag .0) (args .bound) (args .by) (omega arith))
+    let args = first (c .before) .args in
+    shift-end (loop .inv) (shift-spent _ (word-at (args .words .now) at-count) (loop .words) (loop .tag .0) (args .bound) (args .by) (omega arith))
 
 pub shift-spec : {M : Type 1} → statement M
 shift-spec =
@@ -101,6 +108,7 @@ shift-spec =
     (tie.spec
     Inv-loop
     μ-loop
+    slice-read-n
     loop-holds
     label-of-requires
     cast-if2

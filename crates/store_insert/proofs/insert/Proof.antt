@@ -12,17 +12,22 @@ use Rattle.store_insert.proofs.Replies.{refused-all, stamp-fits, accept
 use Rattle.store_insert.proofs.insert.Statement.{statement}
 use Rattle.store_insert.proofs.insert.Tie as tie
 
--- where it is not refused
-accepted : (c : tie.Else1) → insert-refused (c .before .before .before .before .before .args .kind) (c .before .before .before .before .before .args .place .0) (c .before .before .before .before .before .args .words .now) ≡ 0
+-- where the call is refused or not, and where the change is made
+abbrev call : tie.After-insert-refused → tie.Start
+call c = c .before .before .before .before .before
+
+abbrev test : tie.After-change → tie.Else1
+test c = c .before .before .before .before .before
+
+accepted : (c : tie.Else1) → let args = call (c .before) .args in insert-refused (args .kind) (args .place .0) (args .words .now) ≡ 0
 accepted c = sym (c .before .insert-refused .ensures .0) ∙ c .if1 .left
+
+long-before : (c : tie.Else1) → header-words ≤ length (call (c .before) .args .words .now)
+long-before c = let args = call (c .before) .args in header-room (args .words .now) (says-accepted _ (args .kind) (args .place .0) (accepted c))
 
 -- the words after the change are as many
 long : (c : tie.After-slice-known4) → header-words ≤ length (c .before .before .before .change .last .1 .1 .0)
-long c =
-    let done = c .before .before .before in
-    let test = done .before .before .before .before in
-    let start = test .before .before .before .before .before in
-    omega (arith, done .change .kept, header-room (start .args .words .now) (says-accepted _ (start .args .kind) (start .args .place .0) (accepted test)))
+long c = let done = c .before .before .before in omega (arith, done .change .kept, long-before (test done))
 
 insert-refused-requires : tie.Need-insert-refused-requires
 insert-refused-requires c κs = search needs
@@ -34,19 +39,21 @@ returns : tie.Need-returns
 returns c = refused-all _ _ _ (c .before .insert-refused .ensures .0) (c .if1 .taken)
 
 slice-read-n : tie.Need-slice-read-n
-slice-read-n c =
-    omega (arith, header-room (c .before .before .before .before .before .before .args .words .now) (says-accepted _ (c .before .before .before .before .before .before .args .kind) (c .before .before .before .before .before .before .args .place .0) (accepted (c .before))))
+slice-read-n c = omega (arith, long-before (c .before))
 
 change-requires : tie.Need-change-requires
 change-requires c κs =
-    (accepted (c .before .before .before), c .before .before .before .before .insert-refused .ensures .1 (c .before .before .before .if1 .left))
+    let passed = c .before .before .before .before in
+    let found = passed .before .insert-refused .ensures .1 in
+    (accepted passed, found .0 (passed .if1 .left), found .1 (passed .if1 .left))
 
 slice-read-words : tie.Need-slice-read-words
 slice-read-words c = omega (arith, long c)
 
 add-words : tie.Need-add-words
 add-words c =
-    omega (arith, stamp-fits _ _ _ (accepted (c .before .before .before .before .before .before .before)) (c .before .before .before .change .ensures) (long c))
+    let done = c .before .before .before in
+    omega (arith, stamp-fits _ _ _ (accepted (test done)) (done .change .ensures) (long c))
 
 slice-write-words : tie.Need-slice-write-words
 slice-write-words c = omega (arith, long c)
@@ -56,7 +63,8 @@ same-length-2 c = search needs
 
 returns-2 : tie.Need-returns-2
 returns-2 c =
-    accepted-all _ _ _ (accepted (c .before .before .before .before .before .before .before)) (c .before .before .before .change .ensures)
+    let done = c .before .before .before in
+    accepted-all _ _ _ (accepted (test done)) (done .change .ensures)
 
 pub insert-spec : {M : Type 1} → statement M
 insert-spec =

@@ -17,9 +17,6 @@ add-add-tag-2 c = omega (arith, room-for-two (c .before .before .before .before 
 add-tag-requires-2 : tie.Need-add-tag-requires-2
 add-tag-requires-2 c κs = let put = c .before .before .before in end-next (put .before .before .before .pre .0) (put .add-tag .ensures)
 
-add-put : tie.Need-add-put
-add-put c = omega (arith, room-for-two (c .before .before .before .before .before .before .before .before .before .before .pre .0) .few)
-
 put-requires : tie.Need-put-requires
 put-requires c κs =
     let second = c .before .before .before in
@@ -46,7 +43,6 @@ insert-both-spec =
     add-tag-requires
     add-add-tag-2
     add-tag-requires-2
-    add-put
     put-requires
     same-length
     returns)

@@ -5,14 +5,11 @@ use Rattle.store_insert.proofs.Elements.{begin-tag, room-for-two, turn-
 use Rattle.store_insert.proofs.insert_in_turn.Statement.{statement}
 use Rattle.store_insert.proofs.insert_in_turn.Tie as tie
 
-add-put : tie.Need-add-put
-add-put c = omega (arith, room-for-two (c .before .before .pre) .few)
+add-t11 : tie.Need-add-t11
+add-t11 c = omega (arith, room-for-two (c .before .before .pre) .few)
 
 add-tag-requires : tie.Need-add-tag-requires
 add-tag-requires c κs = begin-tag (c .before .before .pre)
-
-add-put-2 : tie.Need-add-put-2
-add-put-2 c = omega (arith, room-for-two (c .before .before .before .before .before .before .pre) .few)
 
 put-requires : tie.Need-put-requires
 put-requires c κs = let put = c .before .before .before in turn-put (put .before .before .before .pre) (put .add-tag .ensures)
@@ -37,9 +34,8 @@ pub insert-in-turn-spec : {M : Type 1} → statement M
 insert-in-turn-spec =
     tie.close
     (tie.spec
-    add-put
+    add-t11
     add-tag-requires
-    add-put-2
     put-requires
     insert-end-requires
     same-length

@@ -1,15 +1,11 @@
 -- `store_insert::insert_text` meets its contract. Assumes nothing.
 use borrow.Author.Needs.{needs}
-use native.Mathlib.Omega.{arith}
 use Rattle.store_insert.proofs.Texts.{text-tag, text-put, text-edits}
 use Rattle.store_insert.proofs.insert_text.Statement.{statement}
 use Rattle.store_insert.proofs.insert_text.Tie as tie
 
 add-tag-requires : tie.Need-add-tag-requires
 add-tag-requires c κs = text-tag (c .before .before .pre)
-
-add-put : tie.Need-add-put
-add-put c = omega (arith, text-tag (c .before .before .before .before .before .before .pre) .records .few)
 
 put-requires : tie.Need-put-requires
 put-requires c κs = let put = c .before .before .before in text-put (put .before .before .before .pre) (put .add-tag .ensures)
@@ -24,4 +20,4 @@ returns c =
     text-edits (put .before .before .before .pre) (put .add-tag .ensures) (done .put .ensures)
 
 pub insert-text-spec : {M : Type 1} → statement M
-insert-text-spec = tie.close (tie.spec add-tag-requires add-put put-requires same-length returns)
+insert-text-spec = tie.close (tie.spec add-tag-requires put-requires same-length returns)

@@ -2,33 +2,31 @@
 -- (Climbing). The measure is how many are left. Assumes nothing.
 use Prim.Native.Nat.{_+_, _-_}
 use native.Mathlib.Omega.{arith}
+use Rattle.shape.specs.Packed.{highs-in}
 use Rattle.edit_model.specs.Split.{highest-full}
 use Rattle.renumber.proofs.Splits.{Climbing, climb-start, climb-on, climb-end}
 use Rattle.renumber.proofs.ancestors.highest_full.Statement.{statement}
 use Rattle.renumber.proofs.ancestors.highest_full.Tie as tie
 
 abbrev Inv-loop : tie.InvT-loop
-Inv-loop k under highs sizes found₀ h₀ found h =
-    Climbing (highest-full highs sizes k under 1 0) highs sizes k under h found
+Inv-loop k under tables sizes found₀ h₀ found h =
+    Climbing (highest-full (highs-in tables) sizes k under 1 0) (highs-in tables) sizes k under h found
 
 abbrev μ-loop : tie.MeasureT-loop
-μ-loop k under highs sizes found₀ h₀ found h =
+μ-loop k under tables sizes found₀ h₀ found h =
     under + 1 - h
 
 loop-holds : tie.Need-loop-holds Inv-loop μ-loop
 loop-holds c = climb-start _ _ _ _
+
+high-requires : tie.Need-high-requires Inv-loop μ-loop
+high-requires c κs = omega (arith, c .before .before .pre, c .loop-test .taken)
 
 mul-is-full : tie.Need-mul-is-full Inv-loop μ-loop
 mul-is-full c = omega arith
 
 element-copy-out-is-full : tie.Need-element-copy-out-is-full Inv-loop μ-loop
 element-copy-out-is-full c = omega arith
-
-mul-is-full-2 : tie.Need-mul-is-full-2 Inv-loop μ-loop
-mul-is-full-2 c = omega arith
-
-element-copy-out-is-full-2 : tie.Need-element-copy-out-is-full-2 Inv-loop μ-loop
-element-copy-out-is-full-2 c = omega arith
 
 is-full-requires : tie.Need-is-full-requires Inv-loop μ-loop
 is-full-requires c κs = tt
@@ -44,7 +42,8 @@ loop-less c = omega arith
 
 loop-again : tie.Need-loop-again Inv-loop μ-loop
 loop-again c =
-    climb-on (c .before .before .before .before .before .loop .inv) (c .before .before .before .before .loop-test .taken) (c .before .is-full .ensures) (c .higher .ensures)
+    let read = c .before .before .before in
+    climb-on (read .before .before .loop .inv) (read .before .loop-test .taken) (rw (read .high .ensures) at (c .before .is-full .ensures)) (c .higher .ensures)
 
 returns : tie.Need-returns Inv-loop μ-loop
 returns c = climb-end (c .before .loop .inv) (c .loop-test .left)
@@ -56,10 +55,9 @@ highest-full-spec =
     Inv-loop
     μ-loop
     loop-holds
+    high-requires
     mul-is-full
     element-copy-out-is-full
-    mul-is-full-2
-    element-copy-out-is-full-2
     is-full-requires
     higher-requires
     add-h

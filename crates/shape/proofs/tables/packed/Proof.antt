@@ -13,11 +13,8 @@ with-part-requires-2 c κs = search needs
 with-part-requires-3 : tie.Need-with-part-requires-3
 with-part-requires-3 c κs = search needs
 
-with-part-requires-4 : tie.Need-with-part-requires-4
-with-part-requires-4 c κs = search needs
-
 returns : tie.Need-returns
-returns c = packed (c .before .before .before .with-part .ensures) (c .before .before .with-part2 .ensures) (c .before .with-part3 .ensures) (c .with-part4 .ensures)
+returns c = packed (c .before .before .with-part .ensures) (c .before .with-part2 .ensures) (c .with-part3 .ensures)
 
 pub packed-spec : {M : Type 1} → statement M
 packed-spec =
@@ -26,5 +23,4 @@ packed-spec =
     with-part-requires
     with-part-requires-2
     with-part-requires-3
-    with-part-requires-4
     returns)

@@ -1,8 +1,8 @@
--- `insert_link::up_at` meets its contract. Assumes nothing.
+-- `words::places::up_at` meets its contract. Assumes nothing.
 use borrow.Author.Needs.{needs}
-use Rattle.insert_link.proofs.Links.{place-room, up-front, up-begin, up-other}
-use Rattle.insert_link.proofs.up_at.Statement.{statement}
-use Rattle.insert_link.proofs.up_at.Tie as tie
+use Rattle.words.proofs.PlaceLaws.{place-room, up-front, up-begin, up-other}
+use Rattle.words.proofs.places.up_at.Statement.{statement}
+use Rattle.words.proofs.places.up_at.Tie as tie
 
 is-none-requires : tie.Need-is-none-requires
 is-none-requires c κs = search needs

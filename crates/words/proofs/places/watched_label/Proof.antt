@@ -1,10 +1,10 @@
--- `walk_levels::ancestors::watched_label` meets its contract. Assumes nothing.
+-- `words::places::watched_label` meets its contract. Assumes nothing.
 use borrow.Author.Needs.{needs}
 use native.Mathlib.Omega.{arith}
 use Rattle.words.proofs.Fields.{header-long, room}
-use Rattle.walk_levels.proofs.AncestorNumbers.{label-tag, label-none}
-use Rattle.walk_levels.proofs.ancestors.watched_label.Statement.{statement}
-use Rattle.walk_levels.proofs.ancestors.watched_label.Tie as tie
+use Rattle.words.proofs.PlaceLaws.{label-tag, label-none}
+use Rattle.words.proofs.places.watched_label.Statement.{statement}
+use Rattle.words.proofs.places.watched_label.Tie as tie
 
 shared-slice-read-if1 : tie.Need-shared-slice-read-if1
 shared-slice-read-if1 c = omega (arith, header-long)

@@ -1,16 +1,15 @@
--- `insert_link::behind` meets its contract. Assumes nothing.
+-- `words::places::behind` meets its contract. Assumes nothing.
 use borrow.Author.Needs.{needs}
 use native.Mathlib.Omega.{arith}
-use Rattle.words.proofs.Fields.{header-long}
-use Rattle.insert_link.proofs.Links.{place-room, behind-front, behind-tag}
-use Rattle.insert_link.proofs.behind.Statement.{statement}
-use Rattle.insert_link.proofs.behind.Tie as tie
+use Rattle.words.proofs.PlaceLaws.{place-room, behind-front, behind-tag}
+use Rattle.words.proofs.places.behind.Statement.{statement}
+use Rattle.words.proofs.places.behind.Tie as tie
 
 is-none-requires : tie.Need-is-none-requires
 is-none-requires c κs = search needs
 
-shared-slice-read-t6 : tie.Need-shared-slice-read-t6
-shared-slice-read-t6 c = omega (arith, header-long)
+shared-slice-read-t5 : tie.Need-shared-slice-read-t5
+shared-slice-read-t5 c = search needs
 
 returns : tie.Need-returns
 returns c = behind-front _ _ (c .before .before .is-none .ensures) (c .before .if1 .taken)
@@ -23,4 +22,4 @@ returns-2 c = behind-tag _ _ (c .before .before .is-none .ensures) (c .before .i
 
 pub behind-spec : {M : Type 1} → statement M
 behind-spec =
-    tie.close (tie.spec is-none-requires shared-slice-read-t6 returns next-of-requires returns-2)
+    tie.close (tie.spec is-none-requires shared-slice-read-t5 returns next-of-requires returns-2)
