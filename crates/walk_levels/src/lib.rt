@@ -7,16 +7,26 @@ ghost use Prim.Native.Nat.{_+_, _-_, _≤_, _<_};
 ghost use lib.Dec.{eqb};
 ghost use lib.ListN.{getD};
 ghost use Rattle.walk_model.specs.Watch.{settle-sizes, close-sizes};
+ghost use Rattle.shape.specs.Tables.{entry-limit};
 ghost use Rattle.shape.specs.Packed.{widths-in, lows-in, highs-in, numbers-in};
 ghost use Rattle.walk_levels.specs.Needs.{Levels-fit, Tables-fit, levels-of, closes-from, settle-from, close-from, expected-label};
 use store_types::Label;
+
+// Where a node of a height ends that begins at a number. Nothing is cut: where the words say no store, an end may pass every
+// label.
+fn end_at(begin: u64, h: usize, tables: &[u64; 96]) -> u64
+    requires { ⌜ (h < 24) × (begin ≤ entry-limit) × (getD (widths-in (now tables)) h 0 ≤ entry-limit) ⌝ }
+    ensures { λ v. ⌜ v ≡ begin + getD (widths-in (now (tables .entry))) h 0 ⌝ }
+{
+    begin + shape::tables::width(tables, h)
+}
 
 // Where the watched node of a height ends.
 fn watched_end(tables: &[u64; 96], h: usize) -> u64
     requires { ⌜ (h < 24) × Tables-fit h (now tables) ⌝ }
     ensures { λ v. ⌜ v ≡ getD (numbers-in (now (tables .entry))) h 0 + getD (widths-in (now (tables .entry))) h 0 ⌝ }
 {
-    shape::tables::number(tables, h) + shape::tables::width(tables, h)
+    end_at(shape::tables::number(tables, h), h, tables)
 }
 
 // Whether a node of height h whose first leaf is at place first is within its limits where the next leaf is at place.
@@ -66,7 +76,7 @@ pub fn settle(
         }
         sizes[h] = watched(end, watched_end(tables, h), firsts[h], place, sizes[h]);
         exact = end == l;
-        ends[h] = l + shape::tables::width(tables, h);
+        ends[h] = end_at(l, h, tables);
         firsts[h] = place;
         h += 1;
     }

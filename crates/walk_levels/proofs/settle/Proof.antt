@@ -89,14 +89,12 @@ mul-sizes c = omega arith
 element-write-sizes : tie.Need-element-write-sizes Inv-loop μ-loop
 element-write-sizes c = omega arith
 
-width-requires : tie.Need-width-requires Inv-loop μ-loop
-width-requires c κs =
-    let at = turn (closed c) in omega (arith, at .loop-test .taken, at .before .before .before .pre .0 .height)
-
-add-ends : tie.Need-add-ends Inv-loop μ-loop
-add-ends c =
-    let at = turn (closed (c .before)) .before in
-    omega (arith, c .width .ensures, at .before .struct-known .given, at .before .before .pre .0 .widths (at .loop .h))
+end-at-requires : tie.Need-end-at-requires Inv-loop μ-loop
+end-at-requires c κs =
+    let at = turn (closed c) in
+    let start = at .before .before in
+    let fit = start .before .pre .0 in
+    (omega (arith, at .loop-test .taken, fit .height), omega (arith, start .struct-known .given), fit .widths (at .before .loop .h))
 
 mul-ends : tie.Need-mul-ends Inv-loop μ-loop
 mul-ends c = omega arith
@@ -123,8 +121,8 @@ loop-again c =
     let test = turn closing .loop-test .taken in (
       omega arith,
       omega arith,
-      rw (c .width .ensures) (settle-more _ _ _ _ _ _ _ _ _ _ (at .loop .inv .2) test (closing .before .before .if1 .left) (closing .closes .ensures) (c .before .before .before .before .before .if2 .left)),
-      rw (c .width .ensures) (sizes-more _ _ _ _ _ _ _ _ _ (at .loop .inv .3) test (closing .before .before .if1 .left) (rw (c .before .before .before .before .watched-end .ensures) at (c .before .watched .ensures))),
+      rw (c .end-at .ensures) (settle-more _ _ _ _ _ _ _ _ _ _ (at .loop .inv .2) test (closing .before .before .if1 .left) (closing .closes .ensures) (c .before .before .before .before .before .if2 .left)),
+      rw (c .end-at .ensures) (sizes-more _ _ _ _ _ _ _ _ _ (at .loop .inv .3) test (closing .before .before .if1 .left) (rw (c .before .before .before .before .watched-end .ensures) at (c .before .watched .ensures))),
     )
 
 mul-result : tie.Need-mul-result Inv-loop μ-loop
@@ -168,8 +166,7 @@ settle-spec =
     watched-requires
     mul-sizes
     element-write-sizes
-    width-requires
-    add-ends
+    end-at-requires
     mul-ends
     element-write-ends
     mul-firsts

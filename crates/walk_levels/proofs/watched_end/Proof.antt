@@ -7,14 +7,13 @@ use Rattle.walk_levels.proofs.watched_end.Tie as tie
 number-requires : tie.Need-number-requires
 number-requires c κs = search needs
 
-width-requires : tie.Need-width-requires
-width-requires c κs = search needs
-
-add-result : tie.Need-add-result
-add-result c = omega (arith, c .width .ensures, c .before .number .ensures, c .before .before .pre .1 .0 .widths (c .before .before .args .h), c .before .before .pre .1 .1 (c .before .before .args .h))
+end-at-requires : tie.Need-end-at-requires
+end-at-requires c κs =
+    let start = c .before in
+    (start .pre .0, rw (c .number .ensures) (start .pre .1 .1 (start .args .h)), start .pre .1 .0 .widths (start .args .h))
 
 returns : tie.Need-returns
-returns c = search needs
+returns c = rw (← c .before .number .ensures) (c .end-at .ensures)
 
 pub watched-end-spec : {M : Type 1} → statement M
-watched-end-spec = tie.close (tie.spec number-requires width-requires add-result returns)
+watched-end-spec = tie.close (tie.spec number-requires end-at-requires returns)
