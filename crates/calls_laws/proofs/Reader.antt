@@ -13,7 +13,7 @@ use lib.ListN.{length, getD, drop, length-map, length-append}
 use lib.Seq.{drop-cons, drop-length, ext-getD}
 use Rattle.store_types.specs.Limits.{no-tag}
 use Rattle.lists.proofs.Tests.{and-left, and-right, and-both, by-test}
-use Rattle.store_types.specs.Layout.{header-words, words-for, label-at}
+use Rattle.store_types.specs.Layout.{header-words, words-for, label-at, field, at-next}
 use Rattle.lists.specs.Lists.{numbers}
 use Rattle.lists.proofs.Numbers.{length-numbers, getD-numbers}
 use Rattle.tree.specs.Book.{height, label-of, labels-of, root-within, book-within}
@@ -48,6 +48,12 @@ kind-back end true = (refl, refl)
 kind-back end false = (refl, refl)
 kind-back text true = (refl, refl)
 kind-back text false = (refl, refl)
+
+-- along next there are as many tags as are asked for
+pub length-follow : (n : ℕ) (ws : List ℕ) (x : ℕ) → length (follow n ws x) ≡ n
+unfolding follow
+length-follow zero ws x = refl
+length-follow (suc n) ws x = ap suc (length-follow n ws (field ws x at-next))
 
 -- THE STORE BACK FROM ITS WORDS, with anything after them
 module _ (st : Store) (rest : List ℕ) (h : Sound st) where

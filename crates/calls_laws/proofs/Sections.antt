@@ -209,21 +209,18 @@ module _ {st : Store} (h : Sound st) (x : ℕ) (l : x < count st) where
   pub up-fits : (fact st x .up ≡ no-tag) ⊎ (fact st x .up < count st)
   up-fits = let a = pass-at h x l in chain-either (fact st x .up) (up-chain a (a .step))
 
-  -- every mate is a tag, of which this is the mate
+  -- every mate is a tag
   chain-tag : (o : ℕ) → Tag o → Chain (st .facts) (λ d. d < count st) no-tag o → o < count st
   chain-tag o t (bottom e) = absurd (t e)
   chain-tag o t (above b mark k c) = k
 
-  mates : (a : At st x) → Step (st .facts) no-tag (a .before) x (a .behind) → (fact st x .mate < count st) × (fact st (fact st x .mate) .mate ≡ x)
-  mates a (begins s) =
+  mate-tag : (a : At st x) → Step (st .facts) no-tag (a .before) x (a .behind) → fact st x .mate < count st
+  mate-tag a (begins s) =
       let c = closed-at a s in
       let m = fact st x .mate in
-      (row-below h m (member-of-drop m (suc (place-of st x)) (row st) (rw (c .whole) (member-middle m (c .inside) (c .behind)))), c .closes .mate)
-  mates a (ends shut s) = rw (s .mate) (chain-tag (a .before) shut (a .chain), s .back)
-  mates a (stands s) = rw (s .mate) (l, s .mate)
+      row-below h m (member-of-drop m (suc (place-of st x)) (row st) (rw (c .whole) (member-middle m (c .inside) (c .behind))))
+  mate-tag a (ends shut s) = rw (s .mate) (chain-tag (a .before) shut (a .chain))
+  mate-tag a (stands s) = rw (s .mate) l
 
   pub mate-fits : fact st x .mate < count st
-  mate-fits = let a = pass-at h x l in mates a (a .step) .0
-
-  pub mate-back : fact st (fact st x .mate) .mate ≡ x
-  mate-back = let a = pass-at h x l in mates a (a .step) .1
+  mate-fits = let a = pass-at h x l in mate-tag a (a .step)

@@ -10,7 +10,7 @@ use lib.Seq.{drop-drop}
 use Rattle.store_types.specs.Limits.{no-tag, most-tags}
 use Rattle.store_types.specs.Layout.{header-words, tag-words, words-for}
 use Rattle.lists.proofs.Tests.{fails}
-use Rattle.shape.specs.Tables.{widths-of}
+use Rattle.shape.specs.Tables.{widths-of, table-length}
 use Rattle.words.proofs.Fields.{words-next}
 use Rattle.tree.specs.Book.{height, tags, labels-of, root-full, inserted, split-of, moved}
 use Rattle.tree.specs.Promise.{Widths, Step, Second-tag}
@@ -69,7 +69,7 @@ module _ (ws : List ℕ) (st : Store) (says : Says ws st) (p : ℕ) (fits : p �
     room-one : words-for header-words (suc (count st)) ≤ length ws
     room-one = omega (arith, words-next (suc (count st)))
 
-    low : book-with p st .under ≤ 22
+    low : height (book-with p st) < table-length
     low = omega (arith, not-higher, sound-height own)
 
     -- it is numbered by the same widths

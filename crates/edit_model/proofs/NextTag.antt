@@ -10,7 +10,7 @@ use lib.Dec.{eqb}
 use lib.ListN.{length, getD, drop, replicate}
 use Rattle.store_types.specs.Limits.{no-tag, most-tags}
 use Rattle.store_types.specs.Layout.{at-count, tag-words, word-at, label-at}
-use Rattle.shape.specs.Tables.{entry}
+use Rattle.shape.specs.Tables.{entry, table-length}
 use Rattle.tree.specs.Row.{insert-at}
 use Rattle.tree.specs.Forest.{size, labels}
 use Rattle.tree.specs.Book.{Book, height, tags, labels-of, inserted, split-of}
@@ -34,7 +34,7 @@ use Rattle.edit_model.proofs.Plans.{cut-low}
 use Rattle.edit_model.proofs.Single.{flat-labels, flat-with}
 use Rattle.edit_model.proofs.Renumbered.{Right, renumbered-words}
 
-module _ (m : Book) (fine : Sane m) (w : ℕ → ℕ) (widths : Widths (m .s) (m .r) w) (p : ℕ) (fits : suc p ≤ size (m .root)) (none : split-of (suc p) m ≡ 0) (low : m .under ≤ 22)
+module _ (m : Book) (fine : Sane m) (w : ℕ → ℕ) (widths : Widths (m .s) (m .r) w) (p : ℕ) (fits : suc p ≤ size (m .root)) (none : split-of (suc p) m ≡ 0) (low : height m < table-length)
     {v : Image} (h : Proper v) (few : suc (length (v .facts)) ≤ most-tags) (tags-are : v .tags ≡ tags m) (labels-are : v .labels ≡ labels-of w m)
     (table : List ℕ) (wide : (i : ℕ) → i ≤ m .under → entry table i ≡ w i) (next-wide : entry table 1 ≡ w 1)
     (u : Fact) (rest : List ℕ) where
@@ -60,7 +60,7 @@ module _ (m : Book) (fine : Sane m) (w : ℕ → ℕ) (widths : Widths (m .s) (m
   own-label = label-of-place h rest p no-tag in-row ∙ rw labels-are
 
   -- the numbers of its ancestors
-  numbers-are : numbers-at words table (m .under) place ≡ ancestor-numbers table (m .under) (getD (labels-of w m) (suc p - 1) 0) 0 (replicate 24 0)
+  numbers-are : numbers-at words table (m .under) place ≡ ancestor-numbers table (m .under) (getD (labels-of w m) (suc p - 1) 0) 0 (replicate table-length 0)
   unfolding numbers-at image-header
   numbers-are =
       let before : suc p - 1 ≡ p = omega arith in

@@ -11,7 +11,7 @@ use lib.Seq.{getD-append-add}
 use Rattle.store_types.specs.Limits.{no-tag}
 use Rattle.store_types.specs.Layout.{label-at}
 use Rattle.lists.proofs.Tests.{by-test}
-use Rattle.shape.specs.Tables.{entry, widths-of, highs-of}
+use Rattle.shape.specs.Tables.{entry, widths-of, highs-of, table-length}
 use Rattle.tree.specs.Good.{Good}
 use Rattle.tree.specs.Forest.{Forest, nil, leaf, node, leaves, size, labels, split-height}
 use Rattle.tree.specs.Book.{height, labels-of, root-full, split-of}
@@ -62,10 +62,10 @@ abbrev pub place-tag : Store → (p : ℕ) → ℕ
 place-tag st p = getD (no-tag ∷ row st) p no-tag
 
 abbrev pub numbers-before : (ws : List ℕ) → Store → (p : ℕ) → List ℕ
-numbers-before ws st p = ancestor-numbers (widths-of ws) (st .book .under) (getD (labels-of (width st) (st .book)) (p - 1) 0) 0 (replicate 24 0)
+numbers-before ws st p = ancestor-numbers (widths-of ws) (st .book .under) (getD (labels-of (width st) (st .book)) (p - 1) 0) 0 (replicate table-length 0)
 
 abbrev pub sizes-before : (ws : List ℕ) → Store → (p : ℕ) → List ℕ
-sizes-before ws st p = sizes-at ws (place-tag st p) (replicate 24 0)
+sizes-before ws st p = sizes-at ws (place-tag st p) (replicate table-length 0)
 
 -- the height that is found by them for m tags
 abbrev pub height-found : (ws : List ℕ) → Store → (p m : ℕ) → ℕ
@@ -111,7 +111,7 @@ module _ (ws : List ℕ) (st : Store) (says : Says ws st) where
   tables-said : Tables-right (st .book .s) (st .book .r) (width st) (height (st .book)) (shape-of ws .tables)
   tables-said = rw (width-said ws st says) at (tables-right (header-facts-said ws st says))
 
-  low-enough : st .book .under ≤ 22
+  low-enough : height (st .book) < table-length
   low-enough = omega (arith, tables-said .top-fits)
 
   pub widths-right : (h : ℕ) → h ≤ height (st .book) → entry (widths-of ws) h ≡ width st h
@@ -197,7 +197,7 @@ module _ (ws : List ℕ) (st : Store) (says : Says ws st) where
     -- its size, and the height that is found by the sizes
     sizes-said : (h : ℕ) → 1 ≤ h → h ≤ st .book .under → entry (sizes-before ws st p) h ≡ size-in (st .book .root) (st .book .under) h p
     sizes-said h least most =
-        sizes-right ws st says p (place-tag st p) fits (some-said (omega arith)) (watched-said p fits) (replicate 24 0) refl h least most
+        sizes-right ws st says p (place-tag st p) fits (some-said (omega arith)) (watched-said p fits) (replicate table-length 0) refl h least most
 
     pub found-highest : (m : ℕ) → Highest (Fills (st .book .s) (st .book .r) (st .book .root) (st .book .under) p m) 0 (st .book .under) (height-found ws st p m)
     found-highest =

@@ -196,10 +196,5 @@ module _ {v : Image} (h : Proper v) (rest : List ℕ) (most i m b d : ℕ) (few 
         whole,
       )
 
-  pub shift-proper : Proper (with-labels (take i (v .labels) ++ (map (λ l. l + d) (take (m - i) (drop i (v .labels))) ++ drop m (v .labels))) v)
-  shift-proper =
-      let whole : i + (m - i) ≡ m = omega (arith, e .order) in
-      rw whole at (relabel-proper h rest (map (λ l. l + d) (take (m - i) (drop i (v .labels)))) i (m - i) (length-raised (v .labels) i m d (e .last)) (omega (arith, e .order, e .last, h .labelled)))
-
   pub shift-moved : shift most (length (v .facts)) (image-words v ++ rest) (getD (v .tags) i no-tag) b d .moved ≡ m - i
   shift-moved = rw (shift-sets most (m - i) h rest i m b d few e (omega (arith, e .order)) enough)

@@ -56,10 +56,6 @@ module _ {v : Image} (h : Proper v) (few : suc (length (v .facts)) ≤ most-tags
   pub proper-two : Proper (with-two p t u v)
   proper-two = proper-with-tag proper-one few-one (suc p) next-fits u
 
-  pub two-tags : with-two p t u v .tags ≡ insert-at p (n ∷ suc n ∷ []) (v .tags)
-  unfolding with-tag
-  two-tags = rw (one-more (v .facts) t) (insert-two p n (suc n) (v .tags) fits)
-
   pub two-labels : with-two p t u v .labels ≡ insert-at p (no-tag ∷ no-tag ∷ []) (v .labels)
   unfolding with-tag
   two-labels = insert-two p no-tag no-tag (v .labels) (omega (arith, h .labelled))

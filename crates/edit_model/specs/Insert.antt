@@ -7,7 +7,7 @@ use lib.ListN.{replicate, set}
 use Rattle.store_types.specs.Limits.{no-tag}
 use Rattle.store_types.specs.Layout.{at-s, at-r, at-height, at-count, at-first, at-stamp, at-next, at-prior, at-mate, at-up, at-kind, word-at, field, label-at, with-field, with-label}
 use Rattle.words.specs.Places.{behind, up-word, watched-label}
-use Rattle.shape.specs.Tables.{entry, widths-of, highs-of}
+use Rattle.shape.specs.Tables.{entry, widths-of, highs-of, table-length}
 use Rattle.tree.specs.Forest.{labels, spread}
 use Rattle.calls.specs.Words.{follow}
 use Rattle.walk_model.specs.Watch.{ancestor-numbers, sizes-at}
@@ -51,7 +51,7 @@ applied ws w r n p =
     record { words = t .words; moved = q .moved + t .moved }
 
 unfoldable pub numbers-at : List ℕ → (widths : List ℕ) → (under place : ℕ) → List ℕ
-numbers-at ws w u y = ancestor-numbers w u (watched-label ws y) 0 (replicate 24 0)
+numbers-at ws w u y = ancestor-numbers w u (watched-label ws y) 0 (replicate table-length 0)
 
 -- no split: one tag right behind the place, and its right siblings are shifted
 unfoldable pub plain-plan : List ℕ → (widths : List ℕ) → (under place : ℕ) → Plan
@@ -101,7 +101,7 @@ pub record Edited : Type 0 where
 
 unfoldable pub plan-of : List ℕ → (k place : ℕ) → Plan
 plan-of ws k y =
-    plan ws (word-at ws at-s) (widths-of ws) (highs-of ws) (sizes-at ws y (replicate 24 0)) (word-at ws at-count) k (pred (word-at ws at-height)) y
+    plan ws (word-at ws at-s) (widths-of ws) (highs-of ws) (sizes-at ws y (replicate table-length 0)) (word-at ws at-count) k (pred (word-at ws at-height)) y
 
 -- one tag goes in behind a place by a plan made before; c of the numbered tags are new
 unfoldable pub put-words : List ℕ → (widths : List ℕ) → (r n c : ℕ) → Plan → Edited

@@ -12,7 +12,7 @@ use lib.Dec.{ltb, eqb}
 use lib.ListN.{length, length-set}
 use lib.Seq.{getD-set-same, getD-set-other}
 use Rattle.lists.proofs.Tests.{and-left, and-right, by-test}
-use Rattle.shape.specs.Tables.{entry}
+use Rattle.shape.specs.Tables.{entry, table-length}
 use Rattle.walk_model.specs.Levels.{Tables, Levels, Settled, closes, settle, place-label}
 use Rattle.walk_model.specs.Watch.{taken, settle-sizes, place-sizes}
 use Rattle.walk_model.proofs.Spine.{opened, settle-stays, settle-higher, settle-fails}
@@ -64,9 +64,9 @@ step-on s (opens n d e f k) = opens (rw (s .ends) at n) d e f (rw (s .ends, s .f
 
 -- lists of an entry for each height
 pub record Long (v : Levels) (sz : List ℕ) : Type 0 where
-  pub ends : length (v .ends) ≡ 24
-  pub firsts : length (v .firsts) ≡ 24
-  pub sizes : length sz ≡ 24
+  pub ends : length (v .ends) ≡ table-length
+  pub firsts : length (v .firsts) ≡ table-length
+  pub sizes : length sz ≡ table-length
 
 -- all heights from suc c to u, where those below are kept
 pub record Stepped (w : ℕ → ℕ) (ns : List ℕ) (v z : Levels) (old new : List ℕ) (l i c u : ℕ) : Type 0 where
@@ -85,7 +85,7 @@ pub record Open-at (w : ℕ → ℕ) (v : Levels) (g last : ℕ) : Type 0 where
 
 -- tables of widths of which each divides the next
 pub record Divided (w : ℕ → ℕ) (u : ℕ) (t : Tables) : Type 0 where
-  pub fits : u < 24
+  pub fits : u < table-length
   pub wide : (g : ℕ) → g ≤ u → entry (t .widths) g ≡ w g
   pub first : w 0 ≡ 1
   pub divides : (g : ℕ) → w g ∣ w (suc g)

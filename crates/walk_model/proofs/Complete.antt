@@ -10,7 +10,7 @@ use borrow.Author.Tests.{lt-ltb, le-ltb, eq-eqb}
 use lib.Dec.{eqb}
 use lib.ListN.{length, length-append}
 use Rattle.lists.proofs.Tests.{and-both}
-use Rattle.shape.specs.Tables.{entry}
+use Rattle.shape.specs.Tables.{entry, table-length}
 use Rattle.tree.specs.Good.{Good}
 use Rattle.tree.specs.Forest.{Forest, nil, leaf, node, leaves, size, labels, joined}
 use Rattle.tree.specs.Promise.{Widths}
@@ -209,7 +209,7 @@ module _ {s r : ℕ} {w : ℕ → ℕ} {t : Tables} {u : ℕ} (s-least : 2 ≤ s
     labels-are = e;
   }
 
-  ready-below : {v z : Levels} {j k l i : ℕ} (f g : Forest) (p q : Spine k) (ls : List ℕ) → j ≤ u → length (v .ends) ≡ 24 → length (v .firsts) ≡ 24 →
+  ready-below : {v z : Levels} {j k l i : ℕ} (f g : Forest) (p q : Spine k) (ls : List ℕ) → j ≤ u → length (v .ends) ≡ table-length → length (v .firsts) ≡ table-length →
       Placed s r w (opened t v (suc j) l i) z (suc j) f p l i → Rest s r (suc j) f g p q → 1 ≤ size g → rest-labels w (suc j) f g p q ≡ l ∷ ls →
       Ready s r w v z j (suc k) l i ls
   unfolding leaves

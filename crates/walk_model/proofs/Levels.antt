@@ -5,6 +5,7 @@ use mathlib.Core.List.{List, [], append-nil}
 use Prim.Native.Nat.{ℕ, zero, suc, _+_, _*_, _≤_}
 use native.Mathlib.Omega.{arith}
 use lib.ListN.{length, getD-replicate, length-replicate}
+use Rattle.shape.specs.Tables.{table-length}
 use Rattle.tree.specs.Forest.{Forest, nil, leaf, node, leaves, size, labels}
 use Rattle.tree.specs.Promise.{Widths}
 use Rattle.tree_laws.proofs.Spread.{some-power}
@@ -43,7 +44,7 @@ module _ {s r : ℕ} {w : ℕ → ℕ} {t : Tables} {u : ℕ} (tables : Tables-r
   empty-agrees h zero e = omega (arith, tables .widths h (omega arith))
   empty-agrees h (suc k) e = (
     omega (arith, tables .widths h (omega arith), empty-number w h (suc k)),
-    getD-replicate 24 h 0 0 (omega (arith, tables .top-fits)) ∙ sym (ap length (empty-tags (suc k))),
+    getD-replicate table-length h 0 0 (omega (arith, tables .top-fits)) ∙ sym (ap length (empty-tags (suc k))),
     empty-agrees (suc h) k (omega arith),
   )
 
@@ -55,7 +56,7 @@ module _ {s r : ℕ} {w : ℕ → ℕ} {t : Tables} {u : ℕ} (tables : Tables-r
     place-is = rw (empty-tags u);
     agrees = empty-agrees 1 u (omega arith);
     long-ends = tables .long;
-    long-firsts = length-replicate {A = ℕ} 24 0;
+    long-firsts = length-replicate {A = ℕ} table-length 0;
   }
 
   number-start : 0 ≡ number w 1 (empty u) + 0 * w 0

@@ -8,7 +8,7 @@ use lib.Dec.{eqb}
 use lib.ListN.{getD, length, set, replicate, length-set}
 use lib.Seq.{getD-set-same, getD-set-other}
 use Rattle.lists.proofs.Tests.{by-test}
-use Rattle.shape.specs.Tables.{entry}
+use Rattle.shape.specs.Tables.{entry, table-length}
 use Rattle.tree.specs.Good.{Good}
 use Rattle.tree.specs.Forest.{Forest, nil, size, labels}
 use Rattle.tree.specs.Book.{Book, height, labels-of}
@@ -58,20 +58,20 @@ module _ {s r : ℕ} {w : ℕ → ℕ} (s-least : 2 ≤ s) (r-least : 2 ≤ r) (
       (λ e.
       numbers-from h b (set ns (suc h) b) (omega arith) (rw length-set long) (below .0, omega (arith, below .1)) i least (omega (arith, eqb-false i (suc h) e)))
 
-  pub numbers-below : u ≤ 22 → (i : ℕ) → 1 ≤ i → i ≤ u →
-      entry (ancestor-numbers t u (getD (labels f w u 0) (p - 1) 0) 0 (replicate 24 0)) i ≡ number-in f w u i p 0
-  numbers-below small = numbers-from u 0 (replicate 24 0) (omega arith) (omega arith) (number-top f w u p 0)
+  pub numbers-below : suc u < table-length → (i : ℕ) → 1 ≤ i → i ≤ u →
+      entry (ancestor-numbers t u (getD (labels f w u 0) (p - 1) 0) 0 (replicate table-length 0)) i ≡ number-in f w u i p 0
+  numbers-below small = numbers-from u 0 (replicate table-length 0) (omega arith) (omega arith) (number-top f w u p 0)
 
 -- IN A BOOK, the root's too
-pub numbers-whole : {w : ℕ → ℕ} (k : Book) → Widths (k .s) (k .r) w → Sane k → (t : List ℕ) (p : ℕ) → p ≤ size (k .root) → ((h : ℕ) → h ≤ k .under → entry t h ≡ w h) → k .under ≤ 22 →
-    (i : ℕ) → 1 ≤ i → i ≤ height k → entry (ancestor-numbers t (k .under) (getD (labels-of w k) (p - 1) 0) 0 (replicate 24 0)) i ≡ number-in (whole k) w (height k) i p 0
+pub numbers-whole : {w : ℕ → ℕ} (k : Book) → Widths (k .s) (k .r) w → Sane k → (t : List ℕ) (p : ℕ) → p ≤ size (k .root) → ((h : ℕ) → h ≤ k .under → entry t h ≡ w h) → height k < table-length →
+    (i : ℕ) → 1 ≤ i → i ≤ height k → entry (ancestor-numbers t (k .under) (getD (labels-of w k) (p - 1) 0) 0 (replicate table-length 0)) i ≡ number-in (whole k) w (height k) i p 0
 numbers-whole {w} k widths sane t p fits wide small i least most =
     let own = rooted k sane in
     let l = getD (labels-of w k) (p - 1) 0 in
     by-test (eqb i (height k))
     (λ e.
     let top = eqb-true i (height k) e in
-    number-above t 24 (k .under) l i (omega arith) ∙ sym (at-here (k .root) nil w (height k) i p 0 fits (sym top) .0))
+    number-above t table-length (k .under) l i (omega arith) ∙ sym (at-here (k .root) nil w (height k) i p 0 fits (sym top) .0))
     (λ e.
     let other = eqb-false i (height k) e in
     let some : 1 ≤ size (k .root) = omega (arith, own .low (λ z. omega arith), some-power (k .r) (k .under) (sane .r-least)) in

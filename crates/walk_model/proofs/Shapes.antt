@@ -13,7 +13,7 @@ use Rattle.store_types.specs.Layout.{at-version, at-s, at-r, at-height, at-coun
 use Rattle.lists.proofs.Tests.{and-left, and-right, and-both}
 use Rattle.words.proofs.Fields.{header-fits}
 use Rattle.shape.proofs.TableLaws.{table-at, length-table}
-use Rattle.shape.specs.Tables.{widths-of, lows-of, highs-of}
+use Rattle.shape.specs.Tables.{widths-of, lows-of, highs-of, table-length}
 use Rattle.tree.specs.Book.{base}
 use Rattle.tree.specs.Promise.{Widths}
 use Rattle.calls.specs.Store.{labels-fit}
@@ -90,7 +90,7 @@ widths-given {ws} h = rw (h .degree-s, h .degree-r) at (header-widths ws)
 pub tables-right : {ws : List ℕ} {s r u n : ℕ} → Header ws s r u n → Tables-right s r (header-width ws) (suc u) (shape-of ws .tables)
 unfolding shape-of widths-of lows-of highs-of base
 tables-right {ws} {s} {r} {u} {n} h =
-    let low : suc u < 24 = omega (arith, h .high) in
+    let low : suc u < table-length = omega (arith, h .high) in
     rw (h .degree-s, h .degree-r, h .levels) (record {
       top-fits = low;
       long = length-table 1 _ (suc u) low;

@@ -12,7 +12,7 @@ use lib.ListN.{length, getD, set, length-set, length-replicate, getD-replicate}
 use lib.Seq.{getD-set-same, getD-set-other}
 use Rattle.lists.proofs.Tests.{and-left, and-right, by-test}
 use Rattle.store_types.specs.Layout.{at-height, at-count, at-first, word-at, label-at}
-use Rattle.shape.specs.Tables.{entry}
+use Rattle.shape.specs.Tables.{entry, table-length}
 use Rattle.tree.specs.Good.{Good}
 use Rattle.tree.specs.Forest.{Forest, size, labels}
 use Rattle.tree.specs.Book.{labels-of}
@@ -82,7 +82,7 @@ module _ {w : ℕ → ℕ} {u : ℕ} {t : Tables} (tables : Divided w u t) (ns :
   taken-past i v sz e = rw (watched, ne-eqb (entry (v .ends) h) (n + w h) (omega arith))
 
   -- at the end
-  close-at : (k j i : ℕ) (v : Levels) (sz : List ℕ) → j ≤ h → h < j + k → length sz ≡ 24 →
+  close-at : (k j i : ℕ) (v : Levels) (sz : List ℕ) → j ≤ h → h < j + k → length sz ≡ table-length →
       entry (close-sizes (t .widths) ns k j i v sz) h ≡ size-taken w ns i v sz h
   unfolding close-sizes taken
   close-at zero j i v sz low high long = absurd (omega arith)
@@ -174,9 +174,9 @@ number-aligned w divides f u p (suc d) h e =
     let parent = number-aligned w divides f u p d (suc h) (omega arith) in
     rw next.1 (dvd-add _ (dvd-trans _ (divides h) parent) (dvd-mul-left (w h) (next .0)))
 
-forest-sizes : {s r : ℕ} {w : ℕ → ℕ} {u : ℕ} {t : Tables} → 2 ≤ s → 2 ≤ r → Widths s r w → Divided w u t → length (t .widths) ≡ 24 →
+forest-sizes : {s r : ℕ} {w : ℕ → ℕ} {u : ℕ} {t : Tables} → 2 ≤ s → 2 ≤ r → Widths s r w → Divided w u t → length (t .widths) ≡ table-length →
     (f : Forest) → Good s r f u → (p : ℕ) → p ≤ size f → 1 ≤ size f → labels-pass t u 0 0 (start-levels t) (labels f w u 0) ≡ true →
-    (ns sz : List ℕ) → length sz ≡ 24 → (g : ℕ) → g < u → entry ns (suc g) ≡ number-in f w u (suc g) p 0 →
+    (ns sz : List ℕ) → length sz ≡ table-length → (g : ℕ) → g < u → entry ns (suc g) ≡ number-in f w u (suc g) p 0 →
     entry (labels-sizes t ns u 0 0 (start-levels t) (labels f w u 0) sz) (suc g) ≡ size-in f u (suc g) p
 unfolding start-levels
 forest-sizes {s} {r} {w} {u} {t} s-least r-least widths tables long f good p fits some pass ns sz sizes g below watched =
@@ -184,12 +184,12 @@ forest-sizes {s} {r} {w} {u} {t} s-least r-least widths tables long f good p fit
     let n = number-in f w u h p 0 in
     let d = found s-least r-least widths f u g p 0 good below fits some in
     let e : u - h + h ≡ u = omega arith in
-    let first = getD-replicate {A = ℕ} 24 h 0 0 (omega (arith, tables .fits)) in
+    let first = getD-replicate {A = ℕ} table-length h 0 0 (omega (arith, tables .fits)) in
     let end = tables .wide h below in
     let nodes : (j : ℕ) → 1 ≤ j → j ≤ u → Open-at w (start-levels t) j 0 =
     λ j l m. record { number = 0; aligned = dvd-zero (w j); end-is = omega (arith, tables .wide j m); low = omega arith; high = omega (arith, tables .least j) } in
     let due = labels-due tables ns h n (omega arith) below watched (number-aligned w (tables .divides) f u p (u - h) h e)
-    (labels f w u 0) 0 0 0 (0 + trees f * w u) (start-levels t) sz (record { ends = long; firsts = length-replicate {A = ℕ} 24 0; sizes = sizes }) nodes
+    (labels f w u 0) 0 0 0 (0 + trees f * w u) (start-levels t) sz (record { ends = long; firsts = length-replicate {A = ℕ} table-length 0; sizes = sizes }) nodes
     (omega arith) (good-rising s-least r-least widths f u 0 good) pass in
     let counted = size-count s-least r-least widths d in
     by-test (eqb n 0)
@@ -234,7 +234,7 @@ module _ (ws : List ℕ) (st : Store) (said : Says ws st) (p y : ℕ) (fits : p 
       let many : word-at ws at-count ≡ length (row st) = header-said ws st said .issued ∙ sym (given ws st said .as-many) in
       rw (many, row-said ws st said) (labels-said ws st said)
 
-  pub sizes-right : (sz : List ℕ) → length sz ≡ 24 → (h : ℕ) → 1 ≤ h → h ≤ st .book .under →
+  pub sizes-right : (sz : List ℕ) → length sz ≡ table-length → (h : ℕ) → 1 ≤ h → h ≤ st .book .under →
       entry (sizes-at ws y sz) h ≡ size-in (st .book .root) (st .book .under) h p
   unfolding sizes-at start start-levels shape-of
   sizes-right sz long zero low high = absurd (omega arith)

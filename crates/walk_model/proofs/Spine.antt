@@ -11,7 +11,7 @@ use lib.Dec.{ltb, leb, eqb}
 use lib.ListN.{length, set, length-append, length-set}
 use lib.Seq.{getD-set-same, getD-set-other}
 use Rattle.lists.proofs.Tests.{and-left, and-right, and-both}
-use Rattle.shape.specs.Tables.{entry}
+use Rattle.shape.specs.Tables.{entry, table-length}
 use Rattle.tree.specs.Good.{Good}
 use Rattle.tree.specs.Forest.{Forest, nil, leaf, node, leaves, size, labels, joined}
 use Rattle.tree_laws.proofs.Labels.{trees, labels-joined}
@@ -58,8 +58,8 @@ pub record At (s r : ℕ) (w : ℕ → ℕ) (v : Levels) (j : ℕ) {k : ℕ} (f 
   pub good-above : Good-spine s r (suc j) p
   pub place-is : i ≡ length (tags p) + size f
   pub agrees : Agrees w v (suc j) p
-  pub long-ends : length (v .ends) ≡ 24
-  pub long-firsts : length (v .firsts) ≡ 24
+  pub long-ends : length (v .ends) ≡ table-length
+  pub long-firsts : length (v .firsts) ≡ table-length
 
 -- CLOSING the open node over f: it becomes the last tree left of the next one
 abbrev pub closed : Forest → Forest → Forest
@@ -209,11 +209,11 @@ module _ {s r : ℕ} {w : ℕ → ℕ} {t : Tables} {u : ℕ} (tables : Tables-r
   next-number f p x l e = rw (tables .widths 0 (omega arith)) (leaf-number w f p x l e)
 
   -- one height down, to no trees under the node opened there
-  pub descend : {v z : Levels} {j k l i : ℕ} {f : Forest} {p : Spine k} → j ≤ u → length (v .ends) ≡ 24 → length (v .firsts) ≡ 24 →
+  pub descend : {v z : Levels} {j k l i : ℕ} {f : Forest} {p : Spine k} → j ≤ u → length (v .ends) ≡ table-length → length (v .firsts) ≡ table-length →
       Placed s r w (opened t v (suc j) l i) z (suc j) f p l i → Placed s r w v z j nil (over f p) l i
   unfolding leaves
   descend {v} {z} {j} {k} {l} {i} {f} {p} fits long-ends long-firsts q =
-      let small : suc j < 24 = omega (arith, tables .top-fits) in
+      let small : suc j < table-length = omega (arith, tables .top-fits) in
       let ends-here : entry (z .ends) (suc j) ≡ l + entry (t .widths) (suc j) =
       q .kept-ends (suc j) (omega arith) ∙ getD-set-same (v .ends) (suc j) _ 0 (omega arith) in
       let firsts-here : entry (z .firsts) (suc j) ≡ i =

@@ -4,13 +4,13 @@ use mathlib.Core.Path.{_≡_, refl, ap, sym, _∙_}
 use mathlib.Core.Bool.{true}
 use mathlib.Core.List.{List, map}
 use mathlib.Core.Logic.{_↔_}
-use Prim.Native.Nat.{ℕ, zero, suc, pred, _*_, _^_, _≤_, _<_}
+use Prim.Native.Nat.{ℕ, pred, _*_, _^_, _≤_, _<_}
 use native.Mathlib.Nat.{one-le-pow}
 use native.Mathlib.Omega.{arith}
 use borrow.Author.Tests.{leb-true, ne-eqb}
 use lib.ListN.{length, length-map}
 use Rattle.lists.proofs.Tests.{and-left, and-right, and-both}
-use Rattle.store_types.specs.Layout.{at-s, at-r, at-height, at-count, at-first, at-next, word-at, field, label-at}
+use Rattle.store_types.specs.Layout.{at-s, at-r, at-height, at-count, at-first, word-at, label-at}
 use Rattle.tree.specs.Good.{Good}
 use Rattle.tree.specs.Forest.{Forest, leaves, labels, within-limits}
 use Rattle.tree.specs.Book.{root-within, book-within}
@@ -21,6 +21,7 @@ use Rattle.calls.specs.Words.{Says, follow, header-width}
 use Rattle.calls_laws.proofs.Tests.{Sound, root-limits, facts-of}
 use Rattle.calls_laws.proofs.Heights.{sound-height}
 use Rattle.calls_laws.proofs.Fields.{Tag-says, tag-says}
+use Rattle.calls_laws.proofs.Reader.{length-follow}
 use Rattle.calls_laws.proofs.WordSteps.{words-fit, header-said, width-said, labels-said}
 use Rattle.walk_model.specs.Levels.{start-levels, labels-pass}
 use Rattle.walk_model.specs.Walk.{header-passes, shape-of, start, walk, words-pass}
@@ -47,11 +48,6 @@ row-labels levels {ws} {s} {r} {u} {n} h xs l =
     let many : length (map (label-at ws) xs) ≡ n = length-map xs (label-at ws) ∙ l in
     levels s r (header-width ws) (shape-of ws .tables) u xs (map (label-at ws) xs) (h .degrees .s-least) (h .degrees .r-least) (widths-given h)
     (tables-right h) (l ∙ sym many) (rw many (h .below)) (rw many (some-tag h))
-
-length-follow : (n : ℕ) (ws : List ℕ) (x : ℕ) → length (follow n ws x) ≡ n
-unfolding follow
-length-follow zero ws x = refl
-length-follow (suc n) ws x = ap suc (length-follow n ws (field ws x at-next))
 
 -- WORDS THAT PASS say a store
 passed-said : Levels-right → (ws : List ℕ) → words-pass ws ≡ true → (st : Store) × Says ws st

@@ -5,7 +5,7 @@ use mathlib.Core.List.{List, [], _∷_}
 use Prim.Native.Nat.{ℕ, zero, suc, _+_}
 use lib.Dec.{ltb, leb, eqb}
 use lib.ListN.{set, replicate}
-use Rattle.shape.specs.Tables.{entry}
+use Rattle.shape.specs.Tables.{entry, table-length}
 
 -- by height: the width of a tree, the least leaves of a node, and its limit
 pub record Tables : Type 0 where
@@ -20,7 +20,7 @@ pub record Levels : Type 0 where
 
 -- before the first leaf every node, the root too, is numbered 0
 unfoldable pub start-levels : Tables → Levels
-start-levels t = record { ends = t .widths; firsts = replicate 24 0 }
+start-levels t = record { ends = t .widths; firsts = replicate table-length 0 }
 
 pub record Settled : Type 0 where
   pub ok : Bool

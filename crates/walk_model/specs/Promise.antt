@@ -5,7 +5,7 @@ use mathlib.Core.List.{List}
 use mathlib.Core.Logic.{_↔_}
 use Prim.Native.Nat.{ℕ, suc, _*_, _^_, _≤_, _<_}
 use lib.ListN.{length}
-use Rattle.shape.specs.Tables.{entry}
+use Rattle.shape.specs.Tables.{entry, table-length}
 use Rattle.tree.specs.Good.{Good}
 use Rattle.tree.specs.Forest.{Forest, leaves, labels}
 use Rattle.tree.specs.Promise.{Widths}
@@ -16,8 +16,8 @@ use Rattle.walk_model.specs.Walk.{words-pass}
 
 -- tables that are right up to height H
 pub record Tables-right (s r : ℕ) (w : ℕ → ℕ) (top : ℕ) (t : Tables) : Type 0 where
-  pub top-fits : top < 24
-  pub long : length (t .widths) ≡ 24
+  pub top-fits : top < table-length
+  pub long : length (t .widths) ≡ table-length
   pub widths : (h : ℕ) → h ≤ top → entry (t .widths) h ≡ w h
   pub lows : (h : ℕ) → h ≤ top → entry (t .lows) h ≡ r ^ h
   pub highs : (h : ℕ) → h ≤ top → entry (t .highs) h ≡ s * r ^ h

@@ -10,7 +10,7 @@ use Rattle.store_types.specs.Layout.{at-version, at-s, at-r, at-height, at-coun
 use Rattle.calls.specs.Store.{labels-fit}
 use Rattle.calls.specs.Sound.{degrees-fit}
 use Rattle.calls.specs.Words.{header-width}
-use Rattle.shape.specs.Tables.{entry, widths-of, lows-of, highs-of}
+use Rattle.shape.specs.Tables.{entry, widths-of, lows-of, highs-of, table-length}
 use Rattle.walk_model.specs.Levels.{Tables, Levels, Settled, place-label, all-close}
 
 -- ONE TAG x of kind word c, where o is the innermost open begin or no tag
@@ -109,7 +109,7 @@ start ws =
       open-begin = no-tag;
       marks = 0;
       expect = 0;
-      levels = record { ends = shape-of ws .tables .widths; firsts = replicate 24 0 };
+      levels = record { ends = shape-of ws .tables .widths; firsts = replicate table-length 0 };
     }
 
 unfoldable pub words-pass : List ℕ → Bool

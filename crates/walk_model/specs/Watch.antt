@@ -9,7 +9,7 @@ use lib.Dec.{ltb, eqb}
 use lib.ListN.{set, replicate}
 use Rattle.store_types.specs.Layout.{at-height, at-count, word-at, label-at}
 use Rattle.words.specs.Places.{watched-label}
-use Rattle.shape.specs.Tables.{entry, entry-limit, widths-of, lows-of, highs-of}
+use Rattle.shape.specs.Tables.{entry, entry-limit, widths-of, lows-of, highs-of, table-length}
 use Rattle.shape.specs.Packed.{Packed, numbers-in}
 use Rattle.walk_model.specs.Levels.{Levels}
 use Rattle.walk_model.specs.Walk.{Shape, State, passed, shape-of, start}
@@ -48,7 +48,7 @@ walk-sizes ws k ns (suc m) i v sz =
     walk-sizes ws k ns m (suc i) (passed ws k i v) placed
 
 unfoldable pub watched-numbers : List ℕ → (place : ℕ) → List ℕ
-watched-numbers ws y = ancestor-numbers (shape-of ws .tables .widths) (pred (word-at ws at-height)) (watched-label ws y) 0 (replicate 24 0)
+watched-numbers ws y = ancestor-numbers (shape-of ws .tables .widths) (pred (word-at ws at-height)) (watched-label ws y) 0 (replicate table-length 0)
 
 -- four tables in one array: those of the words, and the numbers of the ancestors of a place
 pub record Tables-at (ws : List ℕ) (y : ℕ) (tables : List ℕ) : Type 0 where
