@@ -15,15 +15,15 @@ use Rattle.shape.specs.Tables.{entry, table, Table-fits}
 use Rattle.shape.specs.Sums.{cut}
 use Rattle.shape.proofs.TableLaws.{table-at, table-bound}
 use Rattle.shape.proofs.Fits.{Fits, lows-below, widths-fit}
-use Rattle.tree.specs.Forest.{labels, spread}
-use Rattle.tree.specs.Book.{base, power-width, load-under, loaded}
+use Rattle.tree.specs.Forest.{spread}
+use Rattle.tree.specs.Book.{labels-of, base, load-under, loaded}
 use Rattle.tree.specs.Promise.{Labels-rise}
-use Rattle.tree_laws.proofs.Labels.{rising-of, rising-below, labels-rise, power-widths}
+use Rattle.tree_laws.proofs.Labels.{rising-of, rising-below, labels-rise}
 use Rattle.tree_laws.proofs.Load.{Least, tags-loaded, sane-loaded, load-least}
-use Rattle.calls.specs.Store.{power-fits}
+use Rattle.calls.specs.Store.{Store, width}
 use Rattle.calls.specs.Load.{load-store}
 use Rattle.calls.specs.Words.{words-of}
-use Rattle.calls_laws.proofs.Widths.{fits-limit}
+use Rattle.calls_laws.proofs.Widths.{fits-limit, store-widths, store-powers}
 use Rattle.calls_laws.proofs.Heights.{height-limit}
 use Rattle.calls_laws.proofs.Steps.{Load-accepted}
 use Rattle.edit_model.specs.Image.{image-words, image-of}
@@ -33,26 +33,6 @@ use Rattle.edit_model.proofs.Relabels.{cut-all}
 use Rattle.load_refuse.proofs.Height.{leaves-enough}
 use Rattle.load_tags.specs.Tags.{labels-new, Trees-fit}
 use Rattle.store_load.proofs.Fresh.{fresh}
-
--- THE LABELS of a loaded book, of which each is a word
-module _ (s r n : ℕ) (s-least : 2 ≤ s) (r-least : 2 ≤ r) where
-  abbrev own-labels : List ℕ
-  own-labels = labels (spread (load-under r n) r (numbers 0 n)) (power-width s r) (load-under r n) 0
-
-  below-limit : power-fits s r (suc (load-under r n)) ≡ true → (i : ℕ) → i < length own-labels → getD own-labels i 0 < word-limit
-  unfolding loaded Labels-rise
-  below-limit fits i l =
-      let rise = labels-rise (power-width s r) (loaded s r n) (power-widths s r) (sane-loaded s r n s-least r-least) in
-      omega (arith, rising-below 0 _ own-labels (rising-of _ own-labels rise) i l, fits-limit (power-width s r) _ fits)
-
-  -- so a label holds all of it
-  pub labels-whole : power-fits s r (suc (load-under r n)) ≡ true → labels-new r (table 1 (s * r - 1) (suc (load-under r n))) n (load-under r n) ≡ own-labels
-  unfolding labels-new power-width base
-  labels-whole fits =
-      let u = load-under r n in
-      ap (map cut) (labels-widths (spread u r (numbers 0 n)) _ (power-width s r) u 0
-      (λ h l. table-at 1 (s * r - 1) (suc u) h (omega arith) ∙ one-mul ((s * r - 1) ^ h)))
-      ∙ cut-all own-labels (below-limit fits)
 
 module _ (w s r b : ℕ) (cs : List ℕ) (a : Load-accepted w s r cs) where
   abbrev n : ℕ
@@ -101,6 +81,26 @@ module _ (w s r b : ℕ) (cs : List ℕ) (a : Load-accepted w s r cs) where
         least = leaves-enough r n u (load-least r n (a .degrees .r-least));
       }
 
+  -- THE LABELS of the loaded store, of which each is a word
+  abbrev own : Store
+  own = load-store s r b cs
+
+  abbrev own-labels : List ℕ
+  own-labels = labels-of (width own) (own .book)
+
+  below-limit : (i : ℕ) → i < length own-labels → getD own-labels i 0 < word-limit
+  unfolding load-store loaded Labels-rise
+  below-limit i l =
+      let rise = labels-rise (width own) (own .book) (store-widths own) (sane-loaded s r n (a .degrees .s-least) (a .degrees .r-least)) in
+      omega (arith, rising-below 0 _ own-labels (rising-of _ own-labels rise) i l, fits-limit (width own) (suc u) (a .labels))
+
+  -- so a label holds all of it
+  labels-whole : labels-new r widths n u ≡ own-labels
+  unfolding labels-new load-store loaded base
+  labels-whole =
+      ap (map cut) (labels-widths (spread u r (numbers 0 n)) (entry widths) (width own) u 0 (λ h l. width-at h (omega arith) ∙ sym (store-powers own h)))
+      ∙ cut-all own-labels below-limit
+
   -- THE STORE is said by a fresh image with these labels
   pub loaded-words : image-words (fresh s r (suc u) b cs (labels-new r widths n u)) ≡ words-of (load-store s r b cs)
   unfolding image-of load-store loaded
@@ -112,6 +112,6 @@ module _ (w s r b : ℕ) (cs : List ℕ) (a : Load-accepted w s r cs) where
         number = refl;
         stamp = refl;
         tags = sym (tags-loaded s r n (a .degrees .r-least));
-        labels = labels-whole s r n (a .degrees .s-least) (a .degrees .r-least) (a .labels);
+        labels = labels-whole;
         facts = refl;
       })

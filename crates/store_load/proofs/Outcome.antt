@@ -12,7 +12,7 @@ use Rattle.store_types.specs.Limits.{most-tags}
 use Rattle.store_types.specs.declared.LoadReply.the-variants as load
 use Rattle.store_types.specs.Layout.{header-words, words-for}
 use Rattle.words.proofs.Fields.{header-fits}
-use Rattle.tree.specs.Book.{base, load-under, loaded}
+use Rattle.tree.specs.Book.{load-under, loaded}
 use Rattle.lists.specs.Lists.{first}
 use Rattle.lists.proofs.First.{refused-before}
 use Rattle.calls.specs.Kind.{kind-of}
