@@ -46,7 +46,7 @@ module _ (ws : List ℕ) (st : Store) (says : Says ws st) (p : ℕ) (fits : p �
       record { widths = store-widths st; sane = sane own; place-fits = in-book own p fits; new = not-tag own p fits (count st) (omega arith) } in
       let second : Step (width st) (suc p) (suc (count st)) (book-with p st) =
       record { widths = first-widths; sane = sane-first own p fits; place-fits = in-first own p fits; new = not-next own p fits } in
-      second-tag (width st) p (count st) (suc (count st)) (st .book) first second .2 none
+      second-tag (width st) p (count st) (suc (count st)) (st .book) first second .as-many none
 
   -- THE HEIGHT stays
   root-stays : root-full (book-with p st) ≡ false

@@ -57,22 +57,26 @@ Reach-counts =
 
 -- and where they stand: under the parent of the split node (of the new tag, where none is split), none left of that
 -- node (of the new tag); and right of the new tag all that stand there
+pub record Moves-within (w : ℕ → ℕ) (p x t : ℕ) (k : Book) : Type 0 where
+  pub left : Moves w p x t k → left-of (split-of p k) p k ≤ place t (tags k)
+  pub right : Moves w p x t k → place t (tags k) < border p k
+  pub all-right : p ≤ place t (tags k) → place t (tags k) < border p k → Moves w p x t k
+
 unfoldable pub Reach-places : Type 0
-Reach-places =
-    (w : ℕ → ℕ) (p x t : ℕ) (k : Book) → Step w p x k → member t (tags k) ≡ true →
-    (Moves w p x t k → (left-of (split-of p k) p k ≤ place t (tags k)) × (place t (tags k) < border p k))
-    × (p ≤ place t (tags k) → place t (tags k) < border p k → Moves w p x t k)
+Reach-places = (w : ℕ → ℕ) (p x t : ℕ) (k : Book) → Step w p x k → member t (tags k) ≡ true → Moves-within w p x t k
 
 -- THE SECOND TAG of an element, behind its first. Where it splits, the book afterwards is the one before both with that
 -- node split over its leaves and both tags, whatever the first renumbered. Where it does not, it moves no old tag that
 -- the first left in place, so that the tags moved by both are the first's.
+pub record Second-does (w : ℕ → ℕ) (p x y : ℕ) (k : Book) : Type 0 where
+  pub splits : (h : ℕ) → split-of (suc p) (inserted p x k) ≡ suc h → inserted (suc p) y (inserted p x k) ≡ split-book (suc h) p (x ∷ y ∷ []) k
+  pub moves-none :
+      split-of (suc p) (inserted p x k) ≡ 0 →
+      (t : ℕ) → member t (tags k) ≡ true → Moves w (suc p) y t (inserted p x k) → Moves w p x t k
+  pub as-many : split-of (suc p) (inserted p x k) ≡ 0 → moved w k (inserted (suc p) y (inserted p x k)) ≡ moved w k (inserted p x k)
+
 unfoldable pub Second-tag : Type 0
-Second-tag =
-    (w : ℕ → ℕ) (p x y : ℕ) (k : Book) → Step w p x k → Step w (suc p) y (inserted p x k) →
-    ((h : ℕ) → split-of (suc p) (inserted p x k) ≡ suc h → inserted (suc p) y (inserted p x k) ≡ split-book (suc h) p (x ∷ y ∷ []) k)
-    × (split-of (suc p) (inserted p x k) ≡ 0 →
-    (t : ℕ) → member t (tags k) ≡ true → Moves w (suc p) y t (inserted p x k) → Moves w p x t k)
-    × (split-of (suc p) (inserted p x k) ≡ 0 → moved w k (inserted (suc p) y (inserted p x k)) ≡ moved w k (inserted p x k))
+Second-tag = (w : ℕ → ℕ) (p x y : ℕ) (k : Book) → Step w p x k → Step w (suc p) y (inserted p x k) → Second-does w p x y k
 
 -- WHAT LOAD AND SPLIT MAKE. Over s times r^j leaves: s complete r-ary trees of height j, over these leaves in order
 pub record Split-made (s r j : ℕ) (row : List ℕ) : Type 0 where

@@ -39,7 +39,8 @@ module _ {w : ℕ → ℕ} {p x : ℕ} {k : Book} (step : Step w p x k) (t : ℕ
 -- and right of the new tag all that stand there move
 pub reach-places : Reach-places
 unfolding Reach-places
-reach-places w p x t k step old = (moves-inside step t old, inside-moves step t old)
+reach-places w p x t k step old =
+    record { left = λ m. moves-inside step t old m .0; right = λ m. moves-inside step t old m .1; all-right = inside-moves step t old }
 
 -- HOW MANY: of a row, those that move
 

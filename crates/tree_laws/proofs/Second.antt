@@ -322,8 +322,9 @@ module _ {w : ℕ → ℕ} {p x y : ℕ} {k : Book} (first : Step w p x k) (seco
 -- what is promised of the second tag
 pub second-tag : Second-tag
 unfolding Second-tag moved
-second-tag w p x y k first second = (
-  λ h. second-book p x y h k (first .sane) (first .place-fits),
-  λ none. second-moves first second none,
-  λ none. ap length (second-moved first second none (tags k) (λ v h. h)),
-)
+second-tag w p x y k first second =
+    record {
+      splits = λ h. second-book p x y h k (first .sane) (first .place-fits);
+      moves-none = λ none. second-moves first second none;
+      as-many = λ none. ap length (second-moved first second none (tags k) (λ v h. h));
+    }
