@@ -42,12 +42,8 @@ pub record Specimen : Type 0 where
   pub room : ℕ
   pub exchanges : List Exchange
 
-unfoldable pub holds : Specimen → Bool
-holds e = replies-hold (replicate (words-for header-words (e .room)) 0) (e .exchanges)
-
-unfoldable pub all-hold : List Specimen → Bool
-all-hold [] = true
-all-hold (e ∷ es) = holds e && all-hold es
+unfoldable pub specimen-holds : Specimen → Bool
+specimen-holds e = replies-hold (replicate (words-for header-words (e .room)) 0) (e .exchanges)
 
 abbrev texts : ℕ → List ℕ
 texts n = replicate n 3
@@ -56,8 +52,8 @@ texts n = replicate n 3
 abbrev printed : List ℕ
 printed = 1 ∷ 1 ∷ 2 ∷ 1 ∷ 2 ∷ 2 ∷ []
 
-abbrev pub table : List Specimen
-table =
+abbrev pub specimen-table : List Specimen
+specimen-table =
     -- A, B, C: 0, 3 and 4 texts
     record { room = 0; exchanges = load 2 2 7 [] (0 ∷ 0 ∷ 1 ∷ []) ∷ list no-tag (0 ∷ 0 ∷ []) [] [] ∷ [] } ∷
     record {

@@ -4,8 +4,8 @@ use mathlib.Core.List.{map}
 use Rattle.lists.specs.Lists.{same, with-first}
 use Rattle.reply_text.specs.Specimens.{bytes}
 use Rattle.console.specs.Line.{fields, is-digit, all-digits, value-from, well-begun, number-of, number-or-front, is-letter, all-letters, letter-kind, load-of, insert-of, mark-of, command-of, parsed}
-use Rattle.console.specs.Specimens.{lines}
+use Rattle.console.specs.Specimens.{readings}
 
-pub line-specimens : map (λ e. parsed (e .line)) lines ≡ map (λ e. e .says) lines
+pub line-specimens : map (λ e. parsed (e .line)) readings ≡ map (λ e. e .says) readings
 unfolding same with-first fields is-digit all-digits value-from well-begun number-of number-or-front is-letter all-letters letter-kind load-of insert-of mark-of command-of parsed bytes
 line-specimens = refl

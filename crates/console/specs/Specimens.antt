@@ -24,8 +24,8 @@ says-insert t k y = record { line = bytes t; says = plain (Insert k (record { 0 
 abbrev says-nothing : String → Reading
 says-nothing t = record { line = bytes t; says = unknown }
 
-abbrev pub lines : List Reading
-lines =
+abbrev pub readings : List Reading
+readings =
     says-load "load 2 2 7 BBEBEE" 2 2 7 6 (1 ∷ 1 ∷ 2 ∷ 1 ∷ 2 ∷ 2 ∷ []) ∷
     says-load "load 2 2 7 T" 2 2 7 1 (3 ∷ []) ∷
     says-load "load 2 2 7" 2 2 7 0 [] ∷

@@ -96,5 +96,5 @@ reference-rises =
     ((same (a .row) row && eqb (a .height) 3) && (eqb (a .n0) 3 && eqb (a .m) 5))
     && (same (follow 8 end (word-at end at-first)) row && eqb (word-at end at-height) 3)
 
-unfoldable pub all-hold : Bool
-all-hold = (labels-end-there && damage-refused) && (rest-stays && reference-rises)
+unfoldable pub specimens-hold : Bool
+specimens-hold = (labels-end-there && damage-refused) && (rest-stays && reference-rises)

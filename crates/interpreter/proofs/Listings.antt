@@ -7,7 +7,7 @@ use native.Mathlib.Omega.{arith}
 use lib.ListN.{length, getD, take, length-append}
 use Rattle.store_types.specs.Limits.{word-limit}
 use Rattle.reply_text.specs.Text.{decimal, spaced, tag-line, tag-lines}
-use Rattle.reply_text.specs.Post.{Written, Room}
+use Rattle.reply_text.specs.Post.{Written, Line-room}
 use Rattle.reply_text.proofs.Digits.{decimal-short}
 use Rattle.reply_text.proofs.Writes.{writes-both}
 use Rattle.interpreter.specs.Room.{Listing-room}
@@ -29,7 +29,9 @@ unfolding tag-lines
 more-lines i [] ls a b = absurd (omega arith)
 more-lines i (x ∷ ts) [] a b = absurd (omega arith)
 more-lines zero (x ∷ ts) (l ∷ ls) a b = append-nil (tag-line x l)
-more-lines (suc i) (x ∷ ts) (l ∷ ls) a b = ap (λ k. tag-line x l ++ k) (more-lines i ts ls (omega arith) (omega arith)) ∙ sym (append-assoc (tag-line x l) (tag-lines (take i ts) (take i ls)) (tag-line (getD ts i 0) (getD ls i 0)))
+more-lines (suc i) (x ∷ ts) (l ∷ ls) a b =
+    ap (λ k. tag-line x l ++ k) (more-lines i ts ls (omega arith) (omega arith))
+    ∙ sym (append-assoc (tag-line x l) (tag-lines (take i ts) (take i ls)) (tag-line (getD ts i 0) (getD ls i 0)))
 
 -- THE LOOP: the lines of the first i tags are written
 pub record So-far (ts ls out₀ : List ℕ) (count : ℕ) (out : List ℕ) (at i : ℕ) : Type 0 where
@@ -43,10 +45,11 @@ unfolding tag-lines
 lists-first ts ls out n = record { within = omega arith; size = refl; place = omega arith; text = record { text = refl; behind = refl } }
 
 module _ {ts ls out₀ out : List ℕ} {count at i : ℕ} (room : Listing-room ts ls count out₀) (w : So-far ts ls out₀ count out at i) where
-  pub lists-room : i < count → Room at out
+  pub lists-room : i < count → Line-room at out
   lists-room l = record { fits = omega (arith, room .lines, w .place, w .size) }
 
-  pub lists-on : i < count → getD ts i 0 < word-limit → getD ls i 0 < word-limit → (out' : List ℕ) (at' : ℕ) → length out' ≡ length out → Written out at (tag-line (getD ts i 0) (getD ls i 0)) out' at' → So-far ts ls out₀ count out' at' (i + 1)
+  pub lists-on : i < count → getD ts i 0 < word-limit → getD ls i 0 < word-limit → (out' : List ℕ) (at' : ℕ) → length out' ≡ length out →
+      Written out at (tag-line (getD ts i 0) (getD ls i 0)) out' at' → So-far ts ls out₀ count out' at' (i + 1)
   lists-on l a b out' at' e p = record {
     within = omega arith;
     size = e ∙ w .size;
@@ -54,7 +57,7 @@ module _ {ts ls out₀ out : List ℕ} {count at i : ℕ} (room : Listing-room t
     text = rw (add-one i, more-lines i ts ls (omega (arith, room .has-tags)) (omega (arith, room .has-labels))) (writes-both (omega (arith, room .lines, w .place, w .text .behind)) (w .text) p);
   }
 
-  pub lists-all : count ≤ i → Written out₀ 0 (tag-lines (take count ts) (take count ls)) out at × Room at out
+  pub lists-all : count ≤ i → Written out₀ 0 (tag-lines (take count ts) (take count ls)) out at × Line-room at out
   lists-all l =
       let e : i ≡ count = omega (arith, w .within) in
       (rw e at (w .text), record { fits = omega (arith, room .lines, w .place, w .size) })

@@ -58,7 +58,8 @@ module _ {begun line : List ℕ} {at h : ℕ} (piece : List ℕ) (from : ℕ) (g
         let e : has-feed (drop from piece) ≡ false = no-feed l in
         record { place = rw e (g .place); in-buffer = rw e kept; stored = rw e; printed = rw e (record { text = refl; behind = refl }) }
 
-    pub steps-answer : (ws ws' out out' : List ℕ) (text : ℕ) → at < length piece → ws' ≡ line-words (take h line) ws → Written out 0 (line-text (take h line) ws) out' text → Steps begun (drop from piece) ws from line ws' out out' (at + 1) 0 text
+    pub steps-answer : (ws ws' out out' : List ℕ) (text : ℕ) → at < length piece → ws' ≡ line-words (take h line) ws →
+        Written out 0 (line-text (take h line) ws) out' text → Steps begun (drop from piece) ws from line ws' out out' (at + 1) 0 text
     unfolding step-length step-held step-text step-words
     steps-answer ws ws' out out' text l w p =
         let e : has-feed (drop from piece) ≡ true = a-feed l in
@@ -79,7 +80,8 @@ unfolding last-line
 last-one [] p = absurd (omega arith)
 last-one (c ∷ l) p = refl
 
-pub ends-line : (held h : ℕ) (line ws ws' out out' : List ℕ) (e : ℕ) → (held ≡ 0 → ⊥) → 0 < length line → h ≡ min held (length line) → ws' ≡ line-words (take h line) ws → Written out 0 (line-text (take h line) ws) out' e →
+pub ends-line : (held h : ℕ) (line ws ws' out out' : List ℕ) (e : ℕ) → (held ≡ 0 → ⊥) → 0 < length line → h ≡ min held (length line) →
+    ws' ≡ line-words (take h line) ws → Written out 0 (line-text (take h line) ws) out' e →
     (ws' ≡ words-behind ws (last-line (take held line))) × (Written out 0 (texts ws (last-line (take held line))) out' e)
 unfolding words-behind texts
 ends-line held h line ws ws' out out' e n some m w p =

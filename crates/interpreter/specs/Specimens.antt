@@ -7,7 +7,7 @@ use Rattle.line_reader.specs.Lines.{lines}
 use Rattle.interpreter.specs.Answer.{first-words}
 use Rattle.interpreter.specs.Session.{texts}
 
-pub record Printing : Type 0 where
+pub record Script : Type 0 where
   pub input : String
   pub printed : String
 
@@ -15,7 +15,7 @@ pub record Printing : Type 0 where
 unfoldable pub prints : (input : List ℕ) → List ℕ
 prints cs = texts first-words (lines cs)
 
-abbrev pub inputs : List Printing
+abbrev pub inputs : List Script
 inputs =
     record {
       input = "load 2 2 7 BBEBEE\ntext 2\ntext 2\nlist\n";

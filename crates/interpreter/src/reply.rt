@@ -2,7 +2,7 @@
 ghost use mathlib.Core.Path.{_≡_};
 ghost use Prim.Native.Nat.{_≤_};
 ghost use lib.ListN.{length};
-ghost use Rattle.reply_text.specs.Post.{Written, Room};
+ghost use Rattle.reply_text.specs.Post.{Written, Line-room};
 ghost use Rattle.calls.specs.Replies.{load-words, insert-words, mark-words};
 ghost use Rattle.interpreter.specs.Answer.{load-text, insert-text, mark-text, list-text, line-text, line-words};
 ghost use Rattle.interpreter.specs.Room.{out-size};
@@ -15,7 +15,7 @@ use store_types::ListReply;
 use store_types::TagId;
 
 fn load(s: u32, r: u32, book: u32, kinds: &[u8], words: &mut [u32], out: &mut [u8]) -> usize
-    requires { ⌜ Room 0 (now out) ⌝ }
+    requires { ⌜ Line-room 0 (now out) ⌝ }
     ensures words { λ _. ⌜ now (words .exit) ≡ load-words s r book (now (kinds .entry)) (now (words .entry)) ⌝ }
     ensures text { λ e. ⌜ Written (now (out .entry)) 0 (load-text s r book (now (kinds .entry)) (now (words .entry))) (now (out .exit)) e ⌝ }
 {
@@ -24,7 +24,7 @@ fn load(s: u32, r: u32, book: u32, kinds: &[u8], words: &mut [u32], out: &mut [u
 }
 
 fn insert(kind: u8, place: TagId, words: &mut [u32], out: &mut [u8]) -> usize
-    requires { ⌜ Room 0 (now out) ⌝ }
+    requires { ⌜ Line-room 0 (now out) ⌝ }
     ensures words { λ _. ⌜ now (words .exit) ≡ insert-words kind (place .0) (now (words .entry)) ⌝ }
     ensures text { λ e. ⌜ Written (now (out .entry)) 0 (insert-text kind (place .0) (now (words .entry))) (now (out .exit)) e ⌝ }
 {
@@ -33,7 +33,7 @@ fn insert(kind: u8, place: TagId, words: &mut [u32], out: &mut [u8]) -> usize
 }
 
 fn mark(tag: TagId, words: &mut [u32], out: &mut [u8]) -> usize
-    requires { ⌜ Room 0 (now out) ⌝ }
+    requires { ⌜ Line-room 0 (now out) ⌝ }
     ensures words { λ _. ⌜ now (words .exit) ≡ mark-words (tag .0) (now (words .entry)) ⌝ }
     ensures text { λ e. ⌜ Written (now (out .entry)) 0 (mark-text (tag .0) (now (words .entry))) (now (out .exit)) e ⌝ }
 {

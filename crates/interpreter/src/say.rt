@@ -2,7 +2,7 @@
 ghost use mathlib.Core.List.{_++_};
 ghost use lib.ListN.{take};
 ghost use Rattle.reply_text.specs.Text.{reply-line, tag-lines, end-line};
-ghost use Rattle.reply_text.specs.Post.{Written, Room};
+ghost use Rattle.reply_text.specs.Post.{Written, Line-room};
 ghost use Rattle.calls.specs.Replies.{load-numbers, insert-numbers, mark-numbers};
 ghost use Rattle.interpreter.specs.Room.{Listing-room};
 use store_types::InsertReply;
@@ -10,7 +10,7 @@ use store_types::LoadReply;
 use store_types::MarkReply;
 
 pub fn loaded(reply: LoadReply, out: &mut [u8]) -> usize
-    requires { ⌜ Room 0 (now out) ⌝ }
+    requires { ⌜ Line-room 0 (now out) ⌝ }
     ensures { λ e. ⌜ Written (now (out .entry)) 0 (reply-line (load-numbers reply)) (now (out .exit)) e ⌝ }
 {
     match reply {
@@ -20,7 +20,7 @@ pub fn loaded(reply: LoadReply, out: &mut [u8]) -> usize
 }
 
 pub fn inserted(reply: InsertReply, out: &mut [u8]) -> usize
-    requires { ⌜ Room 0 (now out) ⌝ }
+    requires { ⌜ Line-room 0 (now out) ⌝ }
     ensures { λ e. ⌜ Written (now (out .entry)) 0 (reply-line (insert-numbers reply)) (now (out .exit)) e ⌝ }
 {
     match reply {
@@ -34,7 +34,7 @@ pub fn inserted(reply: InsertReply, out: &mut [u8]) -> usize
 }
 
 pub fn marked(reply: MarkReply, out: &mut [u8]) -> usize
-    requires { ⌜ Room 0 (now out) ⌝ }
+    requires { ⌜ Line-room 0 (now out) ⌝ }
     ensures { λ e. ⌜ Written (now (out .entry)) 0 (reply-line (mark-numbers reply)) (now (out .exit)) e ⌝ }
 {
     match reply {
@@ -47,7 +47,7 @@ pub fn marked(reply: MarkReply, out: &mut [u8]) -> usize
 fn tag_lines(tags: &[u32], labels: &[u32], count: usize, out: &mut [u8]) -> usize
     requires { ⌜ Listing-room (now tags) (now labels) count (now out) ⌝ }
     ensures text { λ e. ⌜ Written (now (out .entry)) 0 (tag-lines (take count (now (tags .entry))) (take count (now (labels .entry)))) (now (out .exit)) e ⌝ }
-    ensures room { λ e. ⌜ Room e (now (out .exit)) ⌝ }
+    ensures room { λ e. ⌜ Line-room e (now (out .exit)) ⌝ }
 {
     let mut at: usize = 0;
     let mut i: usize = 0;

@@ -10,5 +10,5 @@ pub record Written (out : List ℕ) (at : ℕ) (bytes after : List ℕ) (e : ℕ
   pub behind : e ≡ at + length bytes
 
 -- room for any line of a reply
-pub record Room (at : ℕ) (out : List ℕ) : Type 0 where
+pub record Line-room (at : ℕ) (out : List ℕ) : Type 0 where
   pub fits : at + 64 ≤ length out

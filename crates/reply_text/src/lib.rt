@@ -3,7 +3,7 @@ ghost use mathlib.Core.List.{[], _∷_, _++_};
 ghost use Prim.Native.Nat.{_+_, _≤_, _<_};
 ghost use lib.ListN.{length};
 ghost use Rattle.reply_text.specs.Text.{decimal, spaced, reply-line, tag-line, end-line, unknown-line};
-ghost use Rattle.reply_text.specs.Post.{Written, Room};
+ghost use Rattle.reply_text.specs.Post.{Written, Line-room};
 
 fn put_byte(out: &mut [u8], at: usize, byte: u8) -> usize
     requires { ⌜ at < length (now out) ⌝ }
@@ -52,7 +52,7 @@ fn put_last(out: &mut [u8], at: usize, n: u32) -> usize
 
 // The reply to a mark.
 pub fn ok_one(out: &mut [u8], at: usize, a: u32) -> usize
-    requires { ⌜ Room at (now out) ⌝ }
+    requires { ⌜ Line-room at (now out) ⌝ }
     ensures { λ e. ⌜ Written (now (out .entry)) at (reply-line (0 ∷ a ∷ [])) (now (out .exit)) e ⌝ }
 {
     let e = put_bytes(out, at, b"ok");
@@ -61,7 +61,7 @@ pub fn ok_one(out: &mut [u8], at: usize, a: u32) -> usize
 
 // The reply to a load.
 pub fn ok_two(out: &mut [u8], at: usize, a: u32, b: u32) -> usize
-    requires { ⌜ Room at (now out) ⌝ }
+    requires { ⌜ Line-room at (now out) ⌝ }
     ensures { λ e. ⌜ Written (now (out .entry)) at (reply-line (0 ∷ a ∷ b ∷ [])) (now (out .exit)) e ⌝ }
 {
     let e = put_bytes(out, at, b"ok");
@@ -71,7 +71,7 @@ pub fn ok_two(out: &mut [u8], at: usize, a: u32, b: u32) -> usize
 
 // The reply to an insertion.
 pub fn ok_three(out: &mut [u8], at: usize, a: u32, b: u32, c: u32) -> usize
-    requires { ⌜ Room at (now out) ⌝ }
+    requires { ⌜ Line-room at (now out) ⌝ }
     ensures { λ e. ⌜ Written (now (out .entry)) at (reply-line (0 ∷ a ∷ b ∷ c ∷ [])) (now (out .exit)) e ⌝ }
 {
     let e = put_bytes(out, at, b"ok");
@@ -83,7 +83,7 @@ pub fn ok_three(out: &mut [u8], at: usize, a: u32, b: u32, c: u32) -> usize
 // A reply of one number: a refusal. None is 0, which would be an `ok` without values; it costs a test here, and spares
 // each caller the proof.
 pub fn no_line(out: &mut [u8], at: usize, refusal: u32) -> usize
-    requires { ⌜ Room at (now out) ⌝ }
+    requires { ⌜ Line-room at (now out) ⌝ }
     ensures { λ e. ⌜ Written (now (out .entry)) at (reply-line (refusal ∷ [])) (now (out .exit)) e ⌝ }
 {
     if refusal == 0 {
@@ -94,7 +94,7 @@ pub fn no_line(out: &mut [u8], at: usize, refusal: u32) -> usize
 }
 
 pub fn tag_line(out: &mut [u8], at: usize, tag: u32, label: u32) -> usize
-    requires { ⌜ Room at (now out) ⌝ }
+    requires { ⌜ Line-room at (now out) ⌝ }
     ensures { λ e. ⌜ Written (now (out .entry)) at (tag-line tag label) (now (out .exit)) e ⌝ }
 {
     let e = put_number(out, at, tag);
@@ -102,7 +102,7 @@ pub fn tag_line(out: &mut [u8], at: usize, tag: u32, label: u32) -> usize
 }
 
 pub fn end_line(out: &mut [u8], at: usize, count: u32) -> usize
-    requires { ⌜ Room at (now out) ⌝ }
+    requires { ⌜ Line-room at (now out) ⌝ }
     ensures { λ e. ⌜ Written (now (out .entry)) at (end-line count) (now (out .exit)) e ⌝ }
 {
     let e = put_bytes(out, at, b"end");
@@ -110,7 +110,7 @@ pub fn end_line(out: &mut [u8], at: usize, count: u32) -> usize
 }
 
 pub fn unknown_line(out: &mut [u8], at: usize) -> usize
-    requires { ⌜ Room at (now out) ⌝ }
+    requires { ⌜ Line-room at (now out) ⌝ }
     ensures { λ e. ⌜ Written (now (out .entry)) at unknown-line (now (out .exit)) e ⌝ }
 {
     put_bytes(out, at, b"?\n")

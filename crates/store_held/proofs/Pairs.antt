@@ -1,10 +1,10 @@
 -- Hold and the held-pair question, by what the words say. Assumes nothing.
 use mathlib.Core.Path.{_≡_, sym, _∙_}
-use mathlib.Core.Bool.{Bool, true, false, _&&_, not, cond, true≢false, and-false, or-true}
+use mathlib.Core.Bool.{Bool, true, false, _&&_, not, cond, and-false, or-true}
 use mathlib.Core.List.{List}
 use mathlib.Core.Logic.{_⊎_, inl, inr}
 use Prim.Native.Nat.{ℕ, _%_, _≤_, _<_}
-use borrow.Author.Tests.{eq-eqb, ne-eqb, lt-leb, le-leb, lt-ltb, le-ltb, leb-true, leb-false, eqb-true, not-true, not-false}
+use borrow.Author.Tests.{eq-eqb, ne-eqb, lt-leb, le-leb, lt-ltb, le-ltb, leb-true, leb-false, eqb-true}
 use lib.Dec.{ltb, leb, eqb}
 use Rattle.lists.specs.Lists.{first}
 use Rattle.store_types.specs.declared.TagId.{TagId}

@@ -18,7 +18,7 @@ use Rattle.calls_laws.proofs.Tests.{Sound}
 use Rattle.calls_laws.proofs.WordSteps.{header-said}
 use Rattle.calls_laws.proofs.Sections.{distinct-row, row-below, is-tag}
 use Rattle.store_refuse.specs.Needs.{Tag-said}
-use Rattle.store_list.specs.Needs.{Stands, Span-said, unmarked, unmarked-between}
+use Rattle.store_list.specs.Needs.{Has-place, Span-said, unmarked, unmarked-between}
 use Rattle.store_refuse.proofs.Laws.{sound-said, words-of-tag, kind-of-tag}
 
 -- PLACES: no tag stands behind the last, and of each place what stands there
@@ -36,7 +36,7 @@ module _ {st : Store} (h : Sound st) where
       (λ t. let last : i ≡ length (row st) = omega (arith, ltb-false i (length (row st)) t) in
       rw (List·getD-eq-default (row st) no-tag {n = i} (omega arith)) (no-tag-last ∙ sym last))
 
-  pub stands-there : (i : ℕ) → i ≤ length (row st) → Stands st (getD (row st) i no-tag)
+  pub stands-there : (i : ℕ) → i ≤ length (row st) → Has-place st (getD (row st) i no-tag)
   stands-there i l = rw (place-there i l)
 
 -- ONE STEP of a pass from x to y that is not done

@@ -14,14 +14,14 @@ use Rattle.calls.specs.Words.{Says}
 use Rattle.calls.specs.Replies.{said}
 
 -- a tag that stands in the row, or no tag, which stands behind the last
-abbrev pub Stands : Store → (tag : ℕ) → Type 0
-Stands st x = getD (row st) (place-of st x) no-tag ≡ x
+abbrev pub Has-place : Store → (tag : ℕ) → Type 0
+Has-place st x = getD (row st) (place-of st x) no-tag ≡ x
 
 -- words that say a store, and two that stand in its row, the second not before the first
 pub record Span-said (ws : List ℕ) (x y : ℕ) : Type 0 where
   pub says : Says ws (said ws)
-  pub from : Stands (said ws) x
-  pub to : Stands (said ws) y
+  pub from : Has-place (said ws) x
+  pub to : Has-place (said ws) y
   pub order : place-of (said ws) x ≤ place-of (said ws) y
 
 -- the unmarked tags of a row, and those from one tag up to another

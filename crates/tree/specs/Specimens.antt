@@ -22,7 +22,7 @@ pub record Put : Type 0 where
   pub split : ℕ
 
 -- n tags are loaded, with these labels; then tags go in one by one, and H and the labels are these
-pub record Specimen : Type 0 where
+pub record History : Type 0 where
   pub s : ℕ
   pub r : ℕ
   pub n : ℕ
@@ -43,8 +43,8 @@ puts-hold x k (q ∷ qs) h ls =
     && leb (q .moves) (reach-bound (k .s) (k .r) (height k) (q .split)))
     && puts-hold (suc x) (inserted (q .p) x k) qs h ls
 
-unfoldable pub holds : Specimen → Bool
-holds e =
+unfoldable pub history-holds : History → Bool
+history-holds e =
     shows (loaded (e .s) (e .r) (e .n)) (e .load-height) (e .load-labels)
     && puts-hold (e .n) (loaded (e .s) (e .r) (e .n)) (e .puts) (e .end-height) (e .end-labels)
 
@@ -52,11 +52,11 @@ abbrev put-at : (p moves split : ℕ) → Put
 put-at p m h = record { p = p; moves = m; split = h }
 
 -- s = r = 2, loaded only
-abbrev pub twos : (n height : ℕ) → (labels : List ℕ) → Specimen
+abbrev pub twos : (n height : ℕ) → (labels : List ℕ) → History
 twos n h ls = record { s = 2; r = 2; n = n; load-height = h; load-labels = ls; puts = []; end-height = h; end-labels = ls }
 
-abbrev pub table : List Specimen
-table =
+abbrev pub histories : List History
+histories =
     -- A, B, C, D
     twos 0 1 [] ∷
     twos 3 1 (0 ∷ 1 ∷ 2 ∷ []) ∷
@@ -185,7 +185,7 @@ givens =
     []
 
 -- ALL AT THE FRONT: n tags are loaded, then m go in one by one at the front; H at the end, and how many move together
-pub record Front : Type 0 where
+pub record Front-history : Type 0 where
   pub s : ℕ
   pub r : ℕ
   pub n : ℕ
@@ -198,12 +198,12 @@ unfoldable pub fronts-move : (count x t : ℕ) → Book → (height total : ℕ)
 fronts-move zero x t k h all = eqb (height k) h && eqb t all
 fronts-move (suc c) x t k h all = fronts-move c (suc x) (t + moved (powers k) k (inserted 0 x k)) (inserted 0 x k) h all
 
-unfoldable pub front-holds : Front → Bool
+unfoldable pub front-holds : Front-history → Bool
 front-holds e =
     fronts-move (e .m) (e .n) 0 (loaded (e .s) (e .r) (e .n)) (e .end-height) (e .total)
     && leb ((e .s - 1) * e .total) (account-bound (e .s) (e .r) (e .n) (e .m) (e .end-height))
 
-abbrev pub fronts : List Front
+abbrev pub fronts : List Front-history
 fronts =
     -- one insertion splits the root and moves all: what is loaded must pay too
     record { s = 2; r = 2; n = 31; m = 1; end-height = 5; total = 31 } ∷
@@ -211,4 +211,4 @@ fronts =
     record { s = 2; r = 2; n = 4; m = 44; end-height = 5; total = 300 } ∷ []
 
 unfoldable pub tables-hold : Bool
-tables-hold = all-hold holds table && (all-hold given-holds givens && all-hold front-holds fronts)
+tables-hold = all-hold history-holds histories && (all-hold given-holds givens && all-hold front-holds fronts)

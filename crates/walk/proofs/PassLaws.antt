@@ -25,7 +25,7 @@ use Rattle.shape.specs.Packed.{widths-in, lows-in, highs-in, numbers-in}
 use Rattle.walk_levels.specs.Needs.{tables-of, levels-of, settle-from, place-from, close-from, expected-label}
 use Rattle.walk_levels.proofs.LevelLaws.{place-waited, place-settled}
 use Rattle.walk_levels.proofs.SizeLaws.{place-sizes-waited, place-sizes-settled}
-use Rattle.walk.specs.Needs.{Pass-fits, Standing, Behind, ends-from, label-passes, shape-with, shape-in, next-label, state-with, start-with}
+use Rattle.walk.specs.Needs.{Pass-fits, Standing, Behind, ends-from, label-passes, shape-with, shape-in, label-due, state-with, start-with}
 use Rattle.walk.specs.declared.State as code
 
 -- BEHIND THE LAST TAG
@@ -66,14 +66,14 @@ module _ (ws t : List ℕ) (n u : ℕ) (v : code.State) (e f : List ℕ) where
   levels-at = placed ws (shape-in t u n) (v .place) (state-with ws v e f) .levels
 
   abbrev pub sizes-here : (sizes : List ℕ) → List ℕ
-  sizes-here sz = place-sizes (widths-in t) (numbers-in t) u (next-label ws (v .prior .0)) (label-at ws (v .tag .0)) (v .place) (levels-of e f) sz
+  sizes-here sz = place-sizes (widths-in t) (numbers-in t) u (label-due ws (v .prior .0)) (label-at ws (v .tag .0)) (v .place) (levels-of e f) sz
 
   pub label-beyond : n ≤ v .tag .0 → false ≡ label-here
   unfolding label-passes shape-with state-with
   label-beyond r = rw (le-ltb (v .tag .0) n r)
 
   placed-by : {o : Bool} {z : Levels} → v .tag .0 < n →
-      (o ≡ place-from t u (next-label ws (v .prior .0)) (label-at ws (v .tag .0)) (v .place) e f .ok) × (z ≡ place-from t u (next-label ws (v .prior .0)) (label-at ws (v .tag .0)) (v .place) e f .levels) →
+      (o ≡ place-from t u (label-due ws (v .prior .0)) (label-at ws (v .tag .0)) (v .place) e f .ok) × (z ≡ place-from t u (label-due ws (v .prior .0)) (label-at ws (v .tag .0)) (v .place) e f .levels) →
       (o ≡ label-here) × (z ≡ levels-at)
   unfolding label-passes placed place-from shape-with state-with
   placed-by below c = (rw (lt-ltb (v .tag .0) n below) (c .0), c .1)
@@ -113,8 +113,8 @@ module _ (ws t : List ℕ) (n u : ℕ) (v : code.State) (e f : List ℕ) where
 
 -- behind it
 module _ (ws t : List ℕ) (n u : ℕ) (v q : code.State) (e f e′ f′ : List ℕ) (fits : Pass-fits ws n u t) (below : v .tag .0 < n) where
-  next-behind : next-label ws (v .tag .0) ≡ label-at ws (v .tag .0) + 1
-  unfolding next-label
+  next-behind : label-due ws (v .tag .0) ≡ label-at ws (v .tag .0) + 1
+  unfolding label-due
   next-behind = rw (ne-eqb (v .tag .0) no-tag (λ z. omega (arith, fits .records .few)))
 
   passed-by : levels-of e′ f′ ≡ levels-at ws t n u v e f → {end : ℕ} → Behind ws end v q → state-with ws q e′ f′ ≡ passed ws (shape-in t u n) (v .place) (state-with ws v e f)
@@ -141,15 +141,15 @@ module _ (ws t : List ℕ) (n u : ℕ) where
       record { place = 0; tag = record { 0 = word-at ws at-first }; at = record { 0 = p }; prior = record { 0 = no-tag }; parent = record { 0 = no-tag }; marks = 0; expect = 0 }
 
   pub walk-start : (p : ℕ) {w : List ℕ} → w ≡ widths-in t → walk-at (first-state p) w (replicate 24 0) ≡ walk-whole
-  unfolding state-with start-with next-label
+  unfolding state-with start-with label-due
   walk-start p e = rw (sub-zero n, e)
 
   pub sizes-start : (p : ℕ) {w : List ℕ} → w ≡ widths-in t → (sz : List ℕ) → sizes-at-tag (first-state p) w (replicate 24 0) sz ≡ sizes-whole sz
-  unfolding state-with start-with next-label
+  unfolding state-with start-with label-due
   sizes-start p e sz = rw (sub-zero n, e)
 
   pub standing-start : {p : ℕ} {w : List ℕ} → Pass-fits ws n u t → w ≡ widths-in t → p ≡ offset-of (word-at ws at-first) → Standing ws n w (first-state p)
-  unfolding next-label expected-label
+  unfolding label-due expected-label
   standing-start fits e q =
       record { there = q; waits = rw (e, lt-ltb 0 (getD (widths-in t) 1 0) (fits .wide)); around = none; marks-few = omega arith }
 

@@ -29,8 +29,8 @@ abbrev pub shape-in : (tables : List ℕ) → (under n : ℕ) → Shape
 shape-in t u n = shape-with (widths-in t) (lows-in t) (highs-in t) u n
 
 -- the label that comes next behind a tag, or at the front
-unfoldable pub next-label : List ℕ → (prior : ℕ) → ℕ
-next-label ws p = cond (eqb p no-tag) 0 (label-at ws p + 1)
+unfoldable pub label-due : List ℕ → (prior : ℕ) → ℕ
+label-due ws p = cond (eqb p no-tag) 0 (label-at ws p + 1)
 
 -- where the code stands, with the levels that it keeps beside it
 unfoldable pub state-with : List ℕ → code.State → (ends firsts : List ℕ) → State
@@ -40,14 +40,14 @@ state-with ws v e f =
       prior = v .prior .0;
       open-begin = v .parent .0;
       marks = v .marks;
-      expect = next-label ws (v .prior .0);
+      expect = label-due ws (v .prior .0);
       levels = levels-of e f;
     }
 
 -- what it carries is right: where the tag's record stands, the label that is waited for, the begins that are open
 pub record Standing (ws : List ℕ) (n : ℕ) (ends : List ℕ) (v : code.State) : Type 0 where
   pub there : v .at .0 ≡ offset-of (v .tag .0)
-  pub waits : v .expect ≡ expected-label (next-label ws (v .prior .0)) (getD ends 1 0)
+  pub waits : v .expect ≡ expected-label (label-due ws (v .prior .0)) (getD ends 1 0)
   pub around : Open ws n (v .parent .0)
   pub marks-few : v .marks ≤ v .place
 

@@ -8,7 +8,7 @@ ghost use Rattle.walk_model.specs.Watch.{Tables-at, place-sizes, close-sizes, w
 ghost use Rattle.walk_tags.specs.Needs.{Tag-reads};
 ghost use Rattle.shape.specs.Packed.{widths-in, lows-in, highs-in, numbers-in};
 ghost use Rattle.walk_levels.specs.Needs.{levels-of};
-ghost use Rattle.walk.specs.Needs.{Pass-fits, Standing, Ends-fit, Behind, ends-from, label-passes, shape-in, next-label, state-with, start-with};
+ghost use Rattle.walk.specs.Needs.{Pass-fits, Standing, Ends-fit, Behind, ends-from, label-passes, shape-in, label-due, state-with, start-with};
 use store_types::TagId;
 use words::Offset;
 
@@ -43,7 +43,7 @@ fn label_fits(
     requires { ⌜ Pass-fits (now words) (size .n) (size .under) (now tables) × Standing (now words) (size .n) (now ends) v ⌝ }
     ensures ok { λ t. ⌜ t ≡ label-passes (now (words .entry)) (shape-in (now (tables .entry)) (size .under) (size .n)) (v .place) (state-with (now (words .entry)) v (now (ends .entry)) (now (firsts .entry))) ⌝ }
     ensures left { λ t. ⌜ (t ≡ true → levels-of (now (ends .exit)) (now (firsts .exit)) ≡ placed (now (words .entry)) (shape-in (now (tables .entry)) (size .under) (size .n)) (v .place) (state-with (now (words .entry)) v (now (ends .entry)) (now (firsts .entry))) .levels) ⌝ }
-    ensures sizes { λ t. ⌜ (t ≡ true → now (sizes .exit) ≡ place-sizes (widths-in (now (tables .entry))) (numbers-in (now (tables .entry))) (size .under) (next-label (now (words .entry)) (v .prior .0)) (label-at (now (words .entry)) (v .tag .0)) (v .place) (levels-of (now (ends .entry)) (now (firsts .entry))) (now (sizes .entry))) ⌝ }
+    ensures sizes { λ t. ⌜ (t ≡ true → now (sizes .exit) ≡ place-sizes (widths-in (now (tables .entry))) (numbers-in (now (tables .entry))) (size .under) (label-due (now (words .entry)) (v .prior .0)) (label-at (now (words .entry)) (v .tag .0)) (v .place) (levels-of (now (ends .entry)) (now (firsts .entry))) (now (sizes .entry))) ⌝ }
 {
     if size.n <= v.tag.0 {
         return false;

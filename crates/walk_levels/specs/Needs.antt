@@ -23,11 +23,11 @@ pub record Levels-fit (under : ℕ) (w l h : List ℕ) : Type 0 where
   pub highs : (k : ℕ) → getD h k 0 ≤ entry-limit
 
 -- the numbers of the watched nodes by height
-abbrev pub Numbers-fit : List ℕ → Type 0
-Numbers-fit ns = (k : ℕ) → getD ns k 0 ≤ entry-limit
+abbrev pub Numbers-small : List ℕ → Type 0
+Numbers-small ns = (k : ℕ) → getD ns k 0 ≤ entry-limit
 
 abbrev pub Tables-fit : (under : ℕ) → List ℕ → Type 0
-Tables-fit u t = Levels-fit u (widths-in t) (lows-in t) (highs-in t) × Numbers-fit (numbers-in t)
+Tables-fit u t = Levels-fit u (widths-in t) (lows-in t) (highs-in t) × Numbers-small (numbers-in t)
 
 -- the ancestors below the root: each has a width
 pub record Ancestors-fit (under : ℕ) (w : List ℕ) : Type 0 where

@@ -27,11 +27,11 @@ after w h top top = []
 after w h (over f p) (over g q) = labels g w h (number w h (over f p) + w h) ++ after w (suc h) p q
 
 -- the open nodes from height suc j up are within their limits; n leaves are under the lowest
-abbrev pub Room : (s r j n : ℕ) {k : ℕ} → Spine k → Spine k → Type 0
-Room s r j n top top = n < s * r ^ suc j
-Room s r j n (over f p) (over g q) = (r ^ suc j ≤ n) × (n < s * r ^ suc j) × Room s r (suc j) (size f + (n + size g)) p q
+abbrev pub Open-within : (s r j n : ℕ) {k : ℕ} → Spine k → Spine k → Type 0
+Open-within s r j n top top = n < s * r ^ suc j
+Open-within s r j n (over f p) (over g q) = (r ^ suc j ≤ n) × (n < s * r ^ suc j) × Open-within s r (suc j) (size f + (n + size g)) p q
 
-room-high : (s r j n : ℕ) {k : ℕ} (p q : Spine k) → Room s r j n p q → n < s * r ^ suc j
+room-high : (s r j n : ℕ) {k : ℕ} (p q : Spine k) → Open-within s r j n p q → n < s * r ^ suc j
 room-high s r j n top top h = h
 room-high s r j n (over f p) (over g q) h = h .1
 
@@ -39,7 +39,7 @@ room-high s r j n (over f p) (over g q) h = h .1
 pub record Rest (s r j : ℕ) {k : ℕ} (f g : Forest) (p q : Spine k) : Type 0 where
   pub good : Good s r g j
   pub good-above : Good-spine s r (suc j) q
-  pub room : Room s r j (size f + size g) p q
+  pub room : Open-within s r j (size f + size g) p q
 
 abbrev pub rest-labels : (w : ℕ → ℕ) (j : ℕ) {k : ℕ} (f g : Forest) (p q : Spine k) → List ℕ
 rest-labels w j f g p q = labels g w j (number w (suc j) p + trees f * w j) ++ after w (suc j) p q

@@ -28,7 +28,8 @@ listed-requires : tie.Need-listed-requires
 listed-requires c κs =
     let known = c .before .before .before .before in
     let call = known .before .before .before .before in
-    list-room _ _ _ (length-replicate {A = ℕ} 2000 0) (length-replicate {A = ℕ} 2000 0) _ _ _ _ _ (call .list .ensures .0) (known .n .given .1) (search needs) (search needs) (call .before .before .before .before .before .pre)
+    list-room _ _ _ (length-replicate {A = ℕ} 2000 0) (length-replicate {A = ℕ} 2000 0) _ _ _ _ _ (call .list .ensures .0) (known .n .given .1)
+    (search needs) (search needs) (call .before .before .before .before .before .pre)
 
 enum-known-k : tie.Need-enum-known-k
 enum-known-k c = search needs

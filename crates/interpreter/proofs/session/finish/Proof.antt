@@ -24,7 +24,8 @@ returns-2 c =
     let clamp = call .before .before .before .before in
     let test = clamp .before .before in
     let args = test .before .before .args in
-    ends-line (args .held) (clamp .within .result) (args .line .now) (args .words .now) _ (args .out .now) _ _ (test .if1 .left) (search needs) (clamp .within .ensures) (call .answer-front .ensures .0) (call .answer-front .ensures .1)
+    ends-line (args .held) (clamp .within .result) (args .line .now) (args .words .now) _ (args .out .now) _ _ (test .if1 .left) (search needs)
+    (clamp .within .ensures) (call .answer-front .ensures .0) (call .answer-front .ensures .1)
 
 pub finish-spec : {M : Type 1} → statement M
 finish-spec =
