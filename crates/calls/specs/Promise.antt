@@ -88,11 +88,17 @@ pub record Asked (p : HeldPair) (d : ℕ) (st : Store) : Type 0 where
   pub other : d < count st
   pub begin : is-begin (fact st (p .tag .0) .kind) ≡ true
 
+-- yes and no: the pair may be asked and is current, and d is not marked; they differ in whether the section encloses d
+pub record Yes-or-no (p : HeldPair) (d : ℕ) (st : Store) (enclosure : Type 0) : Type 0 where
+  pub asked : Asked p d st
+  pub current : Current p st
+  pub unmarked : fact st d .marked ≡ false
+  pub tells : enclosure
+
 -- yes, no and stale, each if and only if, on any sound store: so for a pair held at any moment and asked after any calls
 pub record Answers-right (p : HeldPair) (d : ℕ) (st : Store) : Type 0 where
-  pub if-yes : (question p d st ≡ Answered Yes) ↔ (Asked p d st × Current p st × (fact st d .marked ≡ false) × Encloses st (p .tag .0) d)
-  pub if-no :
-      (question p d st ≡ Answered No) ↔ (Asked p d st × Current p st × (fact st d .marked ≡ false) × (Encloses st (p .tag .0) d → ⊥))
+  pub if-yes : (question p d st ≡ Answered Yes) ↔ Yes-or-no p d st (Encloses st (p .tag .0) d)
+  pub if-no : (question p d st ≡ Answered No) ↔ Yes-or-no p d st (Encloses st (p .tag .0) d → ⊥)
   pub if-stale :
       (question p d st ≡ Answered Stale) ↔ ((p .book ≡ st .number → ⊥) ⊎ ((p .book ≡ st .number) × Asked p d st × (Current p st → ⊥)))
 

@@ -23,7 +23,7 @@ use Rattle.calls.specs.Kind.{begin, end, is-begin}
 use Rattle.calls.specs.Store.{Store, fact, count, row, place-of, width, label}
 use Rattle.calls.specs.Sound.{sound}
 use Rattle.calls.specs.Held.{encloses, current, question-tests, question}
-use Rattle.calls.specs.Promise.{Labels-tell, Encloses, Current, Asked, Pairs-right, Pair-labels-tell}
+use Rattle.calls.specs.Promise.{Labels-tell, Encloses, Current, Asked, Pairs-right, Pair-labels-tell, Yes-or-no}
 use Rattle.calls_laws.proofs.Widths.{store-widths}
 use Rattle.calls_laws.proofs.Sections.{mate-fits}
 use Rattle.calls_laws.proofs.Tests.{Sound, sane, facts-of}
@@ -118,14 +118,14 @@ answers : (p : HeldPair) (d : ℕ) (st : Store) → Asked p d st → Current p s
 answers p d st h c m = asked-question p d st (c .book) h ∙ rw (current-test p st c, m)
 
 answered : (p : HeldPair) (d : ℕ) (st : Store) (a : Answer) → (Answered Stale ≡ Answered a → ⊥) → question p d st ≡ Answered a →
-    Asked p d st × Current p st × (fact st d .marked ≡ false) × (Answered (cond (encloses st (p .tag .0) d) Yes No) ≡ Answered a)
+    Yes-or-no p d st (Answered (cond (encloses st (p .tag .0) d) Yes No) ≡ Answered a)
 unfolding question question-tests first
 answered p d st a fresh e =
     let book = not-false _ (passed (not (eqb (p .book) (st .number))) (Answered Stale) _ (Answered a) fresh e .0) in
     let asked = question-asked p d st a book e in
     let now = passed (not (current st p)) (Answered Stale) (if-current p d st) (Answered a) fresh (asked .1) in
     let tag = passed (fact st d .marked) (Refused 9) _ (Answered a) (refused-not 9 a) (now .1) in
-    (asked .0, current-of p st book (not-false _ (now .0)), tag .0, tag .1)
+    record { asked = asked .0; current = current-of p st book (not-false _ (now .0)); unmarked = tag .0; tells = tag .1 }
 
 said-yes : (t : Bool) → Answered (cond t Yes No) ≡ Answered Yes → t ≡ true
 said-yes true e = refl
@@ -160,18 +160,22 @@ stale-test p d st (inr h) =
     asked-question p d st (h .0) (h .1)
     ∙ rw (fails (current st p) (λ c. h .2 (current-of p st (eq-eqb _ _ (h .0)) c)))
 
+-- the same, where enclosure is told in another way
+told : {p : HeldPair} {d : ℕ} {st : Store} {A B : Type 0} → Yes-or-no p d st A → B → Yes-or-no p d st B
+told h b = record { asked = h .asked; current = h .current; unmarked = h .unmarked; tells = b }
+
 -- yes, no and stale, each if and only if
 pub pairs-right : Pairs-right
 unfolding Pairs-right
 pairs-right p d st =
     record {
       if-yes = (
-        λ e. let a = answered p d st Yes (λ q. not-stale true (sym q)) e in (a .0, a .1, a .2, encloses-of st (p .tag .0) d (said-yes _ (a .3))),
-        λ h. answers p d st (h .0) (h .1) (h .2) ∙ rw (encloses-test st (p .tag .0) d (h .3)),
+        λ e. let a = answered p d st Yes (λ q. not-stale true (sym q)) e in told a (encloses-of st (p .tag .0) d (said-yes _ (a .tells))),
+        λ h. answers p d st (h .asked) (h .current) (h .unmarked) ∙ rw (encloses-test st (p .tag .0) d (h .tells)),
       );
       if-no = (
-        λ e. let a = answered p d st No (λ q. not-stale false (sym q)) e in (a .0, a .1, a .2, λ i. true≢false (sym (encloses-test st (p .tag .0) d i) ∙ said-no _ (a .3))),
-        λ h. answers p d st (h .0) (h .1) (h .2) ∙ rw (fails (encloses st (p .tag .0) d) (λ i. h .3 (encloses-of st (p .tag .0) d i))),
+        λ e. let a = answered p d st No (λ q. not-stale false (sym q)) e in told a (λ i. true≢false (sym (encloses-test st (p .tag .0) d i) ∙ said-no _ (a .tells))),
+        λ h. answers p d st (h .asked) (h .current) (h .unmarked) ∙ rw (fails (encloses st (p .tag .0) d) (λ i. h .tells (encloses-of st (p .tag .0) d i))),
       );
       if-stale = (stale-of p d st, stale-test p d st);
     }

@@ -18,7 +18,7 @@ use Rattle.calls.specs.Mark.{section-refusal}
 use Rattle.calls.specs.Held.{hold-pair, question}
 use Rattle.calls.specs.Words.{Says}
 use Rattle.calls.specs.Replies.{said, refusal-over, replied, question-reply, hold-reply}
-use Rattle.calls.specs.Promise.{Encloses, Current, Asked, Pairs-right}
+use Rattle.calls.specs.Promise.{Encloses, Current, Asked, Pairs-right, Yes-or-no}
 use Rattle.calls_laws.proofs.Reader.{kind-back}
 use Rattle.calls_laws.proofs.Sections.{distinct-row, in-row, mate-fits}
 use Rattle.calls_laws.proofs.Marks.{accepted-section}
@@ -26,7 +26,7 @@ use Rattle.calls_laws.proofs.Pairs.{pairs-right}
 use Rattle.calls_laws.proofs.WordSteps.{said-store, refusal-said, refusal-passed, header-said}
 use Rattle.calls_laws.proofs.Replies.{replied-accepted}
 use Rattle.demands.specs.Words.{is-marked}
-use Rattle.demands.specs.Promise.{Asked-words, Current-words, Enclosed, Question-right, Hold-right}
+use Rattle.demands.specs.Promise.{Asked-words, Current-words, Enclosed, Question-right, Hold-right, Yes-or-no-words}
 use Rattle.demands.proofs.Said.{sound-said, tag-said, book-row}
 use Rattle.demands.proofs.Places.{stand-of, places-of}
 
@@ -122,6 +122,29 @@ said-answered : (p : HeldPair) (d : ℕ) (ws : List ℕ) (st : Store) → Says w
 unfolding question-reply replied
 said-answered p d ws st h = rw (refusal-said ws st h (λ st. 0), said-store ws st h)
 
+-- a yes or no of the store is one of the words, and back
+module _ {p : HeldPair} {d : ℕ} {ws : List ℕ} {st : Store} {A B : Type 0} (h : Says ws st) where
+  words-tell : Yes-or-no p d st A → B → Yes-or-no-words p d ws B
+  words-tell y b =
+      let a = y .asked in
+      record {
+        says = (st, h);
+        asked = asked-said ws st h p d a;
+        current = current-said ws st h p (a .tag) (y .current);
+        unmarked = marked-said ws st h d (a .other) ∙ y .unmarked;
+        tells = b;
+      }
+
+  store-tells : Yes-or-no-words p d ws A → B → Yes-or-no p d st B
+  store-tells y b =
+      let a = said-asked ws st h p d (y .asked) in
+      record {
+        asked = a;
+        current = said-current ws st h p (a .tag) (y .current);
+        unmarked = sym (marked-said ws st h d (a .other)) ∙ y .unmarked;
+        tells = b;
+      }
+
 -- yes, no and stale, each if and only if
 pub question-right : Question-right
 unfolding Question-right Pairs-right
@@ -130,24 +153,22 @@ question-right p d ws =
       if-yes = (
         λ e. let (h, q) = answered-said p d ws Yes e in
             let st = said ws in
-            let (a, c, m, i) = pairs-right p d st .if-yes .0 q in
-            ((st, h), asked-said ws st h p d a, current-said ws st h p (a .tag) c, marked-said ws st h d (a .other) ∙ m, enclosed-said ws st h p (a .tag) d (a .other) .0 i),
-        λ (known, aw, cw, m, i). let (st, h) = known in
-            let a = said-asked ws st h p d aw in
-            said-answered p d ws st h
-            ∙ pairs-right p d st .if-yes .1
-            (a, said-current ws st h p (a .tag) cw, sym (marked-said ws st h d (a .other)) ∙ m, enclosed-said ws st h p (a .tag) d (a .other) .1 i),
+            let y = pairs-right p d st .if-yes .0 q in
+            let a = y .asked in
+            words-tell h y (enclosed-said ws st h p (a .tag) d (a .other) .0 (y .tells)),
+        λ y. let (st, h) = y .says in
+            let a = said-asked ws st h p d (y .asked) in
+            said-answered p d ws st h ∙ pairs-right p d st .if-yes .1 (store-tells h y (enclosed-said ws st h p (a .tag) d (a .other) .1 (y .tells))),
       );
       if-no = (
         λ e. let (h, q) = answered-said p d ws No e in
             let st = said ws in
-            let (a, c, m, i) = pairs-right p d st .if-no .0 q in
-            ((st, h), asked-said ws st h p d a, current-said ws st h p (a .tag) c, marked-said ws st h d (a .other) ∙ m, λ s. i (enclosed-said ws st h p (a .tag) d (a .other) .1 s)),
-        λ (known, aw, cw, m, i). let (st, h) = known in
-            let a = said-asked ws st h p d aw in
-            said-answered p d ws st h
-            ∙ pairs-right p d st .if-no .1
-            (a, said-current ws st h p (a .tag) cw, sym (marked-said ws st h d (a .other)) ∙ m, λ s. i (enclosed-said ws st h p (a .tag) d (a .other) .0 s)),
+            let y = pairs-right p d st .if-no .0 q in
+            let a = y .asked in
+            words-tell h y (λ s. y .tells (enclosed-said ws st h p (a .tag) d (a .other) .1 s)),
+        λ y. let (st, h) = y .says in
+            let a = said-asked ws st h p d (y .asked) in
+            said-answered p d ws st h ∙ pairs-right p d st .if-no .1 (store-tells h y (λ s. y .tells (enclosed-said ws st h p (a .tag) d (a .other) .0 s))),
       );
       if-stale = (
         λ e. let (h, q) = answered-said p d ws Stale e in ((said ws, h), stale-said p d ws (said ws) h (pairs-right p d (said ws) .if-stale .0 q)),

@@ -76,8 +76,8 @@ happens ws (ask.list x ts ls) = ((refl, refl, refl, refl), refl)
 
 pub runs-exist : Runs-exist
 unfolding Runs-exist Run
-runs-exist ws [] = ([], ws, refl, refl)
+runs-exist ws [] = record { events = []; end = ws; asked = refl; run = refl }
 runs-exist ws (q ∷ qs) =
     let here = happens ws q in
     let rest = runs-exist (then ws q) qs in
-    (event ws q ∷ rest .0, rest .1, rw (here .1, rest .2), (then ws q, here .0, rest .3))
+    record { events = event ws q ∷ rest .events; end = rest .end; asked = rw (here .1, rest .asked); run = (then ws q, here .0, rest .run) }

@@ -117,8 +117,14 @@ request (holds x q) = hold x
 request (asks p d q) = ask p d
 request (lists x ts ls us ms q) = list x ts ls
 
+pub record Ran-so (ws : List ℕ) (qs : List Request) : Type 0 where
+  pub events : List Event
+  pub end : List ℕ
+  pub asked : map request events ≡ qs
+  pub run : Run ws events end
+
 unfoldable pub Runs-exist : Type 0
-Runs-exist = (ws : List ℕ) (qs : List Request) → (es : List Event) × (end : List ℕ) × (map request es ≡ qs) × Run ws es end
+Runs-exist = (ws : List ℕ) (qs : List Request) → Ran-so ws qs
 
 -- DEMAND 2, of the entries' replies on any words. Words that say a store
 abbrev pub Says-some : List ℕ → Type 0
@@ -141,13 +147,16 @@ pub record Current-words (p : HeldPair) (ws : List ℕ) : Type 0 where
 unfoldable pub Enclosed : HeldPair → (d : ℕ) → (words : List ℕ) → Type 0
 Enclosed p d ws = Stand ws (p .tag .0) d (field ws (p .tag .0) at-mate)
 
+pub record Yes-or-no-words (p : HeldPair) (d : ℕ) (ws : List ℕ) (enclosure : Type 0) : Type 0 where
+  pub says : Says-some ws
+  pub asked : Asked-words p d ws
+  pub current : Current-words p ws
+  pub unmarked : is-marked ws d ≡ false
+  pub tells : enclosure
+
 pub record Reply-right (p : HeldPair) (d : ℕ) (ws : List ℕ) : Type 0 where
-  pub if-yes :
-      (question-reply p d ws ≡ question-said.Answered Yes)
-      ↔ (Says-some ws × Asked-words p d ws × Current-words p ws × (is-marked ws d ≡ false) × Enclosed p d ws)
-  pub if-no :
-      (question-reply p d ws ≡ question-said.Answered No)
-      ↔ (Says-some ws × Asked-words p d ws × Current-words p ws × (is-marked ws d ≡ false) × (Enclosed p d ws → ⊥))
+  pub if-yes : (question-reply p d ws ≡ question-said.Answered Yes) ↔ Yes-or-no-words p d ws (Enclosed p d ws)
+  pub if-no : (question-reply p d ws ≡ question-said.Answered No) ↔ Yes-or-no-words p d ws (Enclosed p d ws → ⊥)
   pub if-stale :
       (question-reply p d ws ≡ question-said.Answered Stale)
       ↔ (Says-some ws × ((p .book ≡ word-at ws at-book → ⊥) ⊎ ((p .book ≡ word-at ws at-book) × Asked-words p d ws × (Current-words p ws → ⊥))))
