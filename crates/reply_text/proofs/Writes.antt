@@ -34,7 +34,9 @@ writes-both {out} {middle} {after} {xs} {ys} {at} {e} {f} l first second =
     let place : at + length xs + length ys ≡ at + length (xs ++ ys) = omega (arith, length-append xs ys) in
     let tail : drop (e + length ys) middle ≡ drop (at + length (xs ++ ys)) out = sym (drop-drop (length ys) e middle) ∙ ap (drop (length ys)) back ∙ drop-drop (length ys) (at + length xs) out ∙ ap (λ k. drop k out) place in
     record {
-      text = second .text ∙ rw (front, tail) (append-assoc (take at out) xs (ys ++ drop (at + length (xs ++ ys)) out) ∙ ap (λ r. take at out ++ r) (sym (append-assoc xs ys (drop (at + length (xs ++ ys)) out))));
+      text =
+          second .text ∙ rw (front, tail)
+          (append-assoc (take at out) xs (ys ++ drop (at + length (xs ++ ys)) out) ∙ ap (λ r. take at out ++ r) (sym (append-assoc xs ys (drop (at + length (xs ++ ys)) out))));
       behind = omega (arith, length-append xs ys, first .behind, second .behind);
     }
 
@@ -43,10 +45,13 @@ spaced-one : (n : ℕ) → spaced (n ∷ []) ≡ 32 ∷ decimal n
 unfolding spaced
 spaced-one n = append-nil (32 ∷ decimal n)
 
-pub writes-last : (n : ℕ) {out middle after : List ℕ} {at e f : ℕ} → at + length (32 ∷ decimal n) ≤ length out → Written out at (32 ∷ decimal n) middle e → Written middle e (10 ∷ []) after f → Written out at (spaced (n ∷ []) ++ (10 ∷ [])) after f
+pub writes-last : (n : ℕ) {out middle after : List ℕ} {at e f : ℕ} → at + length (32 ∷ decimal n) ≤ length out →
+    Written out at (32 ∷ decimal n) middle e → Written middle e (10 ∷ []) after f → Written out at (spaced (n ∷ []) ++ (10 ∷ [])) after f
 writes-last n l first second = rw (spaced-one n) (writes-both l first second)
 
-pub writes-spaced : (n : ℕ) (ns : List ℕ) {out middle after : List ℕ} {at e f : ℕ} → at + length (32 ∷ decimal n) ≤ length out → Written out at (32 ∷ decimal n) middle e → Written middle e (spaced ns ++ (10 ∷ [])) after f → Written out at (spaced (n ∷ ns) ++ (10 ∷ [])) after f
+pub writes-spaced : (n : ℕ) (ns : List ℕ) {out middle after : List ℕ} {at e f : ℕ} → at + length (32 ∷ decimal n) ≤ length out →
+    Written out at (32 ∷ decimal n) middle e → Written middle e (spaced ns ++ (10 ∷ [])) after f →
+    Written out at (spaced (n ∷ ns) ++ (10 ∷ [])) after f
 unfolding spaced
 writes-spaced n ns l first second = rw (append-assoc (32 ∷ decimal n) (spaced ns) (10 ∷ [])) (writes-both l first second)
 

@@ -33,7 +33,8 @@ add-result c = search needs
 returns-4 : tie.Need-returns-4
 returns-4 c = let closed = c .before .before .before .before in
     let after = closed .before .before in (
-      ends-stamp _ _ _ _ _ _ _ _ _ (after .before .before .before .is-none .ensures) (after .before .before .if1 .left) (after .before .is-none2 .ensures) (after .if2 .left) (closed .all-close .ensures .0) (c .before .before .before .if3 .left),
+      ends-stamp _ _ _ _ _ _ _ _ _ (after .before .before .before .is-none .ensures) (after .before .before .if1 .left)
+          (after .before .is-none2 .ensures) (after .if2 .left) (closed .all-close .ensures .0) (c .before .before .before .if3 .left),
       λ _. closed .all-close .ensures .1 (not-false _ (c .before .before .before .if3 .left)),
     )
 

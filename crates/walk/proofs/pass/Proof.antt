@@ -31,13 +31,17 @@ of-requires : tie.Need-of-requires Inv-loop μ-loop
 of-requires c κs = search needs
 
 returns : tie.Need-returns Inv-loop μ-loop
-returns c = let start = c .before .before .before .before .before .before .before in (walk-outside _ _ _ _ (start .pre .0) (c .before .before .before .before .of .ensures) (c .before .before .if1 .taken) (leb-true _ _ (c .if2 .taken)), never)
+returns c =
+    let start = c .before .before .before .before .before .before .before in
+    (walk-outside _ _ _ _ (start .pre .0) (c .before .before .before .before .of .ensures) (c .before .before .if1 .taken) (leb-true _ _ (c .if2 .taken)), never)
 
 pairs-requires : tie.Need-pairs-requires Inv-loop μ-loop
 pairs-requires c κs = search needs
 
 loop-holds : tie.Need-loop-holds Inv-loop μ-loop
-loop-holds c = let start = c .before .before .before .before .before .before in let there = c .before .before .before .of .ensures in (omega arith, c .pairs .ensures, standing-start _ _ _ _ (start .pre .0) (start .pre .1) there, walk-start _ _ _ _ _ (start .pre .1), sizes-start _ _ _ _ _ (start .pre .1) _)
+loop-holds c =
+    let start = c .before .before .before .before .before .before in let there = c .before .before .before .of .ensures in
+    (omega arith, c .pairs .ensures, standing-start _ _ _ _ (start .pre .0) (start .pre .1) there, walk-start _ _ _ _ _ (start .pre .1), sizes-start _ _ _ _ _ (start .pre .1) _)
 
 -- places of a turn: where the pass began, where the turn did, where it has a tag, where that tag's label has been tested
 abbrev start : tie.At-loop Inv-loop μ-loop → tie.Start Inv-loop μ-loop

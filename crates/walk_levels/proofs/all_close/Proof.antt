@@ -50,7 +50,10 @@ element-copy-out-watched : tie.Need-element-copy-out-watched Inv-loop μ-loop
 element-copy-out-watched c = omega arith
 
 watched-end-requires : tie.Need-watched-end-requires Inv-loop μ-loop
-watched-end-requires c κs = let start = c .before .before .before .before .before .before in (omega (arith, start .pre .0 .height, c .before .before .before .before .loop-test .taken), tables-below (start .args .tables .now) _ (c .before .before .before .before .loop-test .taken) (start .pre))
+watched-end-requires c κs =
+    let at = turn (c .before .before) in
+    let start = at .before .before in
+    (omega (arith, start .pre .0 .height, at .loop-test .taken), tables-below (start .args .tables .now) _ (at .loop-test .taken) (start .pre))
 
 mul-watched-2 : tie.Need-mul-watched-2 Inv-loop μ-loop
 mul-watched-2 c = omega arith

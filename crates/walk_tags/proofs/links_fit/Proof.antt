@@ -33,7 +33,9 @@ up-of-requires c κs = let from = c .before .before .before .before .before .bef
 
 returns-2 : tie.Need-returns-2
 returns-2 c = let read = c .before .before .before .before .before .before in
-    links-up-not _ _ _ _ _ _ (read .before .at-end .ensures) (read .get .ensures) (c .before .before .before .before .if1 .left) (read .before .before .get-at .ensures _ (read .before .before .before .before .pre .0 .there)) (c .before .before .before .at-end2 .ensures) (c .before .before .up-of .ensures) (c .if2 .taken)
+    links-up-not _ _ _ _ _ _ (read .before .at-end .ensures) (read .get .ensures) (c .before .before .before .before .if1 .left)
+    (read .before .before .get-at .ensures _ (read .before .before .before .before .pre .0 .there)) (c .before .before .before .at-end2 .ensures)
+    (c .before .before .up-of .ensures) (c .if2 .taken)
 
 cast-at-begin : tie.Need-cast-at-begin
 cast-at-begin c = search needs
@@ -58,7 +60,10 @@ at-begin-requires-2 c κs = search needs
 returns-3 : tie.Need-returns-3
 returns-3 c = let side = c .before .before .before .before .before .before in
     let read = side .before .before .before in
-    links-back _ _ _ _ _ _ (read .before .at-end .ensures) (read .get .ensures) (side .before .if1 .left) (read .before .before .get-at .ensures _ (read .before .before .before .before .pre .0 .there)) (side .at-end2 .ensures) (c .before .before .before .before .before .up-of .ensures) (c .before .before .before .if2 .left) (c .before .before .at-begin .ensures) (c .before .get2 .ensures) (c .at-begin2 .ensures)
+    links-back _ _ _ _ _ _ (read .before .at-end .ensures) (read .get .ensures) (side .before .if1 .left)
+    (read .before .before .get-at .ensures _ (read .before .before .before .before .pre .0 .there)) (side .at-end2 .ensures)
+    (c .before .before .before .before .before .up-of .ensures) (c .before .before .before .if2 .left) (c .before .before .at-begin .ensures)
+    (c .before .get2 .ensures) (c .at-begin2 .ensures)
 
 pub links-fit-spec : {M : Type 1} → statement M
 links-fit-spec =

@@ -24,7 +24,8 @@ beside-requires c κs = search needs
 
 kind-of-requires : tie.Need-kind-of-requires
 kind-of-requires c κs = let reads = c .before .before .before .before .before .before .before .pre .0 in
-    room (reads .records) (beside-below _ _ _ _ _ _ reads (c .before .before .before .before .before .get-at .ensures _ (reads .there)) (c .before .before .before .if1 .left) (c .before .before .get-at2 .ensures _ (reads .there)) (c .beside .ensures))
+    room (reads .records)
+    (beside-below _ _ _ _ _ _ reads (c .before .before .before .before .before .get-at .ensures _ (reads .there)) (c .before .before .before .if1 .left) (c .before .before .get-at2 .ensures _ (reads .there)) (c .beside .ensures))
 
 may-stand-requires : tie.Need-may-stand-requires
 may-stand-requires c κs = search needs
@@ -32,19 +33,29 @@ may-stand-requires c κs = search needs
 returns-3 : tie.Need-returns-3
 returns-3 c = let kind = c .before .before .before .before .before in
     let from = kind .before .before .before .before .before .pre in
-    tag-unfit _ _ _ _ _ _ (from .0) (kind .before .before .before .get-at .ensures _ (from .0 .there)) (kind .before .if1 .left) (kind .get-at2 .ensures _ (from .0 .there)) (c .before .before .before .before .if2 .left) (c .before .before .before .beside .ensures) (c .before .before .kind-of .ensures) (from .1) (c .before .may-stand .ensures) (c .if3 .taken)
+    tag-unfit _ _ _ _ _ _ (from .0) (kind .before .before .before .get-at .ensures _ (from .0 .there)) (kind .before .if1 .left)
+    (kind .get-at2 .ensures _ (from .0 .there)) (c .before .before .before .before .if2 .left) (c .before .before .before .beside .ensures)
+    (c .before .before .kind-of .ensures) (from .1) (c .before .may-stand .ensures) (c .if3 .taken)
 
 links-fit-requires : tie.Need-links-fit-requires
-links-fit-requires c κs = let kind = c .before .before .before .before .before in
+links-fit-requires c κs =
+    let kind = c .before .before .before .before .before in
     let from = kind .before .before .before .before .before .pre in
     let prior = kind .before .before .before .get-at .ensures _ (from .0 .there) in
-    let below = beside-below _ _ _ _ _ _ (from .0) prior (kind .before .if1 .left) (kind .get-at2 .ensures _ (from .0 .there)) (c .before .before .before .beside .ensures) in
-    (record { room = room (from .0 .records) (from .0 .below); there = from .0 .there; beside = room (from .0 .records) below }, tag-kind _ _ _ _ _ _ (from .0) prior (kind .before .if1 .left) (kind .get-at2 .ensures _ (from .0 .there)) (c .before .before .before .before .if2 .left) (c .before .before .before .beside .ensures) (c .before .before .kind-of .ensures) (from .1) (c .before .may-stand .ensures) (c .if3 .left))
+    let word = kind .get-at2 .ensures _ (from .0 .there) in
+    let side = c .before .before .before .beside .ensures in
+    let below = beside-below _ _ _ _ _ _ (from .0) prior (kind .before .if1 .left) word side in
+    let kinds = tag-kind _ _ _ _ _ _ (from .0) prior (kind .before .if1 .left) word (c .before .before .before .before .if2 .left) side
+    (c .before .before .kind-of .ensures) (from .1) (c .before .may-stand .ensures) (c .if3 .left) in
+    (record { room = room (from .0 .records) (from .0 .below); there = from .0 .there; beside = room (from .0 .records) below }, kinds)
 
 returns-4 : tie.Need-returns-4
 returns-4 c = let kind = c .before .before .before .before .before .before in
     let from = kind .before .before .before .before .before .pre in
-    tag-links _ _ _ _ _ _ (from .0) (kind .before .before .before .get-at .ensures _ (from .0 .there)) (kind .before .if1 .left) (kind .get-at2 .ensures _ (from .0 .there)) (c .before .before .before .before .before .if2 .left) (c .before .before .before .before .beside .ensures) (c .before .before .before .kind-of .ensures) (from .1) (c .before .before .may-stand .ensures) (c .before .if3 .left) (c .links-fit .ensures)
+    tag-links _ _ _ _ _ _ (from .0) (kind .before .before .before .get-at .ensures _ (from .0 .there)) (kind .before .if1 .left)
+    (kind .get-at2 .ensures _ (from .0 .there)) (c .before .before .before .before .before .if2 .left)
+    (c .before .before .before .before .beside .ensures) (c .before .before .before .kind-of .ensures) (from .1)
+    (c .before .before .may-stand .ensures) (c .before .if3 .left) (c .links-fit .ensures)
 
 pub tag-fits-spec : {M : Type 1} → statement M
 tag-fits-spec =

@@ -28,7 +28,14 @@ abbrev g-of : tie.After-field-end3 → ℕ
 g-of c = c .field-end3 .result
 
 ends : (c : tie.After-field-end3) → Ends (rest c) (e-of c) (f-of c) (g-of c)
-ends c = record { first = c .before .before .before .before .field-end .ensures; goes-on = c .before .before .before .if1 .left; second = c .before .before .field-end2 .ensures; goes-further = c .before .if2 .left; third = c .field-end3 .ensures }
+ends c =
+    record {
+      first = c .before .before .before .before .field-end .ensures;
+      goes-on = c .before .before .before .if1 .left;
+      second = c .before .before .field-end2 .ensures;
+      goes-further = c .before .if2 .left;
+      third = c .field-end3 .ensures;
+    }
 
 -- the way back from each number read, and the number
 abbrev by-s : tie.After-known-told → tie.After-field-end3
@@ -68,7 +75,10 @@ returns-2 : tie.Need-returns-2
 returns-2 c = gives-plain (load-two _ _ _ (c .before .before .before .field-end .ensures) (c .before .before .if1 .left) (c .before .field-end2 .ensures) (c .if2 .taken))
 
 second-end-within : (c : tie.Else2) → c .before .field-end2 .result + 1 ≤ length (c .before .before .before .before .before .before .args .rest .now)
-second-end-within c = omega (arith, field-within (c .before .before .before .before .before .before .args .rest .now) (c .before .before .before .field-end .result + 1) (c .before .field-end2 .result) (first-end-within (c .before .before)) (c .before .field-end2 .ensures), c .if2 .left)
+second-end-within c =
+    let first = c .before .before in
+    let within = field-within (first .before .before .before .before .args .rest .now) (first .before .field-end .result + 1) (c .before .field-end2 .result) (first-end-within first) (c .before .field-end2 .ensures) in
+    omega (arith, within, c .if2 .left)
 
 add-field-end-2 : tie.Need-add-field-end-2
 add-field-end-2 c = omega (arith, second-end-within c)
@@ -190,7 +200,9 @@ returns-7 : tie.Need-returns-7
 returns-7 c =
     let test = c .before in
     let at = test .before .before .before .before .before .before .before in
-    rw (c .loaded2 .ensures) (load-letters _ _ _ _ (ends (by-s (by-r (by-book at)))) _ _ _ (is-s (by-r (by-book at))) (is-r (by-book at)) (is-book at) _ _ (test .before .before .before .before .before .before .if3 .left) (test .before .before .before .letters .ensures) (test .if4 .taken))
+    let number-r = by-r (by-book at) in
+    rw (c .loaded2 .ensures)
+    (load-letters _ _ _ _ (ends (by-s number-r)) _ _ _ (is-s number-r) (is-r (by-book at)) (is-book at) _ _ (test .before .before .before .before .before .before .if3 .left) (test .before .before .before .letters .ensures) (test .if4 .taken))
 
 same-length-2 : tie.Need-same-length-2
 same-length-2 c = search needs
@@ -198,7 +210,8 @@ same-length-2 c = search needs
 returns-8 : tie.Need-returns-8
 returns-8 c =
     let at = c .before .before .before .before .before .before .before in
-    gives-plain (load-not-letters _ _ _ _ (ends (by-s (by-r (by-book at)))) _ _ _ (is-s (by-r (by-book at))) (is-r (by-book at)) (is-book at) _ _ (c .before .before .before .before .before .before .if3 .left) (c .before .before .before .letters .ensures) (c .if4 .left))
+    let number-r = by-r (by-book at) in
+    gives-plain (load-not-letters _ _ _ _ (ends (by-s number-r)) _ _ _ (is-s number-r) (is-r (by-book at)) (is-book at) _ _ (c .before .before .before .before .before .before .if3 .left) (c .before .before .before .letters .ensures) (c .if4 .left))
 
 pub load-spec : {M : Type 1} → statement M
 load-spec =

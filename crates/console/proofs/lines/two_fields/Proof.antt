@@ -38,7 +38,8 @@ returns-3 : tie.Need-returns-3
 returns-3 c =
     let first = c .before .before .before in
     let at = first .before .before .before .before in
-    two-text _ _ _ (reply-some _ _ (sym (at .y .given .1) ∙ at .before .before .read-place .ensures)) (sym (first .before .same-bytes .ensures) ∙ first .if1 .left) (sym (c .before .same-bytes2 .ensures) ∙ c .if2 .taken)
+    two-text _ _ _ (reply-some _ _ (sym (at .y .given .1) ∙ at .before .before .read-place .ensures))
+    (sym (first .before .same-bytes .ensures) ∙ first .if1 .left) (sym (c .before .same-bytes2 .ensures) ∙ c .if2 .taken)
 
 slice-aggregate-same-bytes-3 : tie.Need-slice-aggregate-same-bytes-3
 slice-aggregate-same-bytes-3 c = search needs
@@ -51,7 +52,9 @@ returns-4 c =
     let second = c .before .before .before in
     let first = second .before .before .before in
     let at = first .before .before .before .before in
-    two-mark _ _ _ (reply-some _ _ (sym (at .y .given .1) ∙ at .before .before .read-place .ensures)) (sym (first .before .same-bytes .ensures) ∙ first .if1 .left) (sym (second .before .same-bytes2 .ensures) ∙ second .if2 .left) (sym (c .before .same-bytes3 .ensures) ∙ c .if3 .taken)
+    two-mark _ _ _ (reply-some _ _ (sym (at .y .given .1) ∙ at .before .before .read-place .ensures))
+    (sym (first .before .same-bytes .ensures) ∙ first .if1 .left) (sym (second .before .same-bytes2 .ensures) ∙ second .if2 .left)
+    (sym (c .before .same-bytes3 .ensures) ∙ c .if3 .taken)
 
 returns-5 : tie.Need-returns-5
 returns-5 c =

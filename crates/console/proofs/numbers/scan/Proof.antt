@@ -22,11 +22,15 @@ shared-slice-read-c c = omega arith
 
 returns : tie.Need-returns Inv-loop μ-loop
 unfolding number-reply
-returns c = sym (ap number-reply (sym (c .before .before .before .loop .inv .1) ∙ scan-low (c .before .before .before .loop .v) (c .before .before .before .before .args .field .now) (c .before .before .before .loop .i) (omega arith) (c .if1 .taken)))
+returns c =
+    let at = c .before .before .before in
+    sym (ap number-reply (sym (at .loop .inv .1) ∙ scan-low (at .loop .v) (at .before .args .field .now) (at .loop .i) (omega arith) (c .if1 .taken)))
 
 returns-2 : tie.Need-returns-2 Inv-loop μ-loop
 unfolding number-reply
-returns-2 c = sym (ap number-reply (sym (c .before .before .before .before .loop .inv .1) ∙ scan-high (c .before .before .before .before .loop .v) (c .before .before .before .before .before .args .field .now) (c .before .before .before .before .loop .i) (omega arith) (c .before .if1 .left) (c .if2 .taken)))
+returns-2 c =
+    let at = c .before .before .before .before in
+    sym (ap number-reply (sym (at .loop .inv .1) ∙ scan-high (at .loop .v) (at .before .args .field .now) (at .loop .i) (omega arith) (c .before .if1 .left) (c .if2 .taken)))
 
 mul-v : tie.Need-mul-v Inv-loop μ-loop
 mul-v c = omega arith
@@ -39,7 +43,10 @@ add-v c = omega arith
 
 returns-3 : tie.Need-returns-3 Inv-loop μ-loop
 unfolding number-reply
-returns-3 c = sym (ap number-reply (sym (c .before .before .before .before .before .loop .inv .1) ∙ scan-over (c .before .before .before .before .before .loop .v) (c .before .before .before .before .before .before .args .field .now) (c .before .before .before .before .before .loop .i) (omega arith) (c .before .before .if1 .left) (c .before .if2 .left) (omega arith)))
+returns-3 c =
+    let at = c .before .before .before .before .before in
+    let over = scan-over (at .loop .v) (at .before .args .field .now) (at .loop .i) (omega arith) (c .before .before .if1 .left) (c .before .if2 .left) (omega arith) in
+    sym (ap number-reply (sym (at .loop .inv .1) ∙ over))
 
 add-i : tie.Need-add-i Inv-loop μ-loop
 add-i c = omega arith
@@ -48,7 +55,10 @@ loop-less : tie.Need-loop-less Inv-loop μ-loop
 loop-less c = omega arith
 
 loop-again : tie.Need-loop-again Inv-loop μ-loop
-loop-again c = (omega arith, sym (scan-turn (c .before .before .before .before .before .loop .v) (c .before .before .before .before .before .before .args .field .now) (c .before .before .before .before .before .loop .i) (omega arith) (c .before .before .if1 .left) (c .before .if2 .left) (omega arith)) ∙ c .before .before .before .before .before .loop .inv .1)
+loop-again c =
+    let at = c .before .before .before .before .before in
+    let next = scan-turn (at .loop .v) (at .before .args .field .now) (at .loop .i) (omega arith) (c .before .before .if1 .left) (c .before .if2 .left) (omega arith) in
+    (omega arith, sym next ∙ at .loop .inv .1)
 
 cast-t12 : tie.Need-cast-t12 Inv-loop μ-loop
 cast-t12 c = omega arith
