@@ -1,7 +1,7 @@
 -- The whole run over words and replies: each reply tells what the definitions say, the words stay those of the store, and
 -- so what holds of every list of calls holds of the words. Assumes nothing.
 use mathlib.Core.Path.{_≡_, refl, ap, sym, _∙_}
-use mathlib.Core.Bool.{Bool, true, false, cond}
+use mathlib.Core.Bool.{Bool, true, cond}
 use mathlib.Core.List.{List, [], _∷_, map}
 use Prim.Native.Nat.{ℕ, _+_, _≤_}
 use native.Mathlib.Omega.{arith}
@@ -31,6 +31,7 @@ use Rattle.calls.specs.Promise.{Load-sound, Kept, Lists-keep, Words-kept, Runs-
 use Rattle.calls_laws.proofs.Tests.{sane, facts-of}
 use Rattle.calls_laws.proofs.Fields.{length-words}
 use Rattle.calls_laws.proofs.WordSteps.{said-store, words-fit, refusal-said, header-said, row-said, labels-said, says-in-front, length-in-front, written-says, length-written}
+use Rattle.lists.proofs.Tests.{either-way}
 use Rattle.calls_laws.proofs.Inserts.{accepted-row, position-fits}
 use Rattle.calls_laws.proofs.Steps.{accepted-load, insert-passed, load-sound, changed-sound}
 use Rattle.calls_laws.proofs.Replies.{replied-accepted, read-replied, replied-told}
@@ -91,10 +92,6 @@ insert-total k x m h t = read-replied inserting.Refused (λ q. total-after-inser
 pub mark-told : (k n : ℕ) → mark-accepted (replied marking.Refused k (marking.Marked n)) ≡ eqb k 0
 unfolding mark-accepted
 mark-told k n = replied-told marking.Refused mark-accepted k (marking.Marked n) refl (λ i. refl)
-
-either-way : (b : Bool) (t : ℕ) → cond b t t ≡ t
-either-way true t = refl
-either-way false t = refl
 
 -- ONE CALL over words: its reply tells whether it was accepted and, with t moved before, the total u; and what is written
 pub record Replied (w : ℕ) (c : Call) (st : Store) (accepted : Bool) (t u : ℕ) (ws us : List ℕ) : Type 0 where

@@ -5,10 +5,12 @@ use mathlib.Core.List.{List, map}
 use mathlib.Core.Bool.{true, cond}
 use mathlib.Core.Option.{Option, none, some}
 use Prim.Native.Nat.{ℕ, zero, suc, _≤_}
+use native.Mathlib.Nat.{zero-add}
 use native.Mathlib.Omega.{arith}
 use borrow.Author.Tests.{le-ltb}
 use lib.Dec.{ltb, eqb, eqb·suc-zero}
 use lib.ListN.{length, drop, length-append, length-drop}
+use lib.Seq.{sets, sets-eq}
 use Rattle.store_types.specs.Layout.{at-first, header-words, word-at, words-for, label-at}
 use Rattle.tree.specs.Book.{labels-of}
 use Rattle.calls.specs.Store.{Store, count, row, width}
@@ -76,6 +78,11 @@ says-in-front ws su e = (e, (drop (length (words-of su)) ws, refl))
 pub length-in-front : (new old : List ℕ) → length new ≤ length old → length (in-front new old) ≡ length old
 unfolding in-front
 length-in-front new old l = length-append new (drop (length new) old) ∙ omega (arith, length-drop (length new) old)
+
+-- and so do words stored one after the other from the front
+pub sets-front : (new old : List ℕ) → length new ≤ length old → sets old 0 new ≡ in-front new old
+unfolding in-front
+sets-front new old l = sets-eq new old 0 (rw zero-add l) ∙ rw zero-add
 
 -- THE WORDS AFTER A CALL that writes where its refusal is 0: they say the new store, or still the old one
 pub written-says : (ws : List ℕ) (st su : Store) (refusal : ℕ) → Says ws st → (refusal ≡ 0 → sound su ≡ true) →

@@ -27,6 +27,7 @@ use Rattle.calls_laws.proofs.Tests.{Sound, passes}
 use Rattle.calls_laws.proofs.Nesting.{Step, begins, ends, stands, Closed}
 use Rattle.calls_laws.proofs.Sections.{place-at, place-first-part, place-middle-part, place-last-part, distinct-row, row-below, row-at, At, pass-at, closed-at}
 use Rattle.calls_laws.proofs.WordSteps.{refusal-passed}
+use Rattle.calls_laws.proofs.Listings.{listed-append}
 use Rattle.calls_laws.proofs.Replies.{replied-accepted}
 use Rattle.demands.specs.Words.{is-marked, unmarked-of, Inside}
 use Rattle.demands.specs.Promise.{listed, accepted, Lists-hold, Every-call, List-right}
@@ -35,12 +36,6 @@ use Rattle.demands.proofs.EveryCall.{every-call}
 use Rattle.demands.proofs.Asked.{marked-said, label-said}
 
 -- THE LISTED TAGS of a row, part by part
-listed-append : (st : Store) (x : ℕ) (xs ys : List ℕ) → listed-of st x (xs ++ ys) ≡ listed-of st x xs ++ listed-of st x ys
-unfolding listed-of
-listed-append st x [] ys = refl
-listed-append st x (d ∷ ds) ys =
-    by-test (is-listed st x d) (λ e. rw e (ap (λ (v : List ℕ). d ∷ v) (listed-append st x ds ys))) (λ e. rw e (listed-append st x ds ys))
-
 listed-none : (st : Store) (x : ℕ) (xs : List ℕ) → ((d : ℕ) → member d xs ≡ true → is-listed st x d ≡ false) → listed-of st x xs ≡ []
 unfolding listed-of
 listed-none st x [] none = refl

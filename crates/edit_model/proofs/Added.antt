@@ -39,7 +39,7 @@ module _ (n p : ℕ) (xs : List ℕ) (d : ℕ) (fits : p ≤ length xs) where
       rw later at (getD-behind p (n ∷ []) xs i d fits l)
 
 -- a list of one
-not-in-one : (x n : ℕ) → (x ≡ n → ⊥) → member x (n ∷ []) ≡ false
+pub not-in-one : (x n : ℕ) → (x ≡ n → ⊥) → member x (n ∷ []) ≡ false
 not-in-one x n other = member-other x n [] (ne-eqb x n other) ∙ member-nil x
 
 pub distinct-one : (n : ℕ) → Distinct (n ∷ [])

@@ -4,7 +4,6 @@ use mathlib.Core.Bool.{true, false, false≢true}
 use mathlib.Core.List.{List, [], _∷_, _++_}
 use Prim.Native.Nat.{ℕ, suc, _+_, _≤_, _<_}
 use native.Mathlib.Omega.{arith}
-use borrow.Author.Tests.{ne-eqb}
 use lib.ListN.{length, getD, drop, length-drop}
 use lib.Seq.{drop-drop}
 use Rattle.store_types.specs.Limits.{no-tag, most-tags}
@@ -14,7 +13,7 @@ use Rattle.tree.specs.Row.{member, insert-at}
 use Rattle.tree.specs.Forest.{size}
 use Rattle.tree.specs.Book.{Book, height, tags, labels-of, inserted}
 use Rattle.tree.specs.Promise.{Sane}
-use Rattle.tree_laws.proofs.Rows.{Distinct, Apart, member-nil, member-other, member-cases, member-insert, length-insert, insert-two, getD-before}
+use Rattle.tree_laws.proofs.Rows.{Distinct, Apart, member-nil, member-cases, member-insert, length-insert, insert-two, getD-before}
 use Rattle.tree_laws.proofs.Insertion.{tags-inserted, size-inserted, sane-inserted, inserted-s, inserted-r}
 use Rattle.calls.specs.Kind.{kind-word}
 use Rattle.calls.specs.Store.{Store, Fact, count, row, width, height-fits}
@@ -23,7 +22,7 @@ use Rattle.calls_laws.proofs.Sections.{row-below}
 use Rattle.edit_model.specs.Image.{Image, image-words, image-of, with-labels}
 use Rattle.edit_model.specs.Insert.{added}
 use Rattle.edit_model.proofs.Image.{Proper, Alike}
-use Rattle.edit_model.proofs.Added.{with-tag, one-more, tag-before, getD-one, added-image, proper-with-tag, with-levels}
+use Rattle.edit_model.proofs.Added.{with-tag, not-in-one, one-more, tag-before, getD-one, added-image, proper-with-tag, with-levels}
 use Rattle.edit_model.proofs.Widest.{labels-below}
 use Rattle.edit_model.proofs.Single.{grown, book-with}
 
@@ -79,11 +78,8 @@ module _ {v : Image} (h : Proper v) (few : suc (length (v .facts)) ≤ most-tags
       rw (added-image h (omega arith) p fits t rest (omega arith)) (rw (count-one, last-tag, drop-drop tag-words tag-words rest) at second)
 
 -- a list of two
-not-first : (a b : ℕ) → (a ≡ b → ⊥) → member a (b ∷ []) ≡ false
-not-first a b other = member-other a b [] (ne-eqb a b other) ∙ member-nil a
-
 pub distinct-two : (a b : ℕ) → (a ≡ b → ⊥) → Distinct (a ∷ b ∷ [])
-distinct-two a b other = (not-first a b other, (member-nil b, tt))
+distinct-two a b other = (not-in-one a b other, (member-nil b, tt))
 
 pub apart-two : (a b : ℕ) (xs : List ℕ) → member a xs ≡ false → member b xs ≡ false → Apart (a ∷ b ∷ []) xs
 apart-two a b xs first second v m =
@@ -132,7 +128,7 @@ module _ {st : Store} (own : Sound st) (p : ℕ) (fits : p ≤ count st) where
   pub not-next : member (suc (count st)) (tags (book-with p st)) ≡ false
   not-next =
       rw (tags-inserted p (count st) (st .book) (sane own) in-book, member-insert (suc (count st)) p (count st ∷ []) (row st), not-tag (suc (count st)) (omega arith))
-      (not-first (suc (count st)) (count st) (λ e. omega arith))
+      (not-in-one (suc (count st)) (count st) (λ e. omega arith))
 
   -- and its store with the facts of both, not stamped
   pub alike-two : (t u : Fact) (a : ℕ) → a ≡ height (book-with-two p st) →

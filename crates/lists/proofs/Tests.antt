@@ -1,7 +1,7 @@
 -- Laws on tests: a goal by the two answers, and what both answers of a conjunction or disjunction say of its parts.
 -- Assumes nothing.
 use mathlib.Core.Path.{_≡_, refl, sym, _∙_}
-use mathlib.Core.Bool.{Bool, true, false, _&&_, _||_, not, true≢false, false≢true}
+use mathlib.Core.Bool.{Bool, true, false, _&&_, _||_, not, cond, true≢false, false≢true}
 use Prim.Native.Nat.{ℕ}
 use borrow.Author.Tests.{eqb-true, eqb-false, not-true, not-false}
 use lib.Dec.{eqb}
@@ -14,6 +14,11 @@ by-test false f g = g refl
 -- a test that cannot be passed fails
 pub fails : (t : Bool) → (t ≡ true → ⊥) → t ≡ false
 fails t h = by-test t (λ e. absurd (h e)) (λ e. e)
+
+-- either answer gives the same
+pub either-way : {A : Type 0} (t : Bool) (a : A) → cond t a a ≡ a
+either-way true a = refl
+either-way false a = refl
 
 pub and-left : (a b : Bool) → (a && b) ≡ true → a ≡ true
 and-left true b e = refl

@@ -22,19 +22,13 @@ use Rattle.calls.specs.Replies.{refusal-over, said}
 use Rattle.calls_laws.proofs.Tests.{Sound}
 use Rattle.calls_laws.proofs.Nesting.{Step, begins, ends, stands}
 use Rattle.calls_laws.proofs.Sections.{place-first-part, place-middle-part, place-last-part, distinct-row, in-row, At, pass-at, closed-at, mate-fits}
+use Rattle.calls_laws.proofs.Listings.{listed-append}
 use Rattle.calls_laws.proofs.WordSteps.{header-said}
 use Rattle.store_refuse.specs.Needs.{Tag-said}
 use Rattle.store_list.specs.Needs.{Span-said, unmarked, unmarked-between, inside-refusal, first-inside, stop-of}
 use Rattle.store_refuse.proofs.Laws.{accepted-says, accepted-store, sound-said, words-of-tag}
 use Rattle.store_list.proofs.Along.{no-tag-last, place-there, stands-there}
 use Rattle.store_list.proofs.ListRefusals.{Begin-accepted, accepted-inside}
-
--- THE LISTED TAGS of a row, part by part
-listed-append : (st : Store) (x : ℕ) (ds es : List ℕ) → listed-of st x (ds ++ es) ≡ listed-of st x ds ++ listed-of st x es
-unfolding listed-of
-listed-append st x [] es = refl
-listed-append st x (d ∷ ds) es =
-    by-test (is-listed st x d) (λ t. rw (t, listed-append st x ds es)) (λ t. rw (t, listed-append st x ds es))
 
 -- a part with all its tags inside, or all outside
 listed-part : (st : Store) (x : ℕ) (t : Bool) (ds : List ℕ) → ((d : ℕ) → member d ds ≡ true → (eqb x no-tag || encloses st x d) ≡ t) →

@@ -5,12 +5,13 @@ use mathlib.Core.List.{List, [], _∷_, _++_, map, map-append}
 use Prim.Native.Nat.{ℕ, suc, _+_, _-_, _≤_, _<_}
 use native.Mathlib.Omega.{arith}
 use lib.ListN.{length, set, length-append, length-map}
-use lib.Seq.{sets, sets-eq, length-sets}
+use lib.Seq.{sets, length-sets}
 use Rattle.store_types.specs.Limits.{most-tags}
 use Rattle.store_types.specs.Layout.{at-next, field}
 use Rattle.calls.specs.Store.{place-of, label}
 use Rattle.calls.specs.Words.{in-front}
 use Rattle.calls.specs.Replies.{said}
+use Rattle.calls_laws.proofs.WordSteps.{sets-front}
 use Rattle.store_list.specs.Needs.{Span-said, unmarked, unmarked-between}
 use Rattle.store_list.proofs.Along.{not-last, place-next, span-next, between-few, between-next, between-done}
 
@@ -44,15 +45,11 @@ pub counting-end : {ws : List ℕ} {x₀ y x k : ℕ} → Counting ws x₀ y x k
 counting-end {ws} {x₀} {y} {x} h e =
     let none : unmarked-between (said ws) x y ≡ [] = rw e (between-done (said ws) y) in omega (arith, h .rest, ap length none)
 
--- A RUN OF STORES in two, and one from the front of a list
+-- A RUN OF STORES in two
 sets-append : (us vs l : List ℕ) (i : ℕ) → sets l i (us ++ vs) ≡ sets (sets l i us) (i + length us) vs
 sets-append [] vs l i = let e : i + 0 ≡ i = omega arith in rw e
 sets-append (u ∷ us) vs l i =
     let e : i + suc (length us) ≡ suc i + length us = omega arith in rw e (sets-append us vs (set l i u) (suc i))
-
-sets-front : (us l : List ℕ) → length us ≤ length l → sets l 0 us ≡ in-front us l
-unfolding in-front
-sets-front us l fits = let e : 0 + length us ≡ length us = omega arith in sets-eq us l 0 (omega arith) ∙ rw e
 
 -- WRITING vs to a list from place i on, where all of it is vs₀ to l₀ from its front
 pub record Left (vs l : List ℕ) (i : ℕ) (vs₀ l₀ : List ℕ) : Type 0 where

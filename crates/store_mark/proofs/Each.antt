@@ -1,7 +1,7 @@
 -- Words after tags are marked, on plain words: one tag, and a row of tags. Only kind words change, and each of those is
 -- the marked one. Assumes nothing.
 use mathlib.Core.Path.{_≡_, refl, ap, sym, _∙_}
-use mathlib.Core.Bool.{Bool, true, false, cond}
+use mathlib.Core.Bool.{true, false, cond}
 use mathlib.Core.List.{List, [], _∷_, _++_}
 use Prim.Native.Nat.{ℕ, _+_, _≤_, _<_}
 use native.Mathlib.Omega.{arith}
@@ -9,7 +9,7 @@ use borrow.Author.Tests.{le-leb, lt-leb, eqb-true, eqb-false}
 use lib.Dec.{leb, eqb}
 use lib.ListN.{length}
 use Rattle.store_types.specs.Layout.{header-words, at-kind, tag-words, word-at, field, label-at, with-field, Room}
-use Rattle.lists.proofs.Tests.{by-test}
+use Rattle.lists.proofs.Tests.{by-test, either-way}
 use Rattle.words.proofs.Fields.{room-same, with-own-field, label-past-field, field-same, field-other-tag, field-other-word, header-kept, length-with-field, with-field-front, field-front}
 use Rattle.tree.specs.Row.{member}
 use Rattle.tree_laws.proofs.Rows.{Distinct, member-first, member-later, differs}
@@ -96,12 +96,8 @@ each-kind ws (x ∷ xs) y room =
     by-test (eqb y x)
     (λ e. let same = eqb-true y x e in
     let own : field (mark-one ws x) y at-kind ≡ with-mark (field ws y at-kind) = rw same (one-own ws x (rw same at room)) in
-    rw e (later ∙ rw (own, marked-twice (field ws y at-kind)) (either (member y xs) (with-mark (field ws y at-kind)))))
+    rw e (later ∙ rw (own, marked-twice (field ws y at-kind)) (either-way (member y xs) (with-mark (field ws y at-kind)))))
     (λ e. rw (e, ← one-other-tag ws x y e) later)
-  where
-    either : (t : Bool) (c : ℕ) → cond t c c ≡ c
-    either true c = refl
-    either false c = refl
 
 -- words behind those of the tags stay
 pub each-front : (ws xs rest : List ℕ) → ((y : ℕ) → member y xs ≡ true → Room ws y) → mark-each (ws ++ rest) xs ≡ mark-each ws xs ++ rest

@@ -300,11 +300,3 @@ module _ {s r : ℕ} {w : ℕ → ℕ} (s-least : 2 ≤ s) (r-least : 2 ≤ r) (
         let reach : m ≤ l = omega (arith, k .1, label-within .0) in
         number-by-label m ((l - m) / w (suc h)) k
         (omega (arith, div-mul-le-self (l - m) (w (suc h)))) (omega (arith, lt-div-mul-add {a = l - m} (width-least s-least r-least widths (suc h))))
-
-    pub number-from-parent : suc h < j → number-in f w j (suc h) p a
-        ≡ number-in f w j (suc (suc h)) p a + (getD (labels f w j a) (p - 1) 0 - number-in f w j (suc (suc h)) p a) / w (suc h) * w (suc h)
-    number-from-parent below = number-by-quotient (number-in f w j (suc (suc h)) p a) (number-next f w j (suc h) p a below)
-
-  pub number-from-top : {f : Forest} {h p a : ℕ} → Found s r w f (suc h) h p a →
-      number-in f w (suc h) (suc h) p a ≡ a + (getD (labels f w (suc h) a) (p - 1) 0 - a) / w (suc h) * w (suc h)
-  number-from-top {f} {h} {p} {a} d = number-by-quotient d a (number-top f w (suc h) p a)

@@ -288,10 +288,6 @@ module _ (p x : ℕ) (k : Book) where
   inserted-under = kept (root-full k) p x k .2
 
 -- a row of insertions
-pub inserted-row-suc : (n p x : ℕ) (k : Book) → inserted-row (suc n) p x k ≡ inserted-row n (suc p) (suc x) (inserted p x k)
-unfolding inserted-row
-inserted-row-suc n p x k = refl
-
 pub sane-inserted-row : (n p x : ℕ) (k : Book) → Sane k → p ≤ size (k .root) → Sane (inserted-row n p x k)
 unfolding inserted-row
 sane-inserted-row zero p x k h l = h

@@ -1,6 +1,6 @@
 -- The labels of a good forest: how many, where they lie, that they rise strictly, and how they shift and join.
 -- Assumes nothing.
-use mathlib.Core.Path.{_≡_, refl, ap, sym, _∙_}
+use mathlib.Core.Path.{_≡_, refl, ap, sym}
 use mathlib.Core.Bool.{Bool, true, false}
 use mathlib.Core.List.{List, [], _∷_, _++_, map, append-assoc, map-append}
 use Prim.Native.Nat.{ℕ, zero, suc, pred, _+_, _*_, _^_, _≤_, _<_}
@@ -111,12 +111,6 @@ rising-compare a b ls r i k i-fits k-fits = go (ltb i k) (ltb k i) refl refl
         rw p (le-ltb (getD ls i 0) (getD ls k 0) (omega (arith, rising-index a b ls r k i (ltb-true k i q) i-fits)))
     go false false p q =
         let e : i ≡ k = omega (arith, ltb-false i k p, ltb-false k i q) in rw (p, e) (le-ltb (getD ls k 0) (getD ls k 0) (le-refl _))
-
-pub rising-same : (a b : ℕ) (ls : List ℕ) → Rising a b ls → (i k : ℕ) → i < length ls → k < length ls → getD ls i 0 ≡ getD ls k 0 → i ≡ k
-rising-same a b ls r i k i-fits k-fits e =
-    let forth = sym (rising-compare a b ls r i k i-fits k-fits) ∙ le-ltb (getD ls i 0) (getD ls k 0) (omega arith) in
-    let back = sym (rising-compare a b ls r k i k-fits i-fits) ∙ le-ltb (getD ls k 0) (getD ls i 0) (omega arith) in
-    omega (arith, ltb-false i k forth, ltb-false k i back)
 
 -- THE LABELS OF A GOOD FOREST rise strictly from its first number up to the end of its last tree
 module _ {s r : ℕ} {w : ℕ → ℕ} (s-least : 2 ≤ s) (r-least : 2 ≤ r) (widths : Widths s r w) where

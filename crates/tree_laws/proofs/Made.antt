@@ -2,14 +2,15 @@
 use mathlib.Core.Path.{_≡_, refl, ap, _∙_}
 use mathlib.Core.List.{List, [], _∷_}
 use Prim.Native.Nat.{ℕ, zero, suc, _*_, _^_, _≤_, _<_}
-use native.Mathlib.Nat.{pow-zero, mul-one, mul-le-mul-right, pow-le-pow-right, div-eq-of-eq-mul-left, lt-of-not-le}
+use native.Mathlib.Nat.{pow-zero, mul-one, mul-le-mul-right, pow-le-pow-right, lt-of-not-le}
 use native.Mathlib.Omega.{arith}
-use lib.ListN.{length, drop}
-use Rattle.tree.specs.Forest.{Forest, leaf-row, parts, spread, trees}
+use lib.ListN.{length}
+use Rattle.tree.specs.Forest.{leaf-row, spread, trees}
 use Rattle.tree.specs.Book.{load-under, loaded}
 use Rattle.tree.specs.Promise.{Splits-complete, Load-smallest, Load-tags, Insertion-tags}
-use Rattle.tree_laws.proofs.Spread.{parts-none, parts-one, parts-more, spread-zero, spread-suc, some-power, leaves-spread, complete-spread}
+use Rattle.tree_laws.proofs.Spread.{spread-zero, leaves-spread, complete-spread}
 use Rattle.tree_laws.proofs.Load.{load-least, tags-loaded}
+use Rattle.tree_laws.proofs.Flat.{trees-spread}
 use Rattle.tree_laws.proofs.Insertion.{tags-inserted}
 
 -- how many trees a spread row has
@@ -18,15 +19,9 @@ unfolding leaf-row
 trees-leaf-row [] = refl
 trees-leaf-row (x ∷ xs) = ap suc (trees-leaf-row xs)
 
-trees-parts : (c e : ℕ) (g : List ℕ → Forest) (xs : List ℕ) → trees (parts c e g xs) ≡ c
-trees-parts zero e g xs = rw parts-none
-trees-parts (suc zero) e g xs = rw parts-one
-trees-parts (suc (suc c)) e g xs = rw parts-more (ap suc (trees-parts (suc c) e g (drop e xs)))
-
-trees-spread : (j r s : ℕ) (xs : List ℕ) → 2 ≤ r → length xs ≡ s * r ^ j → trees (spread j r xs) ≡ s
-trees-spread zero r s xs l n = rw spread-zero (trees-leaf-row xs ∙ (n ∙ rw (pow-zero, mul-one)))
-trees-spread (suc j) r s xs l n =
-    rw (spread-suc j r s xs (div-eq-of-eq-mul-left (some-power r (suc j) l) n)) (trees-parts s (r ^ suc j) (λ ys. spread j r ys) xs)
+trees-made : (j r s : ℕ) (xs : List ℕ) → 2 ≤ r → length xs ≡ s * r ^ j → trees (spread j r xs) ≡ s
+trees-made zero r s xs l n = rw spread-zero (trees-leaf-row xs ∙ (n ∙ rw (pow-zero, mul-one)))
+trees-made (suc j) r s xs l n = trees-spread j r s xs l n
 
 leaves-made : (j r s : ℕ) (xs : List ℕ) → 1 ≤ s → 2 ≤ r → length xs ≡ s * r ^ j → r ^ j ≤ length xs
 leaves-made j r s xs some l n = omega (arith, mul-le-mul-right (r ^ j) some)
@@ -36,7 +31,7 @@ unfolding Splits-complete
 splits-complete s r j xs some l n =
     record {
       complete = complete-spread j r s xs l n;
-      many = trees-spread j r s xs l n;
+      many = trees-made j r s xs l n;
       over = leaves-spread j r xs l (leaves-made j r s xs some l n);
     }
 

@@ -175,9 +175,6 @@ number-bounds i x (suc n) h =
 pub not-number-below : (i x n : ℕ) → i < x → member i (numbers x n) ≡ false
 not-number-below i x n h = fails (member i (numbers x n)) (λ m. omega (arith, number-bounds i x n m))
 
-pub not-number-above : (i x n : ℕ) → x + n ≤ i → member i (numbers x n) ≡ false
-not-number-above i x n h = fails (member i (numbers x n)) (λ m. omega (arith, number-bounds i x n m))
-
 pub distinct-numbers : (x n : ℕ) → Distinct (numbers x n)
 unfolding numbers
 distinct-numbers x zero = tt

@@ -24,14 +24,6 @@ good-joined s r (leaf x f) g (suc j) p q = absurd p
 good-joined s r (node h f) g zero p q = absurd p
 good-joined s r (node h f) g (suc j) p q = (p .0, p .1, p .2, good-joined s r f g (suc j) (p .3) q)
 
-pub complete-joined : (r : ℕ) (f g : Forest) (j : ℕ) → Complete r f j → Complete r g j → Complete r (joined f g) j
-unfolding joined
-complete-joined r nil g j p q = q
-complete-joined r (leaf x f) g zero p q = complete-joined r f g zero p q
-complete-joined r (leaf x f) g (suc j) p q = absurd p
-complete-joined r (node h f) g zero p q = absurd p
-complete-joined r (node h f) g (suc j) p q = (p .0, p .1, complete-joined r f g (suc j) (p .2) q)
-
 -- complete trees keep the limits
 pub complete-good : (s r : ℕ) (f : Forest) (j : ℕ) → 2 ≤ s → 2 ≤ r → Complete r f j → Good s r f j
 complete-good s r nil j p q c = tt
@@ -197,6 +189,3 @@ complete-spread zero r k xs p n = rw spread-zero (complete-leaf-row r xs)
 complete-spread (suc j) r k xs p n =
     let below : (ys : List ℕ) → length ys ≡ r ^ suc j → Complete r (spread j r ys) j = λ ys l. complete-spread j r r ys p (l ∙ pow-succ' r j) in
     rw (spread-suc j r k xs (div-eq-of-eq-mul-left (some-power r (suc j) p) n)) (complete-parts r j (λ ys. spread j r ys) k xs (leaves-below j r p) below n)
-
-pub leaves-spread-times : (j r k : ℕ) (xs : List ℕ) → 2 ≤ r → length xs ≡ suc k * r ^ j → leaves (spread j r xs) ≡ xs
-leaves-spread-times j r k xs p n = leaves-spread j r xs p (omega (arith, suc-mul k (r ^ j)))

@@ -35,9 +35,6 @@ module _ (c : ℕ) where
   pub begin-of : Kind-word c → c % 16 ≡ 1 → Begin-word c
   begin-of k e = by-cases (decLe 16 c) (λ l. inr (omega (arith, k .small))) (λ l. inl (omega arith))
 
-  pub begin-small : Begin-word c → c < 32
-  begin-small w = ⊎-elim (λ e. omega arith) (λ e. omega arith) w
-
 -- a tag of another fits nowhere
 module _ (ws : List ℕ) (n o x c : ℕ) where
   pub kind-fitting : kind-fits ws n o x c ≡ true → Kind-word c

@@ -102,9 +102,6 @@ pub room-same : {ws vs : List ℕ} {x : ℕ} → Room ws x → length vs ≡ len
 unfolding records-at
 room-same room e = record { fits = rw e (room .fits) }
 
-pub room-with-field : (ws : List ℕ) (x k v y : ℕ) → Room ws y → Room (with-field ws x k v) y
-room-with-field ws x k v y room = room-same room (length-with-field ws x k v)
-
 pub room-with-label : (ws : List ℕ) (x l y : ℕ) → Room ws y → Room (with-label ws x l) y
 room-with-label ws x l y room = room-same room (length-with-label ws x l)
 
