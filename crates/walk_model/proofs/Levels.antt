@@ -10,9 +10,9 @@ use Rattle.tree.specs.Forest.{Forest, nil, leaf, node, leaves, size, labels}
 use Rattle.tree.specs.Promise.{Widths}
 use Rattle.tree_laws.proofs.Spread.{some-power}
 use Rattle.walk_model.specs.Levels.{Tables, start-levels, labels-pass}
-use Rattle.walk_model.specs.Promise.{Tables-right, Levels-right}
+use Rattle.walk_model.specs.Promise.{Tables-right, Tree-with, Levels-right}
 use Rattle.walk_model.proofs.Spine.{Spine, top, over, number, tags, marks, Good-spine, Agrees, At}
-use Rattle.walk_model.proofs.Sound.{Tree, tree-read}
+use Rattle.walk_model.proofs.Sound.{tree-read}
 use Rattle.walk_model.proofs.Complete.{Rest, rest-labels, rest-below, labels-below, rest-passes}
 
 -- BEFORE THE FIRST LABEL nothing is closed
@@ -63,7 +63,7 @@ module _ {s r : ℕ} {w : ℕ → ℕ} {t : Tables} {u : ℕ} (tables : Tables-r
   number-start = omega (arith, empty-number w 1 u)
 
   -- labels that pass are those of a tree
-  tree-of : (xs ls : List ℕ) → length xs ≡ length ls → labels-pass t u 0 0 (start-levels t) ls ≡ true → Tree s r w u xs ls
+  tree-of : (xs ls : List ℕ) → length xs ≡ length ls → labels-pass t u 0 0 (start-levels t) ls ≡ true → Tree-with s r w u xs ls
   unfolding leaves labels
   tree-of xs ls n c = rw (empty-tags u, empty-marks w 1 u) at (tree-read tables ls xs nil (empty u) 0 0 (start-levels t) at-start number-start n c)
 
@@ -95,6 +95,6 @@ unfolding Levels-right leaves
 levels-right s r w t u xs ls s-least r-least widths tables n high low = (
   tree-of tables xs ls n,
   λ tree.
-      let m : size (tree .0) ≡ length ls = ap length (tree .2) ∙ n in
-      tree-passes tables s-least r-least widths (tree .0) ls (record { good = tree .1; good-above = tt; room = omega arith }) (λ x. omega (arith, low x)) (tree .3),
+      let m : size (tree .forest) ≡ length ls = ap length (tree .tags-are) ∙ n in
+      tree-passes tables s-least r-least widths (tree .forest) ls (record { good = tree .good; good-above = tt; room = omega arith }) (λ x. omega (arith, low x)) (tree .labels-are),
 )

@@ -11,11 +11,10 @@ use lib.Dec.{ltb, eqb}
 use lib.ListN.{length}
 use Rattle.lists.proofs.Tests.{and-left, and-right, by-test}
 use Rattle.shape.specs.Tables.{entry}
-use Rattle.tree.specs.Good.{Good}
 use Rattle.tree.specs.Forest.{Forest, nil, leaves, labels}
 use Rattle.tree_laws.proofs.Labels.{trees}
 use Rattle.walk_model.specs.Levels.{Tables, Levels, Settled, closes, settle, place-label, all-close, labels-pass}
-use Rattle.walk_model.specs.Promise.{Tables-right}
+use Rattle.walk_model.specs.Promise.{Tables-right, Tree-with}
 use Rattle.walk_model.proofs.Spine.{Spine, top, over, number, tags, marks, At, at-opened, closed, closed-number, closed-leaves, closed-labels, opened, with-leaf, leaf-leaves, leaf-labels, at-leaf, settle-stays, settle-higher, settle-fails, Placed, stay, of-closes, next-number, descend}
 
 -- the tags and labels read so far, for a forest f under a spine
@@ -50,10 +49,6 @@ leaf-tags f p x xs = rw (leaf-leaves f x) (simp append-assoc)
 leaf-marks : (w : ℕ → ℕ) {k : ℕ} (f : Forest) (p : Spine k) (x l : ℕ) (ls : List ℕ) → l ≡ number w 1 p + trees f * w 0 →
     read-marks w 0 (with-leaf f x) p ++ ls ≡ read-marks w 0 f p ++ l ∷ ls
 leaf-marks w f p x l ls e = rw (leaf-labels f x w (number w 1 p), ← e) (simp append-assoc)
-
--- a tree under the root with given tags and labels
-abbrev pub Tree : (s r : ℕ) (w : ℕ → ℕ) (u : ℕ) (xs ls : List ℕ) → Type 0
-Tree s r w u xs ls = (f : Forest) × Good s r f u × (leaves f ≡ xs) × (labels f w u 0 ≡ ls)
 
 module _ {s r : ℕ} {w : ℕ → ℕ} {t : Tables} {u : ℕ} (tables : Tables-right s r w (suc u) t) where
   kept-below : {v z : Levels} {j k l i : ℕ} {f left : Forest} {p : Spine k} → j ≤ u → At s r w v j f (over left p) i →
@@ -104,9 +99,9 @@ module _ {s r : ℕ} {w : ℕ → ℕ} {t : Tables} {u : ℕ} (tables : Tables-r
 
   -- at the end the open nodes are closed
   tree-closed : {k : ℕ} (j : ℕ) (f : Forest) (p : Spine k) (i : ℕ) (v : Levels) → j + k ≡ u → At s r w v j f p i → all-close t k (suc j) i v ≡ true →
-      Tree s r w u (read-tags f p) (read-marks w j f p)
+      Tree-with s r w u (read-tags f p) (read-marks w j f p)
   unfolding all-close
-  tree-closed j f top i v n a c = let e : j ≡ u = omega arith in rw (← e) (f, a .good, refl, refl)
+  tree-closed j f top i v n a c = let e : j ≡ u = omega arith in rw (← e) (record { forest = f; good = a .good; tags-are = refl; labels-are = refl })
   tree-closed j f (over {k} left p) i v n a c =
       let first = entry (v .firsts) (suc j) in
       let own = and-left (closes t (suc j) first i) (all-close t k (suc (suc j)) i v) c in
@@ -116,7 +111,7 @@ module _ {s r : ℕ} {w : ℕ → ℕ} {t : Tables} {u : ℕ} (tables : Tables-r
 
   -- labels that pass behind what was read make a tree with it
   pub tree-read : (ls xs : List ℕ) (f : Forest) (p : Spine u) (e i : ℕ) (v : Levels) → At s r w v 0 f p i → e ≡ number w 1 p + trees f * w 0 →
-      length xs ≡ length ls → labels-pass t u e i v ls ≡ true → Tree s r w u (read-tags f p ++ xs) (read-marks w 0 f p ++ ls)
+      length xs ≡ length ls → labels-pass t u e i v ls ≡ true → Tree-with s r w u (read-tags f p ++ xs) (read-marks w 0 f p ++ ls)
   unfolding labels-pass
   tree-read [] [] f p e i v a n m c = rw (append-nil (read-tags f p), append-nil (read-marks w 0 f p)) (tree-closed 0 f p i v (zero-add u) a c)
   tree-read [] (x ∷ xs) f p e i v a n m c = absurd (omega arith)
@@ -127,9 +122,10 @@ module _ {s r : ℕ} {w : ℕ → ℕ} {t : Tables} {u : ℕ} (tables : Tables-r
       let k = place-kept f p e l i v q refl a n (and-left (q .ok) rest c) in
       let tree = tree-read ls xs (with-leaf (k .forest) x) (k .spine) _ (suc i) (q .levels) (at-leaf x (k .placed .here))
       (next-number tables (k .forest) (k .spine) x l (k .placed .label-is)) (omega arith)
-      (and-right (q .ok) rest c) in (
-        tree .0,
-        tree .1,
-        tree .2 ∙ leaf-tags (k .forest) (k .spine) x xs ∙ ap (λ z. z ++ x ∷ xs) (k .same-tags),
-        tree .3 ∙ leaf-marks w (k .forest) (k .spine) x l ls (k .placed .label-is) ∙ ap (λ z. z ++ l ∷ ls) (k .same-marks),
-      )
+      (and-right (q .ok) rest c) in
+      record {
+        forest = tree .forest;
+        good = tree .good;
+        tags-are = tree .tags-are ∙ leaf-tags (k .forest) (k .spine) x xs ∙ ap (λ z. z ++ x ∷ xs) (k .same-tags);
+        labels-are = tree .labels-are ∙ leaf-marks w (k .forest) (k .spine) x l ls (k .placed .label-is) ∙ ap (λ z. z ++ l ∷ ls) (k .same-marks);
+      }

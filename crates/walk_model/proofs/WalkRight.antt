@@ -12,7 +12,7 @@ use lib.ListN.{length, length-map}
 use Rattle.lists.proofs.Tests.{and-left, and-right, and-both}
 use Rattle.store_types.specs.Layout.{at-s, at-r, at-height, at-count, at-first, word-at, label-at}
 use Rattle.tree.specs.Good.{Good}
-use Rattle.tree.specs.Forest.{Forest, leaves, labels, within-limits}
+use Rattle.tree.specs.Forest.{labels, within-limits}
 use Rattle.tree.specs.Book.{root-within, book-within}
 use Rattle.tree_laws.proofs.Good.{good-of}
 use Rattle.tree_laws.proofs.Rows.{distinct-all-below}
@@ -25,7 +25,7 @@ use Rattle.calls_laws.proofs.Reader.{length-follow}
 use Rattle.calls_laws.proofs.WordSteps.{words-fit, header-said, width-said, labels-said}
 use Rattle.walk_model.specs.Levels.{start-levels, labels-pass}
 use Rattle.walk_model.specs.Walk.{header-passes, shape-of, start, walk, words-pass}
-use Rattle.walk_model.specs.Promise.{Levels-right, Walk-right}
+use Rattle.walk_model.specs.Promise.{Tree-with, Levels-right, Walk-right}
 use Rattle.walk_model.proofs.Levels.{levels-right}
 use Rattle.walk_model.proofs.Passes.{Walked, walked, walks}
 use Rattle.walk_model.proofs.Shapes.{Header, header-facts, header-test, widths-given, tables-right}
@@ -42,7 +42,7 @@ some-tag {ws} {s} {r} {u} {n} h high =
 -- LABELS along a row of n tags
 row-labels : Levels-right → {ws : List ℕ} {s r u n : ℕ} → Header ws s r u n → (xs : List ℕ) → length xs ≡ n →
     (labels-pass (shape-of ws .tables) u 0 0 (start-levels (shape-of ws .tables)) (map (label-at ws) xs) ≡ true)
-    ↔ ((f : Forest) × Good s r f u × (leaves f ≡ xs) × (labels f (header-width ws) u 0 ≡ map (label-at ws) xs))
+    ↔ Tree-with s r (header-width ws) u xs (map (label-at ws) xs)
 unfolding Levels-right
 row-labels levels {ws} {s} {r} {u} {n} h xs l =
     let many : length (map (label-at ws) xs) ≡ n = length-map xs (label-at ws) ∙ l in
@@ -58,9 +58,11 @@ passed-said levels ws e =
     let w = walked ws (shape-of ws) (word-at ws at-count) 0 (start ws) (omega arith) (and-right (header-passes ws) rest e) in
     let xs = follow (word-at ws at-count) ws (word-at ws at-first) in
     let long = length-follow (word-at ws at-count) ws (word-at ws at-first) in
-    let (f, good, same, labels-are) = row-labels levels h xs long .0 (w .labels) in (
+    let tree = row-labels levels h xs long .0 (w .labels) in
+    let f = tree .forest in
+    let same = tree .tags-are in (
       found ws (word-at ws at-s) (word-at ws at-r) (pred (word-at ws at-height)) (word-at ws at-count) f,
-      found-said ws h f good (ap length same ∙ long) (rw same (w .links)) (rw same labels-are) (rw same (w .kinds)) (rw same (omega (arith, w .stamp))),
+      found-said ws h f (tree .good) (ap length same ∙ long) (rw same (w .links)) (rw same (tree .labels-are)) (rw same (w .kinds)) (rw same (omega (arith, w .stamp))),
     )
 
 -- WORDS THAT SAY A STORE pass
@@ -110,7 +112,7 @@ module _ (ws : List ℕ) (st : Store) (h : Says ws st) where
         links = rw (head .issued, head .first)
             (linked ws (count st) (row st) once below (λ x l. says x l .next-word) (λ x l. says x l .prior-word));
         labels = rw under
-            (row-labels levels facts (row st) (given .as-many) .1 (st .book .root, good, refl, rw (width-said ws st h) (sym (labels-said ws st h))));
+            (row-labels levels facts (row st) (given .as-many) .1 (record { forest = st .book .root; good = good; tags-are = refl; labels-are = rw (width-said ws st h) (sym (labels-said ws st h)) }));
         kinds = rw (head .issued, kinds-same ws st (given .few) says (row st) below) (given .nesting);
         stamp = rw (head .issued, head .stamp, marks) (omega (arith, given .stamp-fits));
       }

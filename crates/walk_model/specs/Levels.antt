@@ -1,4 +1,4 @@
--- Labels in one pass: for each height the open node's end and the place where it began. Follows the code of crate walk.
+-- Labels in one pass: for each height the open node's end and the place where it began. Follows the code of crate walk_levels.
 -- Assumes nothing: these are definitions.
 use mathlib.Core.Bool.{Bool, true, false, _&&_, cond}
 use mathlib.Core.List.{List, [], _∷_}

@@ -22,12 +22,19 @@ pub record Tables-right (s r : ℕ) (w : ℕ → ℕ) (top : ℕ) (t : Tables) :
   pub lows : (h : ℕ) → h ≤ top → entry (t .lows) h ≡ r ^ h
   pub highs : (h : ℕ) → h ≤ top → entry (t .highs) h ≡ s * r ^ h
 
+-- a tree under the root, within its limits, with these tags and labels
+pub record Tree-with (s r : ℕ) (w : ℕ → ℕ) (under : ℕ) (tags ls : List ℕ) : Type 0 where
+  pub forest : Forest
+  pub good : Good s r forest under
+  pub tags-are : leaves forest ≡ tags
+  pub labels-are : labels forest w under 0 ≡ ls
+
 -- labels pass if and only if a tree within its limits has them, whatever its tags
 unfoldable pub Levels-right : Type 0
 Levels-right =
     (s r : ℕ) (w : ℕ → ℕ) (t : Tables) (under : ℕ) (xs ls : List ℕ) → 2 ≤ s → 2 ≤ r → Widths s r w → Tables-right s r w (suc under) t →
     length xs ≡ length ls → length ls < s * r ^ suc under → ((under ≡ 0 → ⊥) → 1 ≤ length ls) →
-    (labels-pass t under 0 0 (start-levels t) ls ≡ true) ↔ ((f : Forest) × Good s r f under × (leaves f ≡ xs) × (labels f w under 0 ≡ ls))
+    (labels-pass t under 0 0 (start-levels t) ls ≡ true) ↔ Tree-with s r w under xs ls
 
 -- words pass if and only if they say a store
 unfoldable pub Walk-right : Type 0

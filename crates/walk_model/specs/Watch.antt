@@ -1,5 +1,5 @@
 -- How many leaves the ancestors of a place have, found in the pass that decides soundness: of each height below the root
--- the node of a given number is watched, and its size is taken where it closes. Follows the code of crate walk.
+-- the node of a given number is watched, and its size is taken where it closes. Follows the code of crate walk_levels.
 -- Assumes nothing: these are definitions.
 use mathlib.Core.Path.{_≡_}
 use mathlib.Core.Bool.{_&&_, cond}
