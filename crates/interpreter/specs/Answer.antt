@@ -1,5 +1,5 @@
 -- What a line prints, and the words after it (document 01, "The book program"): the call that the line asks for, on the
--- words before, as crate calls defines it; its reply's numbers as crate console prints them. Assumes nothing: these are
+-- words before, as crate calls defines it; its reply's numbers as crate reply_text prints them. Assumes nothing: these are
 -- definitions.
 use mathlib.Core.List.{List, [], _∷_, _++_}
 use Prim.Native.Nat.{ℕ, zero, suc, _+_, _*_}

@@ -2,6 +2,7 @@
 use Prim.Native.Nat.{ℕ}
 use lib.ListN.{length-replicate}
 use borrow.Author.Needs.{needs}
+use Rattle.interpreter.specs.Answer.{book-tags}
 use Rattle.interpreter.proofs.Commands.{says-same, list-room, list-yes, list-no}
 use Rattle.interpreter.proofs.reply.list.Statement.{statement}
 use Rattle.interpreter.proofs.reply.list.Tie as tie
@@ -28,7 +29,7 @@ listed-requires : tie.Need-listed-requires
 listed-requires c κs =
     let known = c .before .before .before .before in
     let call = known .before .before .before .before in
-    list-room _ _ _ (length-replicate {A = ℕ} 2000 0) (length-replicate {A = ℕ} 2000 0) _ _ _ _ _ (call .list .ensures .0) (known .n .given .1)
+    list-room _ _ _ (length-replicate {A = ℕ} book-tags 0) (length-replicate {A = ℕ} book-tags 0) _ _ _ _ _ (call .list .ensures .0) (known .n .given .1)
     (search needs) (search needs) (call .before .before .before .before .before .pre)
 
 enum-known-k : tie.Need-enum-known-k
@@ -45,7 +46,7 @@ returns c =
     let said = c .before .before in
     let known = said .before .before .before .before .before in
     let call = known .before .before .before .before in
-    says-same (list-yes _ _ _ (length-replicate {A = ℕ} 2000 0) (length-replicate {A = ℕ} 2000 0) _ _ _ _ (call .list .ensures .0) (known .n .given .1) (call .list .ensures .1 .0) (call .list .ensures .1 .1)) (said .listed .ensures)
+    says-same (list-yes _ _ _ (length-replicate {A = ℕ} book-tags 0) (length-replicate {A = ℕ} book-tags 0) _ _ _ _ (call .list .ensures .0) (known .n .given .1) (call .list .ensures .1 .0) (call .list .ensures .1 .1)) (said .listed .ensures)
 
 same-length-2 : tie.Need-same-length-2
 same-length-2 c = search needs
@@ -55,7 +56,7 @@ returns-2 c =
     let said = c .before .before in
     let known = said .before .before .before in
     let call = known .before .before .before .before in
-    says-same (list-no _ _ _ (length-replicate {A = ℕ} 2000 0) (length-replicate {A = ℕ} 2000 0) _ _ (call .list .ensures .0) (known .k .given .1)) (said .no-line .ensures)
+    says-same (list-no _ _ _ (length-replicate {A = ℕ} book-tags 0) (length-replicate {A = ℕ} book-tags 0) _ _ (call .list .ensures .0) (known .k .given .1)) (said .no-line .ensures)
 
 pub list-spec : {M : Type 1} → statement M
 list-spec =
