@@ -2,7 +2,7 @@
 -- the parts that are left, numbered from here, come to the whole (On-way), and there are tags for them (Parts-left); its measure
 -- is how many are left. Assumes nothing.
 use mathlib.Core.Path.{_≡_, _∙_}
-use Prim.Native.Nat.{ℕ, _^_, _≤_, _<_}
+use Prim.Native.Nat.{ℕ, _^_, _-_, _≤_, _<_}
 use native.Mathlib.Omega.{arith}
 use Rattle.shape.specs.Tables.{entry, entry-limit}
 use Rattle.shape.specs.Packed.{widths-in, r-in}
@@ -74,8 +74,9 @@ module _ (t : ℕ) where
   each-is : (c : number-lts.After-low (given t) (number-at t) number.Post number-Inv-loop number-μ-loop) → c .low .result ≡ r-in (head c .args .tables .now) ^ head c .args .j
   each-is c = c .low .ensures ∙ each-power (head c .pre .1 .1) (low c)
 
+  -- a width of any height fits
   width-fits : (c : number-lts.After-low (given t) (number-at t) number.Post number-Inv-loop number-μ-loop) → c .before .width2 .result ≤ entry-limit
-  width-fits c = rw (c .before .width2 .ensures) (head c .pre .1 .1 .widths (head c .args .j))
+  width-fits c = let widths = head c .pre .1 .1 .widths in omega (arith, c .before .width2 .ensures, widths (head c .args .j), widths (head c .args .j - 1))
 
   -- the next part of a turn
   part : (c : number-lts.After-part-size (given t) (number-at t) number.Post number-Inv-loop number-μ-loop) →
