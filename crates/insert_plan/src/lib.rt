@@ -9,6 +9,8 @@ ghost use Rattle.edit_model.specs.Insert.{plain-plan, split-plan, plan as plan-
 ghost use Rattle.renumber.specs.Needs.{issued};
 ghost use Rattle.insert_plan.specs.Parts.{plan-record, next-label, inner-plan};
 ghost use Rattle.insert_plan.specs.Needs.{Plain-reads, Plan-reads, Split-fits, Applicable};
+use shape::PACKED_LENGTH;
+use shape::TABLE_LENGTH;
 use store_types::TagId;
 
 // From the tag behind `left` on, `count` tags as trees of a height from a number on; then the labels below a bound are
@@ -34,7 +36,7 @@ fn next_label(words: &[u32], place: TagId, width: u64) -> u64
 }
 
 // No split: one tag right behind the place, and its right siblings are shifted; `parent` is the number of their parent.
-pub fn plain_plan(words: &[u32], place: TagId, parent: u64, tables: &[u64; 96]) -> Plan
+pub fn plain_plan(words: &[u32], place: TagId, parent: u64, tables: &[u64; PACKED_LENGTH]) -> Plan
     requires { ⌜ Plain-reads (now words) (place .0) parent (now tables) ⌝ }
     ensures { λ p. ⌜ plan-record p ≡ plain-plan (now (words .entry)) (widths-in (now (tables .entry))) (pred (word-at (now (words .entry)) at-height)) (place .0) ⌝ }
 {
@@ -52,7 +54,7 @@ pub fn plain_plan(words: &[u32], place: TagId, parent: u64, tables: &[u64; 96]) 
 
 // The leaves of the ancestor of height h as s complete trees, and its right siblings are shifted; `left` is the tag left
 // of it.
-fn split_plan(h: usize, left: TagId, tables: &[u64; 96]) -> Plan
+fn split_plan(h: usize, left: TagId, tables: &[u64; PACKED_LENGTH]) -> Plan
     requires { ⌜ Split-fits h (now tables) ⌝ }
     ensures { λ p. ⌜ plan-record p ≡ split-plan (s-in (now (tables .entry))) (widths-in (now (tables .entry))) (highs-in (now (tables .entry))) (numbers-in (now (tables .entry))) h (left .0) ⌝ }
 {
@@ -70,7 +72,7 @@ fn split_plan(h: usize, left: TagId, tables: &[u64; 96]) -> Plan
 
 // Tags at a place, where the ancestor of height h is split, or none where that is 0. Only a split walks left, to the
 // border of its node.
-fn inner_plan(words: &[u32], place: TagId, h: usize, tables: &[u64; 96]) -> Plan
+fn inner_plan(words: &[u32], place: TagId, h: usize, tables: &[u64; PACKED_LENGTH]) -> Plan
     requires { ⌜ Plan-reads (now words) (place .0) (now tables) × (h ≤ pred (word-at (now words) at-height)) ⌝ }
     ensures { λ p. ⌜ plan-record p ≡ inner-plan (now (words .entry)) (s-in (now (tables .entry))) (widths-in (now (tables .entry))) (highs-in (now (tables .entry))) (issued (now (words .entry))) (pred (word-at (now (words .entry)) at-height)) h (place .0) ⌝ }
 {
@@ -83,7 +85,13 @@ fn inner_plan(words: &[u32], place: TagId, h: usize, tables: &[u64; 96]) -> Plan
 }
 
 // k tags at a place whose ancestors have these numbers and sizes: the highest node that comes to its limit is split.
-pub fn plan_at(words: &[u32], k: u32, place: TagId, tables: &[u64; 96], sizes: &[u32; 24]) -> Plan
+pub fn plan_at(
+    words: &[u32],
+    k: u32,
+    place: TagId,
+    tables: &[u64; PACKED_LENGTH],
+    sizes: &[u32; TABLE_LENGTH],
+) -> Plan
     requires { ⌜ Plan-reads (now words) (place .0) (now tables) ⌝ }
     ensures { λ p. ⌜ plan-record p ≡ plan-of-tags (now (words .entry)) (s-in (now (tables .entry))) (widths-in (now (tables .entry))) (highs-in (now (tables .entry))) (now (sizes .entry)) (issued (now (words .entry))) k (pred (word-at (now (words .entry)) at-height)) (place .0) ⌝ }
 {
@@ -105,7 +113,7 @@ pub fn plan_at(words: &[u32], k: u32, place: TagId, tables: &[u64; 96], sizes: &
 }
 
 // How many of the numbered and shifted tags held another label.
-pub fn apply(words: &mut [u32], p: Plan, tables: &[u64; 96]) -> u32
+pub fn apply(words: &mut [u32], p: Plan, tables: &[u64; PACKED_LENGTH]) -> u32
     requires { ⌜ Applicable (now words) (plan-record p) (now tables) ⌝ }
     ensures words { λ _. ⌜ now (words .exit) ≡ applied (now (words .entry)) (widths-in (now (tables .entry))) (r-in (now (tables .entry))) (issued (now (words .entry))) (plan-record p) .words ⌝ }
     ensures moved { λ m. ⌜ m ≡ applied (now (words .entry)) (widths-in (now (tables .entry))) (r-in (now (tables .entry))) (issued (now (words .entry))) (plan-record p) .moved ⌝ }

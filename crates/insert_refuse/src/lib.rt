@@ -8,6 +8,8 @@ ghost use Rattle.calls.specs.Words.{Says};
 ghost use Rattle.calls.specs.Replies.{said, insert-refused};
 ghost use Rattle.walk_model.specs.Watch.{Tables-at, sizes-at};
 ghost use Rattle.insert_refuse.specs.Parts.{place-refusal, room-refusal, tags-refusal};
+use shape::PACKED_LENGTH;
+use shape::TABLE_LENGTH;
 use store_types::BEGIN;
 use store_types::MOST_TAGS;
 use store_types::TEXT;
@@ -31,7 +33,7 @@ fn place_refused(place: TagId, words: &[u32]) -> u32
 }
 
 // 6 and 7 for k tags: words and labels remain.
-fn room_refused(k: u32, words: &[u32], tables: &[u64; 96]) -> u32
+fn room_refused(k: u32, words: &[u32], tables: &[u64; PACKED_LENGTH]) -> u32
     requires { ⌜ Says (now words) (said (now words)) × (k ≤ 2) × (highs-in (now tables) ≡ highs-of (now words)) ⌝ }
     ensures { λ v. ⌜ v ≡ room-refusal (length (now (words .entry))) k (said (now (words .entry))) ⌝ }
 {
@@ -55,7 +57,7 @@ fn room_refused(k: u32, words: &[u32], tables: &[u64; 96]) -> u32
 }
 
 // 8, 9, 6, 7 for k tags.
-fn tags_refused(k: u32, place: TagId, words: &[u32], tables: &[u64; 96]) -> u32
+fn tags_refused(k: u32, place: TagId, words: &[u32], tables: &[u64; PACKED_LENGTH]) -> u32
     requires { ⌜ Says (now words) (said (now words)) × (k ≤ 2) × (highs-in (now tables) ≡ highs-of (now words)) ⌝ }
     ensures { λ v. ⌜ v ≡ tags-refusal (length (now (words .entry))) k (place .0) (said (now (words .entry))) ⌝ }
 {
@@ -71,8 +73,8 @@ pub fn insert_refused(
     kind: u8,
     place: TagId,
     words: &[u32],
-    tables: &mut [u64; 96],
-    sizes: &mut [u32; 24],
+    tables: &mut [u64; PACKED_LENGTH],
+    sizes: &mut [u32; TABLE_LENGTH],
 ) -> u32
     ensures refusal { λ k. ⌜ k ≡ insert-refused kind (place .0) (now (words .entry)) ⌝ }
     ensures tables { λ k. ⌜ (k ≡ 0 → Tables-at (now (words .entry)) (place .0) (now (tables .exit))) ⌝ }

@@ -6,9 +6,10 @@ ghost use Prim.Native.Nat.{_+_, _<_, _≤_};
 ghost use lib.ListN.{length};
 ghost use Rattle.store_types.specs.Limits.{most-tags, label-limit};
 ghost use Rattle.store_types.specs.Layout.{at-up, field, Room};
-ghost use Rattle.shape.specs.Tables.{entry-limit};
+ghost use Rattle.shape.specs.Tables.{entry-limit, table-length};
 ghost use Rattle.load_model.specs.Begins.{next-begin, begun, First-begins};
 ghost use Rattle.load_tags.specs.Tags.{Entries-fit, Widths-rise, Gaps-of, Trees-fit, labels-new, next-number, prior-number, place-written, Kind-number, new-mate, new-up, links-written, tag-written, open-behind, Opened, Around-known, Tag-fits, Tags-fit, Tags-written};
+use shape::TABLE_LENGTH;
 use store_types::BEGIN;
 use store_types::END;
 use store_types::Label;
@@ -121,11 +122,11 @@ fn next_begin(i: u64, n: u64, each: u64) -> u64
 }
 
 // The same behind the first node of each of so many heights.
-fn first_begins(n: u64, under: usize, lows: &[u64; 24]) -> [u64; 24]
+fn first_begins(n: u64, under: usize, lows: &[u64; TABLE_LENGTH]) -> [u64; TABLE_LENGTH]
     requires { ⌜ (under ≤ 23) × Entries-fit (now lows) ⌝ }
     ensures { λ bs. ⌜ First-begins n under (now (lows .entry)) bs ⌝ }
 {
-    let mut begins = [n; 24];
+    let mut begins = [n; TABLE_LENGTH];
     let mut j: usize = 0;
     while j < under {
         begins[j] = next_begin(0, n, lows[j]);
@@ -136,11 +137,11 @@ fn first_begins(n: u64, under: usize, lows: &[u64; 24]) -> [u64; 24]
 
 // The gaps before the nodes of each of so many heights: how much further a node begins than one more leaf of the node before it
 // would.
-fn gaps(r: u64, under: usize, widths: &[u64; 24]) -> [u64; 24]
+fn gaps(r: u64, under: usize, widths: &[u64; TABLE_LENGTH]) -> [u64; TABLE_LENGTH]
     requires { ⌜ Widths-rise r under (now widths) ⌝ }
     ensures { λ gs. ⌜ Gaps-of r under (now (widths .entry)) gs ⌝ }
 {
-    let mut gaps = [0u64; 24];
+    let mut gaps = [0u64; TABLE_LENGTH];
     let mut h: usize = 0;
     while h < under {
         gaps[h] = widths[h + 1] - r * widths[h];
@@ -154,17 +155,17 @@ fn begin_nodes(
     i: u64,
     n: u64,
     label: u64,
-    gaps: &[u64; 24],
-    lows: &[u64; 24],
-    begins: &mut [u64; 24],
+    gaps: &[u64; TABLE_LENGTH],
+    lows: &[u64; TABLE_LENGTH],
+    begins: &mut [u64; TABLE_LENGTH],
 ) -> u64
     requires { ⌜ (i ≤ most-tags) × (label < label-limit) × Entries-fit (now gaps) × Entries-fit (now lows) ⌝ }
-    ensures label { λ a. ⌜ a ≡ begun 24 0 (now (gaps .entry)) (now (lows .entry)) n i label (now (begins .entry)) .label ⌝ }
-    ensures begins { λ _. ⌜ now (begins .exit) ≡ begun 24 0 (now (gaps .entry)) (now (lows .entry)) n i label (now (begins .entry)) .begins ⌝ }
+    ensures label { λ a. ⌜ a ≡ begun table-length 0 (now (gaps .entry)) (now (lows .entry)) n i label (now (begins .entry)) .label ⌝ }
+    ensures begins { λ _. ⌜ now (begins .exit) ≡ begun table-length 0 (now (gaps .entry)) (now (lows .entry)) n i label (now (begins .entry)) .begins ⌝ }
 {
     let mut at = label;
     let mut j: usize = 0;
-    while j < 24 {
+    while j < TABLE_LENGTH {
         if begins[j] != i {
             return at;
         }
@@ -176,7 +177,13 @@ fn begin_nodes(
 }
 
 // All tags, in trees of height `under` that have these widths. Gaps and leaves stand by height less one.
-pub fn write_tags(words: &mut [u32], kinds: &[u8], r: u64, under: usize, widths: &[u64; 24])
+pub fn write_tags(
+    words: &mut [u32],
+    kinds: &[u8],
+    r: u64,
+    under: usize,
+    widths: &[u64; TABLE_LENGTH],
+)
     requires { ⌜ Tags-fit (now words) (now kinds) × Trees-fit r (length (now kinds)) under (now widths) ⌝ }
     ensures { λ _. ⌜ Tags-written (now (words .entry)) (now (words .exit)) (now (kinds .entry)) (labels-new r (now (widths .entry)) (length (now (kinds .entry))) under) ⌝ }
 {

@@ -7,6 +7,8 @@ ghost use Rattle.store_types.specs.Layout.{label-at, Records};
 ghost use Rattle.shape.specs.Packed.{highs-in};
 ghost use Rattle.renumber.specs.Needs.{issued};
 ghost use Rattle.edit_model.specs.Split.{highest-full, left-border};
+use shape::PACKED_LENGTH;
+use shape::TABLE_LENGTH;
 use store_types::TagId;
 
 // Whether x is a tag of n with a label of at least low.
@@ -48,7 +50,12 @@ fn higher(lower: usize, here: usize, full: bool) -> usize
 
 // The height of the highest ancestor below the root that comes to its limit with k leaves more, by the sizes of the
 // ancestors; 0 if none does.
-pub fn highest_full(k: u32, under: usize, tables: &[u64; 96], sizes: &[u32; 24]) -> usize
+pub fn highest_full(
+    k: u32,
+    under: usize,
+    tables: &[u64; PACKED_LENGTH],
+    sizes: &[u32; TABLE_LENGTH],
+) -> usize
     requires { ⌜ under ≤ 22 ⌝ }
     ensures { λ h. ⌜ h ≡ highest-full (highs-in (now (tables .entry))) (now (sizes .entry)) k under 1 0 ⌝ }
 {

@@ -12,6 +12,7 @@ ghost use Rattle.shape.specs.Tables.{entry-limit};
 ghost use Rattle.shape.specs.Sums.{cut};
 ghost use Rattle.edit_model.specs.Relabel.{shift as shifted};
 ghost use Rattle.renumber.specs.Needs.{issued, Row-there, Trees-fit, Row-numbered, Part-size, leaves-numbered, trees-numbered};
+use shape::PACKED_LENGTH;
 use store_types::Label;
 use store_types::TagId;
 
@@ -66,7 +67,7 @@ pub fn number(
     a: u64,
     x: TagId,
     count: u64,
-    tables: &[u64; 96],
+    tables: &[u64; PACKED_LENGTH],
 ) -> Numbered
     requires { ⌜ Row-there (now words) (x .0) count × Trees-fit j a count (now tables) ⌝ }
     ensures { λ q. ⌜ Row-numbered (now (words .entry)) (now (words .exit)) (trees-numbered (now (words .entry)) (widths-in (now (tables .entry))) (r-in (now (tables .entry))) j a (x .0) count) (x .0) count (q .next .0) (q .moved) ⌝ }

@@ -12,6 +12,9 @@ ghost use Rattle.shape.specs.Needs.{Root-fits, Widths-fit, frame-passes,
 // Every table by height has so many entries.
 pub const TABLE_LENGTH: usize = 24;
 
+// Four tables in one array.
+pub const PACKED_LENGTH: usize = 4 * TABLE_LENGTH;
+
 // No sound store is higher: its tags would be more than 200,000.
 const MOST_LEVELS: u32 = 17;
 

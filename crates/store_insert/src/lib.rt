@@ -10,7 +10,10 @@ ghost use Rattle.renumber.specs.Needs.{issued};
 ghost use Rattle.insert_plan.specs.Parts.{plan-record};
 ghost use Rattle.store_insert.specs.Parts.{call-edit};
 ghost use Rattle.store_insert.specs.Needs.{Edits, Put-fits, Parent-reads, Parent-of, End-fits, Ready, Both-ready};
+ghost use Rattle.shape.specs.Tables.{table-length};
 use insert_plan::Plan;
+use shape::PACKED_LENGTH;
+use shape::TABLE_LENGTH;
 use store_types::InsertReply;
 use store_types::TagId;
 
@@ -21,7 +24,7 @@ struct Done {
 }
 
 // New tags are in: what was planned is done. Of the tags that were numbered, `new` are new.
-fn put(words: &mut [u32], new: u32, p: Plan, tables: &[u64; 96]) -> Done
+fn put(words: &mut [u32], new: u32, p: Plan, tables: &[u64; PACKED_LENGTH]) -> Done
     requires { ⌜ Put-fits (now words) (plan-record p) (now tables) ⌝ }
     ensures { λ d. ⌜ Edits (now (words .exit)) (d .moved) (d .split) (put-words (now (words .entry)) (widths-in (now (tables .entry))) (r-in (now (tables .entry))) (issued (now (words .entry))) new (plan-record p)) ⌝ }
 {
@@ -51,7 +54,7 @@ fn insert_text(
     place: TagId,
     up: TagId,
     p: Plan,
-    tables: &[u64; 96],
+    tables: &[u64; PACKED_LENGTH],
 ) -> Done
     requires { ⌜ Ready 3 1 (now words) n (place .0) (up .0) (plan-record p) (now tables) ⌝ }
     ensures { λ d. ⌜ Edits (now (words .exit)) (d .moved) (d .split) (text-edit (place .0) (now (words .entry))) ⌝ }
@@ -67,7 +70,7 @@ fn insert_both(
     place: TagId,
     up: TagId,
     p: Plan,
-    tables: &[u64; 96],
+    tables: &[u64; PACKED_LENGTH],
 ) -> Done
     requires { ⌜ Both-ready (now words) n (place .0) (up .0) (plan-record p) (now tables) ⌝ }
     ensures { λ d. ⌜ Edits (now (words .exit)) (d .moved) (d .split) (both-edit (place .0) (now (words .entry))) ⌝ }
@@ -78,7 +81,7 @@ fn insert_both(
 }
 
 // The number of a place's parent.
-fn parent_of(words: &[u32], place: TagId, tables: &[u64; 96]) -> u64
+fn parent_of(words: &[u32], place: TagId, tables: &[u64; PACKED_LENGTH]) -> u64
     requires { ⌜ Parent-reads (now words) (now tables) ⌝ }
     ensures { λ a. ⌜ Parent-of (now (words .entry)) (place .0) (now (tables .entry)) a ⌝ }
 {
@@ -89,7 +92,7 @@ fn parent_of(words: &[u32], place: TagId, tables: &[u64; 96]) -> u64
 }
 
 // The end of an element, behind its begin n: it splits nothing, and shifts only tags that the begin has moved.
-fn insert_end(words: &mut [u32], n: u32, up: TagId, tables: &[u64; 96])
+fn insert_end(words: &mut [u32], n: u32, up: TagId, tables: &[u64; PACKED_LENGTH])
     requires { ⌜ End-fits (now words) n (now tables) ⌝ }
     ensures { λ _. ⌜ now (words .exit) ≡ end-edit (widths-in (now (tables .entry))) n (up .0) (now (words .entry)) ⌝ }
 {
@@ -107,7 +110,7 @@ fn insert_in_turn(
     place: TagId,
     up: TagId,
     p: Plan,
-    tables: &[u64; 96],
+    tables: &[u64; PACKED_LENGTH],
 ) -> Done
     requires { ⌜ Ready 1 1 (now words) n (place .0) (up .0) (plan-record p) (now tables) ⌝ }
     ensures { λ d. ⌜ Edits (now (words .exit)) (d .moved) (d .split) (in-turn-edit (place .0) (now (words .entry))) ⌝ }
@@ -126,7 +129,7 @@ fn insert_element(
     up: TagId,
     p: Plan,
     q: Plan,
-    tables: &[u64; 96],
+    tables: &[u64; PACKED_LENGTH],
 ) -> Done
     requires { ⌜ Ready 1 1 (now words) n (place .0) (up .0) (plan-record p) (now tables) × Ready 1 2 (now words) n (place .0) (up .0) (plan-record q) (now tables) ⌝ }
     ensures { λ d. ⌜ Edits (now (words .exit)) (d .moved) (d .split) (element-edit (place .0) (now (words .entry))) ⌝ }
@@ -138,8 +141,14 @@ fn insert_element(
 }
 
 // An accepted insertion, but for the stamp; `tables` and `sizes` are those of its place.
-fn change(kind: u8, place: TagId, words: &mut [u32], tables: &[u64; 96], sizes: &[u32; 24]) -> Done
-    requires { ⌜ (insert-refused kind (place .0) (now words) ≡ 0) × Tables-at (now words) (place .0) (now tables) × (now sizes ≡ sizes-at (now words) (place .0) (replicate 24 0)) ⌝ }
+fn change(
+    kind: u8,
+    place: TagId,
+    words: &mut [u32],
+    tables: &[u64; PACKED_LENGTH],
+    sizes: &[u32; TABLE_LENGTH],
+) -> Done
+    requires { ⌜ (insert-refused kind (place .0) (now words) ≡ 0) × Tables-at (now words) (place .0) (now tables) × (now sizes ≡ sizes-at (now words) (place .0) (replicate table-length 0)) ⌝ }
     ensures { λ d. ⌜ Edits (now (words .exit)) (d .moved) (d .split) (call-edit kind (place .0) (now (words .entry))) ⌝ }
 {
     let n = words[words::AT_COUNT];
@@ -156,8 +165,8 @@ pub fn insert(kind: u8, place: TagId, words: &mut [u32]) -> InsertReply
     ensures reply { λ q. ⌜ q ≡ insert-reply kind (place .0) (now (words .entry)) ⌝ }
     ensures words { λ _. ⌜ now (words .exit) ≡ insert-words kind (place .0) (now (words .entry)) ⌝ }
 {
-    let mut tables = [0u64; 96];
-    let mut sizes = [0u32; 24];
+    let mut tables = [0u64; PACKED_LENGTH];
+    let mut sizes = [0u32; TABLE_LENGTH];
     let refusal = insert_refuse::insert_refused(kind, place, words, &mut tables, &mut sizes);
     if refusal != 0 {
         return InsertReply::Refused(refusal);

@@ -3,6 +3,8 @@ ghost use mathlib.Core.Path.{_≡_};
 ghost use Rattle.calls.specs.Mark.{section-refusal};
 ghost use Rattle.calls.specs.Replies.{refusal-over};
 ghost use Rattle.walk_model.specs.Watch.{Tables-at, sizes-at};
+use shape::PACKED_LENGTH;
+use shape::TABLE_LENGTH;
 use store_types::TagId;
 
 // 1 and 2, which come first on every call but load; 0 where the words say a store. Then `tables` has the tables of their
@@ -10,8 +12,8 @@ use store_types::TagId;
 pub fn words_refused_at(
     words: &[u32],
     place: TagId,
-    tables: &mut [u64; 96],
-    sizes: &mut [u32; 24],
+    tables: &mut [u64; PACKED_LENGTH],
+    sizes: &mut [u32; TABLE_LENGTH],
 ) -> u32
     ensures refusal { λ k. ⌜ k ≡ refusal-over (now (words .entry)) (λ st. 0) ⌝ }
     ensures tables { λ k. ⌜ (k ≡ 0 → Tables-at (now (words .entry)) (place .0) (now (tables .exit))) ⌝ }
@@ -30,8 +32,8 @@ pub fn words_refused_at(
 pub fn words_refused(words: &[u32]) -> u32
     ensures { λ k. ⌜ k ≡ refusal-over (now (words .entry)) (λ st. 0) ⌝ }
 {
-    let mut tables = [0u64; 96];
-    let mut sizes = [0u32; 24];
+    let mut tables = [0u64; PACKED_LENGTH];
+    let mut sizes = [0u32; TABLE_LENGTH];
     words_refused_at(words, TagId::NONE, &mut tables, &mut sizes)
 }
 

@@ -9,6 +9,8 @@ ghost use Rattle.walk_tags.specs.Needs.{Tag-reads};
 ghost use Rattle.shape.specs.Packed.{widths-in, lows-in, highs-in, numbers-in};
 ghost use Rattle.walk_levels.specs.Needs.{levels-of};
 ghost use Rattle.walk.specs.Needs.{Pass-fits, Standing, Ends-fit, Behind, ends-from, label-passes, shape-in, label-due, state-with, start-with};
+use shape::PACKED_LENGTH;
+use shape::TABLE_LENGTH;
 use store_types::TagId;
 use words::Offset;
 
@@ -35,10 +37,10 @@ fn label_fits(
     words: &[u32],
     size: Extent,
     v: State,
-    tables: &[u64; 96],
-    ends: &mut [u64; 24],
-    firsts: &mut [u32; 24],
-    sizes: &mut [u32; 24],
+    tables: &[u64; PACKED_LENGTH],
+    ends: &mut [u64; TABLE_LENGTH],
+    firsts: &mut [u32; TABLE_LENGTH],
+    sizes: &mut [u32; TABLE_LENGTH],
 ) -> bool
     requires { ⌜ Pass-fits (now words) (size .n) (size .under) (now tables) × Standing (now words) (size .n) (now ends) v ⌝ }
     ensures ok { λ t. ⌜ t ≡ label-passes (now (words .entry)) (shape-in (now (tables .entry)) (size .under) (size .n)) (v .place) (state-with (now (words .entry)) v (now (ends .entry)) (now (firsts .entry))) ⌝ }
@@ -83,10 +85,10 @@ fn ends_well(
     words: &[u32],
     size: Extent,
     v: State,
-    tables: &[u64; 96],
-    ends: &[u64; 24],
-    firsts: &[u32; 24],
-    sizes: &mut [u32; 24],
+    tables: &[u64; PACKED_LENGTH],
+    ends: &[u64; TABLE_LENGTH],
+    firsts: &[u32; TABLE_LENGTH],
+    sizes: &mut [u32; TABLE_LENGTH],
 ) -> bool
     requires { ⌜ Ends-fit (now words) (size .n) (size .under) (v .marks) (now tables) ⌝ }
     ensures ok { λ t. ⌜ t ≡ ends-from (now (words .entry)) (size .n) (size .under) (lows-in (now (tables .entry))) (highs-in (now (tables .entry))) (now (firsts .entry)) (v .tag .0) (v .parent .0) (v .marks) ⌝ }
@@ -109,9 +111,9 @@ fn ends_well(
 fn pass(
     words: &[u32],
     size: Extent,
-    widths: [u64; 24],
-    tables: &[u64; 96],
-    sizes: &mut [u32; 24],
+    widths: [u64; TABLE_LENGTH],
+    tables: &[u64; PACKED_LENGTH],
+    sizes: &mut [u32; TABLE_LENGTH],
 ) -> bool
     requires { ⌜ Pass-fits (now words) (size .n) (size .under) (now tables) × (widths ≡ widths-in (now tables)) ⌝ }
     ensures ok { λ t. ⌜ t ≡ walk (now (words .entry)) (shape-in (now (tables .entry)) (size .under) (size .n)) (size .n) 0 (start-with (now (words .entry)) (widths-in (now (tables .entry)))) ⌝ }
@@ -124,7 +126,7 @@ fn pass(
     }
     let pairs = walk_tags::pairs();
     let mut ends = widths;
-    let mut firsts = [0u32; 24];
+    let mut firsts = [0u32; TABLE_LENGTH];
     let mut v = State {
         place: 0,
         tag: first,
@@ -148,7 +150,12 @@ fn pass(
 
 // Whether words say a store: refusal 2 where they do not. Where they do, `tables` has then the tables of their header with
 // the numbers of the ancestors of a place, and `sizes` the leaves of each of these below the root, by height.
-pub fn sound_at(words: &[u32], place: TagId, tables: &mut [u64; 96], sizes: &mut [u32; 24]) -> bool
+pub fn sound_at(
+    words: &[u32],
+    place: TagId,
+    tables: &mut [u64; PACKED_LENGTH],
+    sizes: &mut [u32; TABLE_LENGTH],
+) -> bool
     ensures ok { λ t. ⌜ t ≡ words-pass (now (words .entry)) ⌝ }
     ensures tables { λ t. ⌜ (t ≡ true → Tables-at (now (words .entry)) (place .0) (now (tables .exit))) ⌝ }
     ensures sizes { λ t. ⌜ (t ≡ true → now (sizes .exit) ≡ sizes-at (now (words .entry)) (place .0) (now (sizes .entry))) ⌝ }

@@ -7,30 +7,32 @@ ghost use Prim.Native.Nat.{_+_, _-_, _≤_, _<_};
 ghost use lib.Dec.{eqb};
 ghost use lib.ListN.{getD};
 ghost use Rattle.walk_model.specs.Watch.{settle-sizes, close-sizes};
-ghost use Rattle.shape.specs.Tables.{entry-limit};
+ghost use Rattle.shape.specs.Tables.{entry-limit, table-length};
 ghost use Rattle.shape.specs.Packed.{widths-in, lows-in, highs-in, numbers-in};
 ghost use Rattle.walk_levels.specs.Needs.{Levels-fit, Tables-fit, levels-of, closes-from, settle-from, close-from, expected-label};
+use shape::PACKED_LENGTH;
+use shape::TABLE_LENGTH;
 use store_types::Label;
 
 // Where a node of a height ends that begins at a number. Nothing is cut: where the words say no store, an end may pass every
 // label.
-fn end_at(begin: u64, h: usize, tables: &[u64; 96]) -> u64
-    requires { ⌜ (h < 24) × (begin ≤ entry-limit) × (getD (widths-in (now tables)) h 0 ≤ entry-limit) ⌝ }
+fn end_at(begin: u64, h: usize, tables: &[u64; PACKED_LENGTH]) -> u64
+    requires { ⌜ (h < table-length) × (begin ≤ entry-limit) × (getD (widths-in (now tables)) h 0 ≤ entry-limit) ⌝ }
     ensures { λ v. ⌜ v ≡ begin + getD (widths-in (now (tables .entry))) h 0 ⌝ }
 {
     begin + shape::tables::width(tables, h)
 }
 
 // Where the watched node of a height ends.
-fn watched_end(tables: &[u64; 96], h: usize) -> u64
-    requires { ⌜ (h < 24) × Tables-fit h (now tables) ⌝ }
+fn watched_end(tables: &[u64; PACKED_LENGTH], h: usize) -> u64
+    requires { ⌜ (h < table-length) × Tables-fit h (now tables) ⌝ }
     ensures { λ v. ⌜ v ≡ getD (numbers-in (now (tables .entry))) h 0 + getD (widths-in (now (tables .entry))) h 0 ⌝ }
 {
     end_at(shape::tables::number(tables, h), h, tables)
 }
 
 // Whether a node of height h whose first leaf is at place first is within its limits where the next leaf is at place.
-fn closes(first: u32, place: u32, h: usize, tables: &[u64; 96]) -> bool
+fn closes(first: u32, place: u32, h: usize, tables: &[u64; PACKED_LENGTH]) -> bool
     requires { ⌜ Levels-fit h (widths-in (now tables)) (lows-in (now tables)) (highs-in (now tables)) ⌝ }
     ensures { λ t. ⌜ t ≡ closes-from (lows-in (now (tables .entry))) (highs-in (now (tables .entry))) h first place ⌝ }
 {
@@ -53,10 +55,10 @@ pub fn settle(
     label: Label,
     place: u32,
     under: usize,
-    tables: &[u64; 96],
-    ends: &mut [u64; 24],
-    firsts: &mut [u32; 24],
-    sizes: &mut [u32; 24],
+    tables: &[u64; PACKED_LENGTH],
+    ends: &mut [u64; TABLE_LENGTH],
+    firsts: &mut [u32; TABLE_LENGTH],
+    sizes: &mut [u32; TABLE_LENGTH],
 ) -> bool
     requires { ⌜ Tables-fit under (now tables) ⌝ }
     ensures ok { λ t. ⌜ t ≡ settle-from (now (tables .entry)) under (label .0) place (now (ends .entry)) (now (firsts .entry)) .ok ⌝ }
@@ -87,10 +89,10 @@ pub fn settle(
 pub fn all_close(
     place: u32,
     under: usize,
-    tables: &[u64; 96],
-    ends: &[u64; 24],
-    firsts: &[u32; 24],
-    sizes: &mut [u32; 24],
+    tables: &[u64; PACKED_LENGTH],
+    ends: &[u64; TABLE_LENGTH],
+    firsts: &[u32; TABLE_LENGTH],
+    sizes: &mut [u32; TABLE_LENGTH],
 ) -> bool
     requires { ⌜ Tables-fit under (now tables) ⌝ }
     ensures ok { λ t. ⌜ t ≡ close-from (lows-in (now (tables .entry))) (highs-in (now (tables .entry))) under place (now (firsts .entry)) ⌝ }
