@@ -45,7 +45,7 @@ pub fn section_refused(tag: TagId, words: &[u32]) -> u32
     if first != 0 {
         return first;
     }
-    if words[words::AT_COUNT] <= tag.0 {
+    if words::count_of(words) <= tag.0 {
         return 8;
     }
     let kind = words::kind_of(words, tag);

@@ -4,8 +4,9 @@
 pub mod places;
 
 ghost use mathlib.Core.Path.{_≡_};
-ghost use Prim.Native.Nat.{ℕ, _<_};
-ghost use Rattle.store_types.specs.Layout.{at-next, at-prior, at-mate, at-up, at-kind, tag-words, field, label-at, with-field, with-label, Room};
+ghost use Prim.Native.Nat.{ℕ, _≤_, _<_};
+ghost use lib.ListN.{length, set};
+ghost use Rattle.store_types.specs.Layout.{header-words, at-height, at-count, at-first, at-stamp, word-at, at-next, at-prior, at-mate, at-up, at-kind, tag-words, field, label-at, with-field, with-label, Room};
 ghost use Rattle.words.specs.Offsets.{offset-of, Record-at};
 use store_types::Label;
 use store_types::TagId;
@@ -51,6 +52,81 @@ pub const KIND_END: u32 = store_types::END as u32;
 pub const KIND_TEXT: u32 = store_types::TEXT as u32;
 
 pub const MARK: u32 = 16;
+
+// Word k of the header.
+fn header_word(words: &[u32], k: usize) -> u32
+    requires { ⌜ (header-words ≤ length (now words)) × (k < header-words) ⌝ }
+    ensures { λ v. ⌜ v ≡ word-at (now (words .entry)) k ⌝ }
+{
+    words[k]
+}
+
+fn put_header_word(words: &mut [u32], k: usize, v: u32)
+    requires { ⌜ (header-words ≤ length (now words)) × (k < header-words) ⌝ }
+    ensures { λ _. ⌜ now (words .exit) ≡ set (now (words .entry)) k v ⌝ }
+{
+    words[k] = v;
+}
+
+// H.
+pub fn height_of(words: &[u32]) -> u32
+    requires { ⌜ header-words ≤ length (now words) ⌝ }
+    ensures { λ v. ⌜ v ≡ word-at (now (words .entry)) at-height ⌝ }
+{
+    header_word(words, AT_HEIGHT)
+}
+
+// n: tags issued.
+pub fn count_of(words: &[u32]) -> u32
+    requires { ⌜ header-words ≤ length (now words) ⌝ }
+    ensures { λ v. ⌜ v ≡ word-at (now (words .entry)) at-count ⌝ }
+{
+    header_word(words, AT_COUNT)
+}
+
+// The first tag, or no tag.
+pub fn first_of(words: &[u32]) -> TagId
+    requires { ⌜ header-words ≤ length (now words) ⌝ }
+    ensures { λ v. ⌜ v .0 ≡ word-at (now (words .entry)) at-first ⌝ }
+{
+    TagId(header_word(words, AT_FIRST))
+}
+
+// How many changes were accepted since load.
+pub fn stamp_of(words: &[u32]) -> u32
+    requires { ⌜ header-words ≤ length (now words) ⌝ }
+    ensures { λ v. ⌜ v ≡ word-at (now (words .entry)) at-stamp ⌝ }
+{
+    header_word(words, AT_STAMP)
+}
+
+pub fn set_height(words: &mut [u32], v: u32)
+    requires { ⌜ header-words ≤ length (now words) ⌝ }
+    ensures { λ _. ⌜ now (words .exit) ≡ set (now (words .entry)) at-height v ⌝ }
+{
+    put_header_word(words, AT_HEIGHT, v);
+}
+
+pub fn set_count(words: &mut [u32], v: u32)
+    requires { ⌜ header-words ≤ length (now words) ⌝ }
+    ensures { λ _. ⌜ now (words .exit) ≡ set (now (words .entry)) at-count v ⌝ }
+{
+    put_header_word(words, AT_COUNT, v);
+}
+
+pub fn set_first(words: &mut [u32], v: TagId)
+    requires { ⌜ header-words ≤ length (now words) ⌝ }
+    ensures { λ _. ⌜ now (words .exit) ≡ set (now (words .entry)) at-first (v .0) ⌝ }
+{
+    put_header_word(words, AT_FIRST, v.0);
+}
+
+pub fn set_stamp(words: &mut [u32], v: u32)
+    requires { ⌜ header-words ≤ length (now words) ⌝ }
+    ensures { λ _. ⌜ now (words .exit) ≡ set (now (words .entry)) at-stamp v ⌝ }
+{
+    put_header_word(words, AT_STAMP, v);
+}
 
 // Field k of a tag's record.
 pub fn get(words: &[u32], tag: TagId, k: usize) -> u32

@@ -14,7 +14,7 @@ says : (c : tie.Else1) → let ws = c .before .before .before .args .words .now 
 says c = accepted-says _ _ (sym (c .before .words-refused .ensures) ∙ c .if1 .left)
 
 tag : (c : tie.Else2) → let a = c .before .before .before .before .before .before .args in Tag-said (a .words .now) (a .tag .0)
-tag c = tag-below _ (says (c .before .before .before)) _ (c .if2 .left)
+tag c = tag-below _ (says (c .before .before .before)) _ (rw (c .before .before .count-of .ensures) at (c .if2 .left))
 
 words-refused-requires : tie.Need-words-refused-requires
 words-refused-requires c κs = search needs
@@ -22,11 +22,11 @@ words-refused-requires c κs = search needs
 returns : tie.Need-returns
 returns c = words-first _ _ _ (c .before .words-refused .ensures) (c .if1 .taken)
 
-shared-slice-read-if2 : tie.Need-shared-slice-read-if2
-shared-slice-read-if2 c = omega (arith, header-room _ (says (c .before)))
+count-of-requires : tie.Need-count-of-requires
+count-of-requires c κs = header-room _ (says c)
 
 returns-2 : tie.Need-returns-2
-returns-2 c = sym (section-unknown _ _ (says (c .before .before .before)) (c .if2 .taken))
+returns-2 c = sym (section-unknown _ _ (says (c .before .before .before)) (rw (c .before .before .count-of .ensures) at (c .if2 .taken)))
 
 kind-of-requires : tie.Need-kind-of-requires
 kind-of-requires c κs = tag-room (tag c)
@@ -50,7 +50,7 @@ section-refused-spec =
     (tie.spec
     words-refused-requires
     returns
-    shared-slice-read-if2
+    count-of-requires
     returns-2
     kind-of-requires
     returns-3
