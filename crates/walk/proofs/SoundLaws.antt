@@ -22,7 +22,7 @@ use Rattle.words.specs.Places.{watched-label}
 use Rattle.walk_model.specs.Watch.{ancestor-numbers, watched-numbers, Tables-at, walk-sizes, sizes-at}
 use Rattle.shape.specs.Packed.{Packed, widths-in, numbers-in}
 use Rattle.walk_levels.specs.Needs.{Ancestors-fit, tables-of, levels-of}
-use Rattle.shape.specs.Needs.{Root-fits, frame-passes, root-passes}
+use Rattle.shape.specs.Needs.{Root-fits, Widths-fit, frame-passes, root-passes}
 use Rattle.walk.specs.Needs.{Pass-fits, shape-with, shape-in, start-with}
 use Rattle.walk_levels.proofs.AncestorNumbers.{numbers-fit}
 
@@ -72,6 +72,14 @@ frame ws e p =
 pub framed-fits : (ws : List ℕ) → Frame ws → Fits (s-of ws) (r-of ws) (h-of ws)
 unfolding header-width
 framed-fits ws a = record { s-least = a .s-low; s-most = a .s-high; r-least = a .r-low; r-most = a .r-high; high = a .high; labels = a .labels }
+
+pub header-widths : (ws : List ℕ) → Frame ws → Widths-fit ws
+header-widths ws a = record { long = a .header; s-most = a .s-high; r-most = a .r-high; table = widths-fit (framed-fits ws a) }
+
+-- and are those of the header
+pub width-table : (ws : List ℕ) {w : List ℕ} → w ≡ widths-of ws → w ≡ table 1 (s-of ws * r-of ws - 1) (h-of ws)
+unfolding widths-of
+width-table ws e = e
 
 module _ (ws : List ℕ) (a : Frame ws) where
   pub f-range : (4 ≤ s-of ws * r-of ws) × (s-of ws * r-of ws ≤ 256)

@@ -167,7 +167,7 @@ pub fn sound_at(
     let r = words[words::AT_R] as u64;
     let h = words[words::AT_HEIGHT] as usize;
     let n = words[words::AT_COUNT];
-    let widths = shape::table(1, s * r - 1, h);
+    let widths = shape::widths(words);
     let lows = shape::table(1, r, h);
     let highs = shape::table(s, r, h);
     if !shape::root_passes(n, h, &lows, &highs) {

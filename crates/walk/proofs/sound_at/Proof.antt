@@ -3,10 +3,10 @@ use borrow.Author.Needs.{needs}
 use mathlib.Core.Path.{_≡_, sym}
 use native.Mathlib.Omega.{arith}
 use Rattle.shape.specs.Packed.{Packed, numbers-in}
-use Rattle.shape.proofs.Fits.{widths-fit, lows-fit, highs-fit}
+use Rattle.shape.proofs.Fits.{lows-fit, highs-fit}
 use Rattle.shape.proofs.PartLaws.{packed-with}
 use Rattle.walk_levels.proofs.SizeLaws.{never}
-use Rattle.walk.proofs.SoundLaws.{framed-fits, Frame, frame, f-range, root-fits, ancestors-fit, pass-fits, frame-refuses, root-refuses, pass-decides, sizes-taken, tables-taken}
+use Rattle.walk.proofs.SoundLaws.{framed-fits, Frame, frame, header-widths, width-table, root-fits, ancestors-fit, pass-fits, frame-refuses, root-refuses, pass-decides, sizes-taken, tables-taken}
 use Rattle.walk.proofs.sound_at.Statement.{statement}
 use Rattle.walk.proofs.sound_at.Tie as tie
 
@@ -14,10 +14,10 @@ use Rattle.walk.proofs.sound_at.Tie as tie
 abbrev read : tie.After-shared-slice-known5 → tie.Else1
 read c = c .before .before .before .before
 
-abbrev made : tie.After-table3 → tie.Else1
+abbrev made : tie.After-table2 → tie.Else1
 made c = read (c .before .before .before)
 
-abbrev rooted : tie.Else2 → tie.After-table3
+abbrev rooted : tie.Else2 → tie.After-table2
 rooted c = c .before .before .before .before
 
 abbrev numbered : tie.After-header → tie.Else2
@@ -53,28 +53,22 @@ cast-h c = omega (arith, framed (c .before .before .before) .high)
 shared-slice-read-n : tie.Need-shared-slice-read-n
 shared-slice-read-n c = omega (arith, framed (read c))
 
-mul-table : tie.Need-mul-table
-mul-table c = omega (arith, f-range _ (framed (read c)))
-
-sub-table : tie.Need-sub-table
-sub-table c = omega (arith, f-range _ (framed (read c)))
+widths-requires : tie.Need-widths-requires
+widths-requires c κs = header-widths _ (framed (read c))
 
 table-requires : tie.Need-table-requires
-table-requires c κs = widths-fit (framed-fits _ (framed (read c)))
+table-requires c κs = lows-fit (framed-fits _ (framed (read (c .before))))
 
 table-requires-2 : tie.Need-table-requires-2
-table-requires-2 c κs = lows-fit (framed-fits _ (framed (read (c .before))))
-
-table-requires-3 : tie.Need-table-requires-3
-table-requires-3 c κs = highs-fit (framed-fits _ (framed (read (c .before .before))))
+table-requires-2 c κs = highs-fit (framed-fits _ (framed (read (c .before .before))))
 
 root-passes-requires : tie.Need-root-passes-requires
-root-passes-requires c κs = let tables = c .before .before in root-fits _ _ (framed (made tables)) (tables .before .table2 .ensures)
+root-passes-requires c κs = let tables = c .before .before in root-fits _ _ (framed (made tables)) (tables .before .table .ensures)
 
 returns-2 : tie.Need-returns-2
 returns-2 c =
     let tables = c .before .before .before .before in
-    (root-refuses _ (tables .before .table2 .ensures) (tables .table3 .ensures) (c .before .root-passes .ensures) (c .if2 .taken), (never, never))
+    (root-refuses _ (tables .before .table .ensures) (tables .table2 .ensures) (c .before .root-passes .ensures) (c .if2 .taken), (never, never))
 
 watched-label-requires : tie.Need-watched-label-requires
 watched-label-requires c κs = framed (made (rooted c)) .records
@@ -86,24 +80,24 @@ sub-numbers : tie.Need-sub-numbers
 sub-numbers c = omega (arith, framed (made (rooted (c .before .before))))
 
 -- the tables of the header, and with the numbers
-header : (c : tie.After-header) → let tables = rooted (numbered c) in Packed (c .before .packed .result) (tables .before .before .table .result) (tables .before .table2 .result) (tables .table3 .result)
+header : (c : tie.After-header) → let tables = rooted (numbered c) in Packed (c .before .packed .result) (tables .before .before .widths .result) (tables .before .table .result) (tables .table2 .result)
 header c = c .before .packed .ensures
 
 numbers-requires : tie.Need-numbers-requires
 numbers-requires c κs =
     let tables = rooted (numbered c) in
-    rw (header c .widths-are) (ancestors-fit _ (framed (made tables)) (tables .before .before .table .ensures))
+    rw (header c .widths-are) (ancestors-fit _ (framed (made tables)) (width-table _ (tables .before .before .widths .ensures)))
 
 with-numbers-requires : tie.Need-with-numbers-requires
 with-numbers-requires c κs = search needs
 
 all-four : (c : tie.After-with-numbers) → let tables = rooted (numbered (c .before .before)) in
-    Packed (c .with-numbers .result) (tables .before .before .table .result) (tables .before .table2 .result) (tables .table3 .result)
+    Packed (c .with-numbers .result) (tables .before .before .widths .result) (tables .before .table .result) (tables .table2 .result)
     × (numbers-in (c .with-numbers .result) ≡ c .before .numbers .result)
 all-four c = (packed-with (header (c .before .before)) (c .with-numbers .ensures), c .with-numbers .ensures .new)
 
-sub-t30 : tie.Need-sub-t30
-sub-t30 c = omega (arith, framed (made (rooted (numbered (c .before .before)))))
+sub-t28 : tie.Need-sub-t28
+sub-t28 c = omega (arith, framed (made (rooted (numbered (c .before .before)))))
 
 pass-requires : tie.Need-pass-requires
 pass-requires c κs =
@@ -112,7 +106,7 @@ pass-requires c κs =
     let tables = rooted root in
     let packed = all-four four in
     let numbers = rw (header (four .before .before) .widths-are) at (four .before .numbers .ensures) in
-    (pass-fits _ _ (framed (made tables)) (tables .before .table2 .ensures) (packed .0) (packed .1) (tables .before .before .table .ensures) (tables .table3 .ensures) numbers (omega (arith, four .before .before .before .before .watched-label .ok)), sym (packed .0 .widths-are))
+    (pass-fits _ _ (framed (made tables)) (tables .before .table .ensures) (packed .0) (packed .1) (width-table _ (tables .before .before .widths .ensures)) (tables .table2 .ensures) numbers (omega (arith, four .before .before .before .before .watched-label .ok)), sym (packed .0 .widths-are))
 
 returns-3 : tie.Need-returns-3
 returns-3 c =
@@ -122,9 +116,9 @@ returns-3 c =
     let tables = rooted root in
     let head = made tables in
     let packed = all-four four in
-    let widths = tables .before .before .table .ensures in
-    let lows = tables .before .table2 .ensures in
-    let highs = tables .table3 .ensures in
+    let widths = width-table _ (tables .before .before .widths .ensures) in
+    let lows = tables .before .table .ensures in
+    let highs = tables .table2 .ensures in
     let numbers = rw (header (four .before .before) .widths-are) at (four .before .numbers .ensures) in (
       pass-decides _ lows highs (packed .0) widths (head .before .frame-passes .ensures) (head .if1 .left) (root .before .root-passes .ensures) (root .if2 .left) (c .pass .ensures .0),
       (
@@ -146,11 +140,9 @@ sound-at-spec =
     shared-slice-read-h
     cast-h
     shared-slice-read-n
-    mul-table
-    sub-table
+    widths-requires
     table-requires
     table-requires-2
-    table-requires-3
     root-passes-requires
     returns-2
     watched-label-requires
@@ -158,6 +150,6 @@ sound-at-spec =
     sub-numbers
     numbers-requires
     with-numbers-requires
-    sub-t30
+    sub-t28
     pass-requires
     returns-3)
