@@ -82,7 +82,7 @@ module _ (st : Store) (rest : List ℕ) (h : Sound st) where
 
   -- the labels along the row
   pub labels-read : map (label-at (words-of st ++ rest)) (row st) ≡ labels-of (width st) (st .book)
-  unfolding label-at label-of
+  unfolding label-of
   labels-read =
       let many = length-labels (st .book .root) (width st) (st .book .under) 0 in
       ext-getD 0 _ (labels-of (width st) (st .book)) (length-map (row st) _ ∙ sym many)

@@ -18,6 +18,7 @@ use Rattle.store_types.specs.Layout.{header-words, words-for}
 use Rattle.tree.specs.Forest.{size}
 use Rattle.tree_laws.proofs.Insertion.{size-inserted-row}
 use Rattle.tree_laws.proofs.Load.{size-loaded}
+use Rattle.words.proofs.Fields.{words-up}
 use Rattle.calls.specs.Store.{Store, count}
 use Rattle.calls.specs.Sound.{sound}
 use Rattle.calls.specs.Load.{load-refusal, load-store}
@@ -51,20 +52,16 @@ load-fits w s r b cs e good =
 
 pub changed-fits : (w : ℕ) (c : Call) (st : Store) → sound st ≡ true → words-for header-words (count st) ≤ w → refusal w c st ≡ 0 → sound (changed c st) ≡ true →
     length (words-of (changed c st)) ≤ w
-unfolding refusal changed insert-store book-after mark-store words-for
+unfolding refusal changed insert-store book-after mark-store
 changed-fits w (load s r b cs) st h room e good = load-fits w s r b cs e good
 changed-fits w (insert c y) st h room e good =
     let ks = insert-kinds c in
     let f = facts-of st h in
-    let accepted = insert-passed w c y st h e in
-    omega (
-      arith,
-      length-sound (insert-store ks y st) good,
-      size-inserted-row (length ks) (position y st) (count st) (st .book) (sane f) (position-fits w ks y st f (accepted-row w ks y st accepted)),
-      f .as-many,
-      accepted-row w ks y st accepted .room,
-    )
-changed-fits w (mark x) st h room e good = omega (arith, length-sound (mark-store x st) good, facts-of st h .as-many)
+    let accepted = accepted-row w ks y st (insert-passed w c y st h e) in
+    let grown = size-inserted-row (length ks) (position y st) (count st) (st .book) (sane f) (position-fits w ks y st f accepted) in
+    omega (arith, length-sound (insert-store ks y st) good, words-up (size (book-after ks y st .root)) (count st + length ks) (omega (arith, grown, f .as-many)), accepted .room)
+changed-fits w (mark x) st h room e good =
+    omega (arith, length-sound (mark-store x st) good, words-up (size (st .book .root)) (count st) (omega (arith, facts-of st h .as-many)), room)
 
 -- WHAT A REPLY TELLS, by its refusal: whether the call was accepted, and the total after it
 

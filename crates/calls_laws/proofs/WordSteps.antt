@@ -13,6 +13,7 @@ use lib.ListN.{length, drop, length-append, length-drop}
 use lib.Seq.{sets, sets-eq}
 use Rattle.store_types.specs.Layout.{at-first, header-words, word-at, words-for, label-at}
 use Rattle.tree.specs.Book.{labels-of}
+use Rattle.words.proofs.Fields.{header-fits}
 use Rattle.calls.specs.Store.{Store, count, row, width}
 use Rattle.calls.specs.Sound.{sound}
 use Rattle.calls.specs.Words.{words-of, Says, follow, header-width, read, in-front}
@@ -38,8 +39,8 @@ module _ (ws : List ℕ) (st : Store) (h : Says ws st) where
   words-fit = omega (arith, length-words st, ap length (h .1 .1) ∙ length-append (words-of st) (h .1 .0))
 
   pub refusal-said : (f : Store → ℕ) → refusal-over ws f ≡ f st
-  unfolding refusal-over on-store words-for
-  refusal-said f = rw (le-ltb (length ws) header-words (omega (arith, words-fit)), read-said)
+  unfolding refusal-over on-store
+  refusal-said f = rw (le-ltb (length ws) header-words (omega (arith, words-fit, header-fits (count st))), read-said)
 
   -- THE WORDS: the header's, the tags along next, and their labels
   pub header-said : Header-says ws st

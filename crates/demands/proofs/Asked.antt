@@ -54,7 +54,6 @@ module _ (ws : List ℕ) (st : Store) (h : Says ws st) where
 
   -- the label word of a tag, and of its mate
   pub label-said : (x : ℕ) → x < count st → label-at ws x ≡ label st x
-  unfolding label-at
   label-said x l = tag-said ws st h x l .label-word
 
   mate-label-said : (x : ℕ) → x < count st → label-at ws (field ws x at-mate) ≡ label st (fact st x .mate)

@@ -99,7 +99,7 @@ module _ (c y : ℕ) (ws : List ℕ) (z : insert-refused c y ws ≡ 0) where
   label-after x = let d = row-degrees (length (insert-kinds c)) (position y st) (count st) (st .book) in rw (d .0, d .1)
 
   moved-words : insert-moved (insert-kinds c) y st ≡ labels-changed ws (insert-words c y ws)
-  unfolding insert-moved moved labels-changed label-at
+  unfolding insert-moved moved labels-changed
   moved-words =
       let after = book-after (insert-kinds c) y st in
       let g : ℕ → ℕ = λ x. other (eqb (label-of (width st) (st .book) x) (label-of (width st) after x)) in

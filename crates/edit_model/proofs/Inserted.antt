@@ -16,6 +16,7 @@ use Rattle.store_types.specs.Layout.{at-r, at-count, header-words, word-at, wor
 use Rattle.shape.specs.Tables.{widths-of}
 use Rattle.tree.specs.Book.{height, inserted, inserted-row, split-of, split-of-row, moved}
 use Rattle.tree_laws.proofs.Rows.{getD-place}
+use Rattle.words.proofs.Fields.{words-up}
 use Rattle.calls.specs.Kind.{Kind, begin, end, text, code, kind-word, is-begin}
 use Rattle.calls.specs.Store.{Store, Fact, new-fact, fact, count, row, width, height-fits}
 use Rattle.calls.specs.Nesting.{new-facts}
@@ -95,8 +96,7 @@ module _ (ws : List ℕ) (st : Store) (says : Says ws st) (c : Kind) (ks : List 
   few-said = omega (arith, a .few)
 
   pub room-said : words-for header-words (suc (count st)) ≤ length ws
-  unfolding words-for
-  room-said = omega (arith, a .room)
+  room-said = omega (arith, a .room, words-up (suc (count st)) (count st + length (c ∷ ks)) (omega arith))
 
   pub labels-said : height-fits st (height (inserted (position y st) (count st) (st .book))) ≡ true
   unfolding inserted-row

@@ -129,7 +129,6 @@ module _ {s r u n : ℕ} (ws : List ℕ) (h : Header ws s r u n) (f : Forest) (g
   width-is = rw (h .degree-s, h .degree-r)
 
   label-is : (x : ℕ) → member x (leaves f) ≡ true → label-at ws x ≡ getD (labels f (width st) u 0) (place x (leaves f)) 0
-  unfolding label-at
   label-is x m =
       rw (width-is, labels-are, getD-map (label-at ws) (leaves f) (place x (leaves f)) 0 0 (place-of-member x (leaves f) m), getD-place x (leaves f) 0 m)
 

@@ -78,7 +78,7 @@ module _ (ws : List ℕ) (k : Shape) where
 
   -- at a tag
   step-walked : (i : ℕ) (v : State) (xs : List ℕ) → tag-passes ws k i v ≡ true → Walked ws k (suc i) (passed ws k i v) xs → Walked ws k i v (v .tag ∷ xs)
-  unfolding tag-passes passed placed labels-pass label-at
+  unfolding tag-passes passed placed labels-pass
   step-walked i v xs e h =
       let f = four _ (placed ws k i v .ok) _ (kind-fits ws (k .n) (v .open-begin) (v .tag) (field ws (v .tag) at-kind)) e in
       record {
@@ -98,7 +98,7 @@ module _ (ws : List ℕ) (k : Shape) where
 
   -- and back: a row of which the passes hold is walked
   walked-step : (i : ℕ) (v : State) (xs : List ℕ) → Walked ws k i v (v .tag ∷ xs) → (tag-passes ws k i v ≡ true) × Walked ws k (suc i) (passed ws k i v) xs
-  unfolding tag-passes passed placed labels-pass label-at
+  unfolding tag-passes passed placed labels-pass
   walked-step i v xs h =
       let q = placed ws k i v in
       let later =

@@ -43,7 +43,7 @@ labels-sizes t ns u e i v (l ∷ ls) sz =
 
 walk-labels : (ws : List ℕ) (k : Shape) (ns : List ℕ) (m i : ℕ) (v : State) (sz : List ℕ) → i + m ≡ k .n →
     walk-sizes ws k ns m i v sz ≡ labels-sizes (k .tables) ns (k .under) (v .expect) i (v .levels) (map (label-at ws) (follow m ws (v .tag))) sz
-unfolding walk-sizes follow passed placed label-at
+unfolding walk-sizes follow passed placed
 walk-labels ws k ns zero i v sz e = let end : k .n ≡ i = omega arith in rw end
 walk-labels ws k ns (suc m) i v sz e = walk-labels ws k ns m (suc i) (passed ws k i v) _ (omega arith)
 
