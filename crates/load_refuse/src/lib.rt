@@ -88,7 +88,7 @@ pub fn refused(room: usize, s: u32, r: u32, kinds: &[u8]) -> u32
     if MOST_KINDS < kinds.len() {
         return 6;
     }
-    if room < words::HEADER_WORDS + words::TAG_WORDS * kinds.len() {
+    if room < words::words_for(kinds.len()) {
         return 1;
     }
     kinds_refused(kinds)

@@ -94,11 +94,14 @@ module _ (ws : List ℕ) where
   unfolding frame-passes
   frame-count p = simp (lt-leb (word-at ws at-count) most-tags p, and-false)
 
-  pub frame-words : length ws < header-words + tag-words * word-at ws at-count → false ≡ frame-passes ws
-  unfolding frame-passes words-for
-  frame-words p = simp (lt-leb (header-words + tag-words * word-at ws at-count) (length ws) p, and-false)
+  pub frame-words : length ws < words-for header-words (word-at ws at-count) → false ≡ frame-passes ws
+  unfolding frame-passes
+  frame-words p = simp (lt-leb (words-for header-words (word-at ws at-count)) (length ws) p, and-false)
 
-  pub frame-labels : {t p q : Bool} → header-words ≤ length ws → word-at ws at-version ≡ 1 → p ≡ degree-fits (word-at ws at-s) → not p ≡ false → q ≡ degree-fits (word-at ws at-r) → not q ≡ false → 1 ≤ word-at ws at-height → word-at ws at-height ≤ most-levels → word-at ws at-count ≤ most-tags → header-words + tag-words * word-at ws at-count ≤ length ws → t ≡ power-fits (word-at ws at-s) (word-at ws at-r) (word-at ws at-height) → t ≡ frame-passes ws
-  unfolding frame-passes header-width degrees-fit degree-fits words-for
+  pub frame-labels : {t p q : Bool} → header-words ≤ length ws → word-at ws at-version ≡ 1 → p ≡ degree-fits (word-at ws at-s) → not p ≡ false →
+      q ≡ degree-fits (word-at ws at-r) → not q ≡ false → 1 ≤ word-at ws at-height → word-at ws at-height ≤ most-levels →
+      word-at ws at-count ≤ most-tags → words-for header-words (word-at ws at-count) ≤ length ws →
+      t ≡ power-fits (word-at ws at-s) (word-at ws at-r) (word-at ws at-height) → t ≡ frame-passes ws
+  unfolding frame-passes header-width degrees-fit degree-fits
   frame-labels a b c d e f g g′ h i j =
-      rw (le-leb header-words (length ws) a, eq-eqb (word-at ws at-version) 1 b, sym c ∙ not-false _ d, sym e ∙ not-false _ f, le-leb 1 (word-at ws at-height) g, le-leb (word-at ws at-height) most-levels g′, le-leb (word-at ws at-count) most-tags h, le-leb (header-words + tag-words * word-at ws at-count) (length ws) i, ← j)
+      rw (le-leb header-words (length ws) a, eq-eqb (word-at ws at-version) 1 b, sym c ∙ not-false _ d, sym e ∙ not-false _ f, le-leb 1 (word-at ws at-height) g, le-leb (word-at ws at-height) most-levels g′, le-leb (word-at ws at-count) most-tags h, le-leb (words-for header-words (word-at ws at-count)) (length ws) i, ← j)

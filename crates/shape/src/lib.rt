@@ -112,7 +112,7 @@ pub fn frame_passes(words: &[u32]) -> bool
     if store_types::MOST_TAGS < n {
         return false;
     }
-    if words.len() < words::HEADER_WORDS + words::TAG_WORDS * (n as usize) {
+    if words.len() < words::words_for(n as usize) {
         return false;
     }
     height_fits(s, r, h)

@@ -6,7 +6,7 @@ pub mod places;
 ghost use mathlib.Core.Path.{_≡_};
 ghost use Prim.Native.Nat.{ℕ, _≤_, _<_};
 ghost use lib.ListN.{length, set};
-ghost use Rattle.store_types.specs.Layout.{header-words, at-height, at-count, at-first, at-stamp, word-at, at-next, at-prior, at-mate, at-up, at-kind, tag-words, field, label-at, with-field, with-label, Room};
+ghost use Rattle.store_types.specs.Layout.{header-words, words-for, at-height, at-count, at-first, at-stamp, word-at, at-next, at-prior, at-mate, at-up, at-kind, tag-words, field, label-at, with-field, with-label, Room};
 ghost use Rattle.words.specs.Offsets.{offset-of, Record-at};
 use store_types::Label;
 use store_types::TagId;
@@ -52,6 +52,14 @@ pub const KIND_END: u32 = store_types::END as u32;
 pub const KIND_TEXT: u32 = store_types::TEXT as u32;
 
 pub const MARK: u32 = 16;
+
+// How many words a store of n tags has.
+pub fn words_for(n: usize) -> usize
+    requires { ⌜ n < 4294967296 ⌝ }
+    ensures { λ k. ⌜ k ≡ words-for header-words n ⌝ }
+{
+    HEADER_WORDS + TAG_WORDS * n
+}
 
 // Word k of the header.
 fn header_word(words: &[u32], k: usize) -> u32

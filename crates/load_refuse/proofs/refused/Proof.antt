@@ -4,7 +4,6 @@ use mathlib.Core.Bool.{true, _&&_}
 use borrow.Author.Tests.{lt-ltb, le-ltb, not-true, not-false}
 use lib.Dec.{leb}
 use Rattle.lists.specs.Lists.{first}
-use Rattle.store_types.specs.Layout.{words-for}
 use Rattle.calls.specs.Sound.{degrees-fit}
 use Rattle.calls.specs.Load.{early-tests}
 use Rattle.shape.specs.Needs.{degree-fits}
@@ -17,7 +16,7 @@ degree-fits-requires : tie.Need-degree-fits-requires
 degree-fits-requires c κs = search needs
 
 returns : tie.Need-returns
-unfolding refusal-before early-tests first degrees-fit degree-fits words-for
+unfolding refusal-before early-tests first degrees-fit degree-fits
 returns c = rw (sym (c .before .degree-fits .ensures) ∙ not-true _ (c .if1 .taken))
 
 degree-fits-requires-2 : tie.Need-degree-fits-requires-2
@@ -34,31 +33,30 @@ unfolding degree-fits
 r-fits c = sym (c .before .degree-fits2 .ensures) ∙ not-false _ (c .if2 .left)
 
 returns-2 : tie.Need-returns-2
-unfolding refusal-before early-tests first degrees-fit degree-fits words-for
+unfolding refusal-before early-tests first degrees-fit degree-fits
 returns-2 c = rw (s-fits (c .before .before), sym (c .before .degree-fits2 .ensures) ∙ not-true _ (c .if2 .taken))
 
 returns-3 : tie.Need-returns-3
-unfolding refusal-before early-tests first degrees-fit degree-fits words-for
+unfolding refusal-before early-tests first degrees-fit degree-fits
 returns-3 c = rw (s-fits (c .before .before .before), r-fits (c .before), lt-ltb 200000 _ (c .if3 .taken))
 
-mul-if4 : tie.Need-mul-if4
-mul-if4 c = search needs
-
-add-if4 : tie.Need-add-if4
-add-if4 c = search needs
+words-for-requires : tie.Need-words-for-requires
+words-for-requires c κs = search needs
 
 returns-4 : tie.Need-returns-4
-unfolding refusal-before early-tests first degrees-fit degree-fits words-for
+unfolding refusal-before early-tests first degrees-fit degree-fits
 returns-4 c =
-    rw (s-fits (c .before .before .before .before), r-fits (c .before .before), le-ltb _ _ (c .before .if3 .left), lt-ltb _ _ (c .if4 .taken))
+    let few = c .before .before in
+    rw (s-fits (few .before .before .before), r-fits (few .before), le-ltb _ _ (few .if3 .left), lt-ltb _ _ (rw (c .before .words-for .ensures) at (c .if4 .taken)))
 
 kinds-refused-requires : tie.Need-kinds-refused-requires
 kinds-refused-requires c κs = search needs
 
 returns-5 : tie.Need-returns-5
-unfolding refusal-before kinds-refusal early-tests first degrees-fit degree-fits words-for
+unfolding refusal-before kinds-refusal early-tests first degrees-fit degree-fits
 returns-5 c =
-    rw (s-fits (c .before .before .before .before .before), r-fits (c .before .before .before), le-ltb _ _ (c .before .before .if3 .left), le-ltb _ _ (c .before .if4 .left)) (c .kinds-refused .ensures)
+    let few = c .before .before .before in
+    rw (s-fits (few .before .before .before), r-fits (few .before), le-ltb _ _ (few .if3 .left), le-ltb _ _ (rw (c .before .before .words-for .ensures) at (c .before .if4 .left))) (c .kinds-refused .ensures)
 
 pub refused-spec : {M : Type 1} → statement M
 refused-spec =
@@ -69,8 +67,7 @@ refused-spec =
     degree-fits-requires-2
     returns-2
     returns-3
-    mul-if4
-    add-if4
+    words-for-requires
     returns-4
     kinds-refused-requires
     returns-5)

@@ -47,31 +47,34 @@ shared-slice-read-n c = search needs
 returns-7 : tie.Need-returns-7
 returns-7 c = frame-count _ (c .if7 .taken)
 
-cast-if8 : tie.Need-cast-if8
-cast-if8 c = search needs
+cast-words-for : tie.Need-cast-words-for
+cast-words-for c = search needs
 
-mul-if8 : tie.Need-mul-if8
-mul-if8 c = search needs
-
-add-if8 : tie.Need-add-if8
-add-if8 c = search needs
+words-for-requires : tie.Need-words-for-requires
+words-for-requires c κs = search needs
 
 returns-8 : tie.Need-returns-8
-returns-8 c = frame-words _ (c .if8 .taken)
+returns-8 c = frame-words _ (rw (c .before .words-for .ensures) at (c .if8 .taken))
 
 height-fits-requires : tie.Need-height-fits-requires
 height-fits-requires c κs =
-    let second = c .before .before .before .before .before .before .before in
+    let taken = c .before .before .before .before .before .before .before in
+    let second = taken .before in
     let s = degree-range _ (second .before .before .before .degree-fits .ensures) (second .before .before .if3 .left) in
-    let r = degree-range _ (second .degree-fits2 .ensures) (c .before .before .before .before .before .before .if4 .left) in
+    let r = degree-range _ (second .degree-fits2 .ensures) (taken .if4 .left) in
     degrees-product (s .0) (s .1) (r .0) (r .1)
 
 returns-9 : tie.Need-returns-9
 returns-9 c =
-    let tested = c .before .before .before .before in
-    let d = tested .before .before .before .before in
+    let long = c .before in
+    let few = long .before .before in
+    let high = few .before .before in
+    let taken = high .before .before .before in
+    let d = taken .before in
     let e = d .before .before .before in
-    frame-labels _ (e .before .before .before .before .if1 .left) (e .before .before .if2 .left) (e .degree-fits .ensures) (d .before .before .if3 .left) (d .degree-fits2 .ensures) (c .before .before .before .before .before .before .before .if4 .left) (c .before .before .before .before .before .if5 .left) (c .before .before .before .before .if6 .left) (c .before .before .if7 .left) (c .before .if8 .left) (c .height-fits .ensures)
+    frame-labels _ (e .before .before .before .before .if1 .left) (e .before .before .if2 .left) (e .degree-fits .ensures)
+    (d .before .before .if3 .left) (d .degree-fits2 .ensures) (taken .if4 .left) (high .before .if5 .left) (high .if6 .left) (few .if7 .left)
+    (rw (long .before .words-for .ensures) at (long .if8 .left)) (c .height-fits .ensures)
 
 pub frame-passes-spec : {M : Type 1} → statement M
 frame-passes-spec =
@@ -91,9 +94,8 @@ frame-passes-spec =
     returns-6
     shared-slice-read-n
     returns-7
-    cast-if8
-    mul-if8
-    add-if8
+    cast-words-for
+    words-for-requires
     returns-8
     height-fits-requires
     returns-9)
