@@ -23,9 +23,9 @@ module _ {ws : List ℕ} {n y : ℕ} (h : New-tag-fits ws n y) where
 
 -- THE LINKS to a new tag n, from its place and from the tag behind: t says whether there is none
 module _ (ws : List ℕ) (y : ℕ) {t : Bool} (e : t ≡ eqb y no-tag) (n : ℕ) where
-  pub linked-front : t ≡ true → set ws at-first n ≡ linked-place ws y n
+  pub linked-front : {vs : List ℕ} → t ≡ true → vs ≡ set ws at-first n → vs ≡ linked-place ws y n
   unfolding linked-place
-  linked-front p = rw (← e, p)
+  linked-front p q = rw (← e, p) q
 
   pub linked-tag : {vs : List ℕ} → t ≡ false → vs ≡ with-field ws y at-next n → vs ≡ linked-place ws y n
   unfolding linked-place

@@ -35,7 +35,7 @@ fn link_place(words: &mut [u32], n: u32, place: TagId)
     ensures { λ _. ⌜ now (words .exit) ≡ linked-place (now (words .entry)) (place .0) n ⌝ }
 {
     if place.is_none() {
-        words[words::AT_FIRST] = n;
+        words::set_first(words, TagId(n));
     } else {
         words::set_next(words, place, TagId(n));
     }
@@ -60,7 +60,7 @@ pub fn add_tag(words: &mut [u32], n: u32, place: TagId, mate: TagId, up: TagId, 
     write_record(words, TagId(n), next, place, mate, up, kind);
     link_place(words, n, place);
     link_next(words, n, next);
-    words[words::AT_COUNT] = n + 1;
+    words::set_count(words, n + 1);
 }
 
 // H is one higher where the root was split.
@@ -68,7 +68,8 @@ pub fn raise(words: &mut [u32], split: usize)
     requires { ⌜ (header-words ≤ length (now words)) × (word-at (now words) at-height < 4294967295) ⌝ }
     ensures { λ _. ⌜ now (words .exit) ≡ raised-words (now (words .entry)) split ⌝ }
 {
-    if split == words[words::AT_HEIGHT] as usize {
-        words[words::AT_HEIGHT] = words[words::AT_HEIGHT] + 1;
+    let top = words::height_of(words);
+    if split == top as usize {
+        words::set_height(words, top + 1);
     }
 }

@@ -84,7 +84,7 @@ module _ (ws : List ℕ) (n y mate up kind : ℕ) (h : New-tag-fits ws n y) wher
       (λ e. sym (behind-front (added ws n y mate up kind) y refl e)
       ∙ getD-set-other (linked-next (linked-place recorded y n) x n) at-count at-first (suc n) 0 (λ f. omega arith)
       ∙ next-header at-first (omega arith) (linked-place recorded y n) x n
-      ∙ rw (← linked-front recorded y refl n e) (getD-set-same recorded at-first n 0 (omega (arith, h .records .long, header-fits (suc n)))))
+      ∙ rw (← linked-front recorded y refl n e refl) (getD-set-same recorded at-first n 0 (omega (arith, h .records .long, header-fits (suc n)))))
       (λ e. sym (behind-tag (added ws n y mate up kind) y refl e refl)
       ∙ field-past-header (linked-next (linked-place recorded y n) x n) at-count (suc n) y at-next (omega arith)
       ∙ next-field (linked-place recorded y n) x y

@@ -2,7 +2,6 @@
 use borrow.Author.Needs.{needs}
 use native.Mathlib.Numerals.{add-one}
 use native.Mathlib.Omega.{arith}
-use lib.ListN.{length-set}
 use Rattle.words.proofs.Fields.{room, header-long}
 use Rattle.words.proofs.PlaceLaws.{place-kept}
 use Rattle.edit_model.specs.Insert.{added}
@@ -34,20 +33,22 @@ link-next-requires c κs =
     let written = placed linked in
     place-kept (next-of-new (recorded written .pre) (written .before .before .behind .ensures)) (omega (arith, linked .link-place .kept, written .write-record .kept))
 
-add-words : tie.Need-add-words
-add-words c = search needs
+add-set-count : tie.Need-add-set-count
+add-set-count c = search needs
 
-slice-write-words : tie.Need-slice-write-words
-slice-write-words c =
-    let linked = c .before .before .before .before .before .before in
+set-count-requires : tie.Need-set-count-requires
+set-count-requires c κs =
+    let linked = c .before .before .before .before .before .before .before in
     omega (arith, header-long (recorded (placed linked) .pre .records))
 
 same-length : tie.Need-same-length
-same-length c = simp length-set (omega arith)
+same-length c = omega arith
 
 returns : tie.Need-returns
 unfolding added
-returns c = rw add-one (cc)
+returns c =
+    let counted = rw add-one at (c .before .before .set-count .ensures) in
+    cc
 
 pub add-tag-spec : {M : Type 1} → statement M
 add-tag-spec =
@@ -57,7 +58,7 @@ add-tag-spec =
     write-record-requires
     link-place-requires
     link-next-requires
-    add-words
-    slice-write-words
+    add-set-count
+    set-count-requires
     same-length
     returns)

@@ -8,8 +8,8 @@ use Rattle.insert_link.proofs.link_place.Tie as tie
 is-none-requires : tie.Need-is-none-requires
 is-none-requires c κs = search needs
 
-slice-write-words : tie.Need-slice-write-words
-slice-write-words c = search needs
+set-first-requires : tie.Need-set-first-requires
+set-first-requires c κs = search needs
 
 set-next-requires : tie.Need-set-next-requires
 set-next-requires c κs =
@@ -20,7 +20,10 @@ same-length : tie.Need-same-length
 same-length c = search needs
 
 returns : tie.Need-returns
-returns c = linked-front _ _ (c .before .is-none .ensures) _ (c .if1 .taken)
+returns c =
+    let call = c .before .before in
+    let test = call .before .before in
+    linked-front _ _ (test .before .is-none .ensures) _ (test .if1 .taken) (call .set-first .ensures)
 
 same-length-2 : tie.Need-same-length-2
 same-length-2 c = search needs
@@ -36,7 +39,7 @@ link-place-spec =
     tie.close
     (tie.spec
     is-none-requires
-    slice-write-words
+    set-first-requires
     set-next-requires
     same-length
     returns

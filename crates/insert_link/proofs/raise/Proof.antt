@@ -6,41 +6,44 @@ use Rattle.edit_model.specs.Insert.{raised-words}
 use Rattle.insert_link.proofs.raise.Statement.{statement}
 use Rattle.insert_link.proofs.raise.Tie as tie
 
-slice-read-if1 : tie.Need-slice-read-if1
-slice-read-if1 c = search needs
+height-of-requires : tie.Need-height-of-requires
+height-of-requires c κs = search needs
 
 cast-if1 : tie.Need-cast-if1
 cast-if1 c = search needs
 
-slice-read-words : tie.Need-slice-read-words
-slice-read-words c = search needs
+add-set-height : tie.Need-add-set-height
+add-set-height c = search needs
 
-add-words : tie.Need-add-words
-add-words c = search needs
-
-slice-write-words : tie.Need-slice-write-words
-slice-write-words c = search needs
+set-height-requires : tie.Need-set-height-requires
+set-height-requires c κs = search needs
 
 same-length : tie.Need-same-length
 same-length c = search needs
 
 returns : tie.Need-returns
 unfolding raised-words
-returns c = rw (eq-eqb _ _ (c .before .if1 .taken), add-one)
+returns c =
+    let call = c .before .before in
+    let test = call .before .before in
+    rw (← (test .before .height-of .ensures), eq-eqb _ _ (test .if1 .taken)) (rw add-one at (call .set-height .ensures))
+
+same-length-2 : tie.Need-same-length-2
+same-length-2 c = search needs
 
 returns-2 : tie.Need-returns-2
 unfolding raised-words
-returns-2 c = rw (ne-eqb _ _ (c .if1 .left))
+returns-2 c = rw (← (c .before .height-of .ensures), ne-eqb _ _ (c .if1 .left))
 
 pub raise-spec : {M : Type 1} → statement M
 raise-spec =
     tie.close
     (tie.spec
-    slice-read-if1
+    height-of-requires
     cast-if1
-    slice-read-words
-    add-words
-    slice-write-words
+    add-set-height
+    set-height-requires
     same-length
     returns
+    same-length-2
     returns-2)
