@@ -23,7 +23,7 @@ fn place_refused(place: TagId, words: &[u32]) -> u32
     if place.is_none() {
         return 0;
     }
-    if words[words::AT_COUNT] <= place.0 {
+    if words::count_of(words) <= place.0 {
         return 8;
     }
     if words::MARK <= words::kind_of(words, place) {
@@ -37,7 +37,7 @@ fn room_refused(k: u32, words: &[u32], tables: &[u64; PACKED_LENGTH]) -> u32
     requires { ⌜ Says (now words) (said (now words)) × (k ≤ 2) × (highs-in (now tables) ≡ highs-of (now words)) ⌝ }
     ensures { λ v. ⌜ v ≡ room-refusal (length (now (words .entry))) k (said (now (words .entry))) ⌝ }
 {
-    let all = words[words::AT_COUNT] + k;
+    let all = words::count_of(words) + k;
     if MOST_TAGS < all {
         return 6;
     }
@@ -46,7 +46,7 @@ fn room_refused(k: u32, words: &[u32], tables: &[u64; PACKED_LENGTH]) -> u32
     }
     let s = words[words::AT_S];
     let r = words[words::AT_R];
-    let h = words[words::AT_HEIGHT];
+    let h = words::height_of(words);
     if (all as u64) < shape::tables::high(tables, h as usize) {
         return 0;
     }

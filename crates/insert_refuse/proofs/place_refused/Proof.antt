@@ -13,13 +13,14 @@ is-none-requires c κs = search needs
 returns : tie.Need-returns
 returns c = place-front _ _ (c .before .is-none .ensures) (c .if1 .taken)
 
-shared-slice-read-if2 : tie.Need-shared-slice-read-if2
-shared-slice-read-if2 c = let start = c .before .before .before .before in omega (arith, header-room (start .args .words .now) (start .pre))
+count-of-requires : tie.Need-count-of-requires
+count-of-requires c κs = header-room _ (c .before .before .before .pre)
 
 returns-2 : tie.Need-returns-2
 returns-2 c =
-    let test = c .before .before .before in
-    place-beyond _ _ (test .before .is-none .ensures) (test .before .before .before .pre) (test .if1 .left) (c .if2 .taken)
+    let counted = c .before .before in
+    let test = counted .before in
+    place-beyond _ _ (test .before .is-none .ensures) (test .before .before .before .pre) (test .if1 .left) (rw (counted .count-of .ensures) at (c .if2 .taken))
 
 kind-of-requires : tie.Need-kind-of-requires
 kind-of-requires c κs =
@@ -29,14 +30,18 @@ kind-of-requires c κs =
 returns-3 : tie.Need-returns-3
 returns-3 c =
     let second = c .before .before in
-    let test = second .before .before .before in
-    place-marked _ _ (test .before .is-none .ensures) (test .before .before .before .pre) (test .if1 .left) (second .if2 .left) (c .before .kind-of .ensures) (c .if3 .taken)
+    let counted = second .before .before in
+    let test = counted .before in
+    place-marked _ _ (test .before .is-none .ensures) (test .before .before .before .pre) (test .if1 .left)
+    (rw (counted .count-of .ensures) at (second .if2 .left)) (c .before .kind-of .ensures) (c .if3 .taken)
 
 returns-4 : tie.Need-returns-4
 returns-4 c =
     let second = c .before .before in
-    let test = second .before .before .before in
-    place-fine _ _ (test .before .is-none .ensures) (test .before .before .before .pre) (test .if1 .left) (second .if2 .left) (c .before .kind-of .ensures) (c .if3 .left)
+    let counted = second .before .before in
+    let test = counted .before in
+    place-fine _ _ (test .before .is-none .ensures) (test .before .before .before .pre) (test .if1 .left)
+    (rw (counted .count-of .ensures) at (second .if2 .left)) (c .before .kind-of .ensures) (c .if3 .left)
 
 pub place-refused-spec : {M : Type 1} → statement M
 place-refused-spec =
@@ -44,7 +49,7 @@ place-refused-spec =
     (tie.spec
     is-none-requires
     returns
-    shared-slice-read-if2
+    count-of-requires
     returns-2
     kind-of-requires
     returns-3
