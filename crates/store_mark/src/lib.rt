@@ -51,8 +51,9 @@ pub fn mark(tag: TagId, words: &mut [u32]) -> MarkReply
     if refusal != 0 {
         return MarkReply::Refused(refusal);
     }
-    let n = words[words::AT_COUNT];
+    let n = words::count_of(words);
     let marked = mark_section(words, n, tag);
-    words[words::AT_STAMP] = words[words::AT_STAMP] + 1;
+    let stamp = words::stamp_of(words);
+    words::set_stamp(words, stamp + 1);
     MarkReply::Marked(marked)
 }
