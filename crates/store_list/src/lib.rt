@@ -37,7 +37,7 @@ fn too_short(from: TagId, to: TagId, words: &[u32], tags: usize, labels: usize) 
     requires { ⌜ Span-said (now words) (from .0) (to .0) ⌝ }
     ensures { λ t. ⌜ t ≡ short (length (unmarked-between (said (now (words .entry))) (from .0) (to .0))) tags labels ⌝ }
 {
-    let n = words[words::AT_COUNT] as usize;
+    let n = words::count_of(words) as usize;
     if n <= tags && n <= labels {
         return false;
     }
@@ -53,7 +53,7 @@ fn inside_refused(begin: TagId, words: &[u32]) -> u32
     if first != 0 || begin.is_none() {
         return first;
     }
-    if words[words::AT_COUNT] <= begin.0 {
+    if words::count_of(words) <= begin.0 {
         return 8;
     }
     let kind = words::kind_of(words, begin);
@@ -72,7 +72,7 @@ fn first_inside(begin: TagId, words: &[u32]) -> TagId
     ensures { λ x. ⌜ x .0 ≡ first-inside (begin .0) (said (now (words .entry))) ⌝ }
 {
     if begin.is_none() {
-        return TagId(words[words::AT_FIRST]);
+        return words::first_of(words);
     }
     words::next_of(words, begin)
 }

@@ -1,7 +1,6 @@
 -- `store_list::first_inside` meets its contract. Assumes nothing.
 use borrow.Author.Needs.{needs}
 use mathlib.Core.Path.{sym, _∙_}
-use native.Mathlib.Omega.{arith}
 use Rattle.store_list.proofs.first_inside.Statement.{statement}
 use Rattle.store_list.proofs.first_inside.Tie as tie
 use Rattle.store_refuse.proofs.Laws.{accepted-says, header-room, tag-room}
@@ -10,11 +9,11 @@ use Rattle.store_list.proofs.Listed.{begin-tag, first-front, first-behi
 is-none-requires : tie.Need-is-none-requires
 is-none-requires c κs = search needs
 
-shared-slice-read-t5 : tie.Need-shared-slice-read-t5
-shared-slice-read-t5 c = omega (arith, header-room _ (accepted-says _ _ (c .before .before .before .before .pre)))
+first-of-requires : tie.Need-first-of-requires
+first-of-requires c κs = header-room _ (accepted-says _ _ (c .before .before .before .pre))
 
 returns : tie.Need-returns
-returns c = first-front _ _ (c .before .before .before .before .pre) (sym (c .before .before .is-none .ensures) ∙ c .before .if1 .taken)
+returns c = c .first-of .ensures ∙ first-front _ _ (c .before .before .before .before .pre) (sym (c .before .before .is-none .ensures) ∙ c .before .if1 .taken)
 
 next-of-requires : tie.Need-next-of-requires
 next-of-requires c κs = tag-room (begin-tag _ _ (c .before .before .before .pre) (sym (c .before .is-none .ensures) ∙ c .if1 .left))
@@ -23,4 +22,4 @@ returns-2 : tie.Need-returns-2
 returns-2 c = c .next-of .ensures ∙ first-behind _ _ (c .before .before .before .before .pre) (sym (c .before .before .is-none .ensures) ∙ c .before .if1 .left)
 
 pub first-inside-spec : {M : Type 1} → statement M
-first-inside-spec = tie.close (tie.spec is-none-requires shared-slice-read-t5 returns next-of-requires returns-2)
+first-inside-spec = tie.close (tie.spec is-none-requires first-of-requires returns next-of-requires returns-2)

@@ -3,7 +3,6 @@ use borrow.Author.Needs.{needs}
 use mathlib.Core.Path.{_≡_, sym, _∙_}
 use mathlib.Core.Bool.{false}
 use mathlib.Core.Logic.{⊎-elim}
-use native.Mathlib.Omega.{arith}
 use lib.Dec.{eqb}
 use Rattle.store_types.specs.Limits.{no-tag}
 use Rattle.calls.specs.Words.{Says}
@@ -26,7 +25,7 @@ other : (c : tie.Else2) → eqb (start c .args .begin .0) no-tag ≡ false
 other c = sym (c .before .is-none .ensures) ∙ c .if2 .left
 
 tag : (c : tie.Else3) → let a = start (c .before .before .before) .args in Tag-said (a .words .now) (a .begin .0)
-tag c = tag-below _ (says (c .before .before .before)) _ (c .if3 .left)
+tag c = tag-below _ (says (c .before .before .before)) _ (rw (c .before .before .count-of .ensures) at (c .if3 .left))
 
 words-refused-requires : tie.Need-words-refused-requires
 words-refused-requires c κs = search needs
@@ -40,11 +39,11 @@ returns c =
     ⊎-elim (λ w. words-first _ _ _ e (w .taken))
     (λ w. w .0 .left ∙ sym (inside-front _ _ (accepted-says _ _ (sym e ∙ w .0 .left)) (sym (w .1 .ensures) ∙ w .2 .taken))) (c .if1 .came)
 
-shared-slice-read-if3 : tie.Need-shared-slice-read-if3
-shared-slice-read-if3 c = omega (arith, header-room _ (says (c .before)))
+count-of-requires : tie.Need-count-of-requires
+count-of-requires c κs = header-room _ (says c)
 
 returns-2 : tie.Need-returns-2
-returns-2 c = let e = c .before .before .before in sym (inside-unknown _ _ (other e) (says e) (c .if3 .taken))
+returns-2 c = let e = c .before .before .before in sym (inside-unknown _ _ (other e) (says e) (rw (c .before .before .count-of .ensures) at (c .if3 .taken)))
 
 kind-of-requires : tie.Need-kind-of-requires
 kind-of-requires c κs = tag-room (tag c)
@@ -70,7 +69,7 @@ inside-refused-spec =
     words-refused-requires
     is-none-requires
     returns
-    shared-slice-read-if3
+    count-of-requires
     returns-2
     kind-of-requires
     returns-3

@@ -1,21 +1,22 @@
 -- `store_list::too_short` meets its contract: no more are listed than the book has tags. Assumes nothing.
 use borrow.Author.Needs.{needs}
 use borrow.Author.Tests.{leb-true}
-use native.Mathlib.Omega.{arith}
 use Rattle.store_refuse.proofs.Laws.{header-room}
 use Rattle.store_list.proofs.Along.{between-all}
 use Rattle.store_list.proofs.ListReplies.{short-none, short-tags, short-labels}
 use Rattle.store_list.proofs.too_short.Statement.{statement}
 use Rattle.store_list.proofs.too_short.Tie as tie
 
-shared-slice-read-n : tie.Need-shared-slice-read-n
-shared-slice-read-n c = omega (arith, header-room _ (c .before .before .pre .says))
+count-of-requires : tie.Need-count-of-requires
+count-of-requires c κs = header-room _ (c .before .pre .says)
 
 cast-n : tie.Need-cast-n
-cast-n c = omega (arith, c .shared-slice-known2 .given 4)
+cast-n c = search needs
 
 returns : tie.Need-returns
-returns c = short-none _ _ _ _ (between-all _ _ _ (c .before .before .before .before .pre .says)) (c .before .if1 .taken) (leb-true _ _ (c .if2 .taken))
+returns c =
+    let n = c .before .before .count-of .ensures in
+    short-none _ _ _ _ (between-all _ _ _ (c .before .before .before .before .pre .says)) (rw n at (c .before .if1 .taken)) (leb-true _ _ (rw n at (c .if2 .taken)))
 
 count-between-requires : tie.Need-count-between-requires
 count-between-requires c κs = search needs
@@ -29,4 +30,4 @@ returns-3 c = short-labels _ _ _ (c .before .count-between .ensures) (c .if3 .le
 pub too-short-spec : {M : Type 1} → statement M
 too-short-spec =
     tie.close
-    (tie.spec shared-slice-read-n cast-n returns count-between-requires returns-2 returns-3)
+    (tie.spec count-of-requires cast-n returns count-between-requires returns-2 returns-3)
