@@ -43,7 +43,8 @@ pub fn question(pair: HeldPair, tag: TagId, words: &[u32]) -> QuestionReply
         return QuestionReply::Answered(Answer::Stale);
     }
     let section = pair.tag;
-    if words[words::AT_COUNT] <= section.0 || words[words::AT_COUNT] <= tag.0 {
+    let n = words::count_of(words);
+    if n <= section.0 || n <= tag.0 {
         return QuestionReply::Refused(8);
     }
     if words::kind_of(words, section) % words::MARK != words::KIND_BEGIN {

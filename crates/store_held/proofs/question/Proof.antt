@@ -20,17 +20,17 @@ abbrev of-book : tie.After-struct-known2 → tie.Else2
 of-book c = c .before .before .before
 
 abbrev below : tie.Else4 → tie.Else3
-below c = c .before .before .before
+below c = c .before .before
 
 -- the words say a store; the pair's tag and the other are tags of it
 says : (c : tie.Else1) → let ws = c .before .before .before .args .words .now in Says ws (said ws)
 says c = accepted-says _ _ (sym (c .before .words-refused .ensures) ∙ c .if1 .left)
 
 section-tag : (c : tie.Else3) → let a = accepted (of-book (c .before)) .before .before .before .args in Tag-said (a .words .now) (a .pair .tag .0)
-section-tag c = tag-below _ (says (accepted (of-book (c .before)))) _ (c .if3 .left)
+section-tag c = tag-below _ (says (accepted (of-book (c .before)))) _ (rw (c .before .before .count-of .ensures) at (c .if3 .left))
 
 other-tag : (c : tie.Else4) → let a = accepted (of-book (below c .before)) .before .before .before .args in Tag-said (a .words .now) (a .tag .0)
-other-tag c = tag-below _ (section-tag (below c) .says) _ (leb-false _ _ (c .if4 .left))
+other-tag c = tag-below _ (section-tag (below c) .says) _ (leb-false _ _ (rw (below c .before .before .count-of .ensures) at (c .if4 .left)))
 
 words-refused-requires : tie.Need-words-refused-requires
 words-refused-requires c κs = search needs
@@ -44,16 +44,15 @@ shared-slice-read-book c = omega (arith, header-room _ (says (c .before)))
 returns-2 : tie.Need-returns-2
 returns-2 c = other-book _ _ _ (says (c .before .before .before)) (c .if2 .taken)
 
-shared-slice-read-if3 : tie.Need-shared-slice-read-if3
-shared-slice-read-if3 c = omega (arith, header-room _ (says (accepted (c .before .before))))
-
-shared-slice-read-if4 : tie.Need-shared-slice-read-if4
-shared-slice-read-if4 c = omega (arith, header-room _ (section-tag (c .before) .says))
+count-of-requires : tie.Need-count-of-requires
+count-of-requires c κs = header-room _ (says (accepted (c .before)))
 
 returns-3 : tie.Need-returns-3
 returns-3 c =
     let e = of-book (c .before) in
-    no-such-tag _ _ _ (says (accepted e)) (e .if2 .left) (⊎-elim (λ w. inl (w .taken)) (λ w. inr (leb-true _ _ (w .3 .taken))) (c .if3 .came))
+    let n = c .before .before .count-of .ensures in
+    no-such-tag _ _ _ (says (accepted e)) (e .if2 .left)
+    (⊎-elim (λ w. inl (rw n at (w .taken))) (λ w. inr (leb-true _ _ (rw n at (w .2 .taken)))) (c .if3 .came))
 
 kind-of-requires : tie.Need-kind-of-requires
 kind-of-requires c κs = tag-room (section-tag (below c))
@@ -79,8 +78,7 @@ question-spec =
     returns
     shared-slice-read-book
     returns-2
-    shared-slice-read-if3
-    shared-slice-read-if4
+    count-of-requires
     returns-3
     kind-of-requires
     returns-4
