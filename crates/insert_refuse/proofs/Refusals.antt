@@ -10,7 +10,7 @@ use lib.ListN.{length}
 use Rattle.store_types.specs.Limits.{no-tag, most-tags}
 use Rattle.lists.specs.Lists.{all-hold, first}
 use Rattle.lists.proofs.First.{refused-before, refused-behind}
-use Rattle.store_types.specs.Layout.{at-s, at-r, at-height, at-count, header-words, at-kind, tag-words, word-at, words-for, field}
+use Rattle.store_types.specs.Layout.{at-s, at-r, at-height, at-count, header-words, at-kind, word-at, words-for, field}
 use Rattle.calls.specs.Store.{Store, labels-fit, power-fits}
 use Rattle.calls.specs.Insert.{insert-kinds, labels-end, place-tests, room-tests, insert-refusal}
 use Rattle.calls.specs.Words.{Says, header-width}
@@ -51,16 +51,16 @@ module _ (ws : List ℕ) (h : Says ws (said ws)) (k : ℕ) where
   room-many m = rw (← header-said ws (said ws) h .issued, lt-ltb most-tags (word-at ws at-count + k) m)
 
   module _ (few : word-at ws at-count + k ≤ most-tags) where
-    pub room-short : length ws < header-words + tag-words * (word-at ws at-count + k) → 6 ≡ room-refusal (length ws) k (said ws)
-    unfolding room-refusal room-tests first words-for
-    room-short m = rw (← header-said ws (said ws) h .issued, le-ltb most-tags (word-at ws at-count + k) few, lt-ltb (length ws) (header-words + tag-words * (word-at ws at-count + k)) m)
+    pub room-short : length ws < words-for header-words (word-at ws at-count + k) → 6 ≡ room-refusal (length ws) k (said ws)
+    unfolding room-refusal room-tests first
+    room-short m = rw (← header-said ws (said ws) h .issued, le-ltb most-tags (word-at ws at-count + k) few, lt-ltb (length ws) (words-for header-words (word-at ws at-count + k)) m)
 
-    module _ (long : header-words + tag-words * (word-at ws at-count + k) ≤ length ws) where
+    module _ (long : words-for header-words (word-at ws at-count + k) ≤ length ws) where
       by-labels : (t : Bool) → labels-end (labels-fit (header-width ws)) (word-at ws at-s) (word-at ws at-r) k (word-at ws at-count) (word-at ws at-height) ≡ t → cond t 7 0 ≡ room-refusal (length ws) k (said ws)
-      unfolding room-refusal room-tests first words-for
+      unfolding room-refusal room-tests first
       by-labels t e =
           let f = header-said ws (said ws) h in
-          rw (← f .issued, le-ltb most-tags (word-at ws at-count + k) few, le-ltb (length ws) (header-words + tag-words * (word-at ws at-count + k)) long, ← width-said ws (said ws) h, ← f .degree-s, ← f .degree-r, ← f .levels, e)
+          rw (← f .issued, le-ltb most-tags (word-at ws at-count + k) few, le-ltb (length ws) (words-for header-words (word-at ws at-count + k)) long, ← width-said ws (said ws) h, ← f .degree-s, ← f .degree-r, ← f .levels, e)
 
       pub room-below : word-at ws at-count + k < word-at ws at-s * word-at ws at-r ^ word-at ws at-height → 0 ≡ room-refusal (length ws) k (said ws)
       unfolding labels-end

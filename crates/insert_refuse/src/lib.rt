@@ -41,7 +41,7 @@ fn room_refused(k: u32, words: &[u32], tables: &[u64; PACKED_LENGTH]) -> u32
     if MOST_TAGS < all {
         return 6;
     }
-    if words.len() < words::HEADER_WORDS + words::TAG_WORDS * (all as usize) {
+    if words.len() < words::words_for(all as usize) {
         return 6;
     }
     let s = words[words::AT_S];
