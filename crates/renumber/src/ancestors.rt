@@ -24,7 +24,7 @@ pub fn left_border(words: &[u32], low: u64, x: TagId) -> TagId
     requires { ⌜ Records (now words) (issued (now words)) ⌝ }
     ensures { λ y. ⌜ y .0 ≡ left-border (issued (now (words .entry))) (issued (now (words .entry))) (now (words .entry)) low (x .0) ⌝ }
 {
-    let n = words[words::AT_COUNT];
+    let n = words::count_of(words);
     let mut tag = x;
     let mut steps: u32 = 0;
     while steps < n && at_least(words, n, tag, low) {

@@ -109,7 +109,7 @@ pub fn shift(words: &mut [u32], x: TagId, bound: u64, by: u64) -> u32
     ensures words { λ _. ⌜ now (words .exit) ≡ shifted (issued (now (words .entry))) (issued (now (words .entry))) (now (words .entry)) (x .0) bound by .words ⌝ }
     ensures moved { λ m. ⌜ m ≡ shifted (issued (now (words .entry))) (issued (now (words .entry))) (now (words .entry)) (x .0) bound by .moved ⌝ }
 {
-    let n = words[words::AT_COUNT];
+    let n = words::count_of(words);
     let mut tag = x;
     let mut moved: u32 = 0;
     while moved < n && tag.0 < n {

@@ -1,11 +1,13 @@
 -- `renumber::shift` meets its contract. The loop's invariant: what is shifted from here comes to the whole (Shifting). The
 -- measure is how many steps are left. Assumes nothing.
+use mathlib.Core.Path.{_≡_}
 use Prim.Native.Nat.{_-_, _≤_, _<_}
 use native.Mathlib.Omega.{arith}
 use borrow.Author.Tests.{ltb-true, ltb-false}
-use Rattle.store_types.specs.Layout.{at-count, word-at, label-at, Room}
+use Rattle.store_types.specs.Layout.{label-at, Room}
 use Rattle.edit_model.specs.Relabel.{shift}
 use Rattle.words.proofs.Fields.{room, room-with-label, header-long}
+use Rattle.renumber.specs.Needs.{issued}
 use Rattle.renumber.proofs.Shifts.{Shifting, shift-start, shift-on, shift-end, shift-spent, shift-out, shift-far}
 use Rattle.renumber.proofs.shift.Statement.{statement}
 use Rattle.renumber.proofs.shift.Tie as tie
@@ -19,24 +21,35 @@ abbrev μ-loop : tie.MeasureT-loop
 
 -- where it started, and in a turn: the tag is one of n, and has a record
 abbrev first : tie.At-loop Inv-loop μ-loop → tie.Start Inv-loop μ-loop
-first c = c .before .before .before
+first c = c .before .before .before .before
 
 abbrev at-loop : tie.Then1 Inv-loop μ-loop → tie.At-loop Inv-loop μ-loop
 at-loop c = c .before .before .before
 
-below : (c : tie.Then1 Inv-loop μ-loop) → at-loop c .loop .tag .0 < word-at (first (at-loop c) .args .words .now) at-count
+below : (c : tie.Then1 Inv-loop μ-loop) → at-loop c .loop .tag .0 < at-loop c .before .count-of .result
 below c = ltb-true _ _ (c .if1 .taken)
 
 there : (c : tie.Then1 Inv-loop μ-loop) → Room (at-loop c .loop .words) (at-loop c .loop .tag .0)
 there c = room (at-loop c .loop .inv .records) (below c)
 
-slice-read-n : tie.Need-slice-read-n Inv-loop μ-loop
-slice-read-n c = omega (arith, header-long (c .before .before .pre .0))
+-- where a shift from the loop's tag on changes nothing, the words and the count are those of the whole
+ended : (c : tie.At-loop Inv-loop μ-loop) →
+    let here = c .loop in
+    let args = first c .args in
+    let n = c .before .count-of .result in
+    let all = shift (issued (args .words .now)) (issued (args .words .now)) (args .words .now) (args .x .0) (args .bound) (args .by) in
+    shift (n - here .moved) n (here .words) (here .tag .0) (args .bound) (args .by) ≡ record { words = here .words; moved = 0 } →
+    (here .words ≡ all .words) × (here .moved ≡ all .moved)
+ended c end = rw (← c .before .count-of .ensures) (shift-end (c .loop .inv) end)
+
+count-of-requires : tie.Need-count-of-requires Inv-loop μ-loop
+count-of-requires c κs = header-long (c .before .before .pre .0)
 
 loop-holds : tie.Need-loop-holds Inv-loop μ-loop
 loop-holds c =
-    let args = c .before .before .args in
-    shift-start (args .words .now) (word-at (args .words .now) at-count) (args .x .0) (args .bound) (args .by) (c .before .before .pre .0)
+    let at = c .before .before .before in
+    let args = at .args in
+    shift-start (args .words .now) (c .count-of .result) (args .x .0) (args .bound) (args .by) (rw (c .count-of .ensures) (at .pre .0))
 
 label-of-requires : tie.Need-label-of-requires Inv-loop μ-loop
 label-of-requires c κs = there (c .before)
@@ -53,7 +66,7 @@ returns c =
     let loop = at-loop turn .loop in
     let args = first (at-loop turn) .args in
     let far : args .bound ≤ label-at (loop .words) (loop .tag .0) = omega (arith, c .before .before .label-of .ensures) in
-    shift-end (loop .inv) (shift-far _ _ (loop .words) (loop .tag .0) (args .bound) (args .by) far)
+    ended (at-loop turn) (shift-far _ _ (loop .words) (loop .tag .0) (args .bound) (args .by) far)
 
 raised-requires : tie.Need-raised-requires Inv-loop μ-loop
 raised-requires c κs = first (at-loop (c .before .before .before .before .before)) .pre .1
@@ -89,9 +102,10 @@ same-length-2 c = c .before .before .before .loop .inv .long
 
 returns-2 : tie.Need-returns-2 Inv-loop μ-loop
 returns-2 c =
-    let loop = c .before .before .before .loop in
-    let args = first (c .before .before .before) .args in
-    shift-end (loop .inv) (shift-out _ (word-at (args .words .now) at-count) (loop .words) (loop .tag .0) (args .bound) (args .by) (ltb-false _ _ (c .if1 .left)))
+    let at = c .before .before .before in
+    let loop = at .loop in
+    let args = first at .args in
+    ended at (shift-out _ (at .before .count-of .result) (loop .words) (loop .tag .0) (args .bound) (args .by) (ltb-false _ _ (c .if1 .left)))
 
 same-length-3 : tie.Need-same-length-3 Inv-loop μ-loop
 same-length-3 c = c .before .loop .inv .long
@@ -100,7 +114,7 @@ returns-3 : tie.Need-returns-3 Inv-loop μ-loop
 returns-3 c =
     let loop = c .before .loop in
     let args = first (c .before) .args in
-    shift-end (loop .inv) (shift-spent _ (word-at (args .words .now) at-count) (loop .words) (loop .tag .0) (args .bound) (args .by) (omega arith))
+    ended (c .before) (shift-spent _ (c .before .before .count-of .result) (loop .words) (loop .tag .0) (args .bound) (args .by) (omega arith))
 
 pub shift-spec : {M : Type 1} → statement M
 shift-spec =
@@ -108,7 +122,7 @@ shift-spec =
     (tie.spec
     Inv-loop
     μ-loop
-    slice-read-n
+    count-of-requires
     loop-holds
     label-of-requires
     cast-if2

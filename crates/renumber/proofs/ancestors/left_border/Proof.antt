@@ -2,6 +2,7 @@
 -- (Leftward). The measure is how many steps are left. Assumes nothing.
 use Prim.Native.Nat.{_-_}
 use native.Mathlib.Omega.{arith}
+use Rattle.store_types.specs.Layout.{Records}
 use Rattle.edit_model.specs.Split.{left-border}
 use Rattle.words.proofs.Fields.{room, header-long}
 use Rattle.renumber.proofs.Splits.{Leftward, left-start, left-spent, left-below, left-on, left-stops}
@@ -16,18 +17,22 @@ abbrev μ-loop : tie.MeasureT-loop
 μ-loop words low n tag₀ steps₀ tag steps =
     n - steps
 
-shared-slice-read-n : tie.Need-shared-slice-read-n Inv-loop μ-loop
-shared-slice-read-n c = omega (arith, header-long (c .before .before .pre))
+count-of-requires : tie.Need-count-of-requires Inv-loop μ-loop
+count-of-requires c κs = header-long (c .before .pre)
+
+-- each tag below the count that was read has its record
+records : (c : tie.After-count-of Inv-loop μ-loop) → Records (c .before .before .args .words .now) (c .count-of .result)
+records c = rw (c .count-of .ensures) (c .before .before .pre)
 
 loop-holds : tie.Need-loop-holds Inv-loop μ-loop
 loop-holds c = left-start _ _ _ _
 
 at-least-requires : tie.Need-at-least-requires Inv-loop μ-loop
-at-least-requires c κs = c .before .before .before .before .pre
+at-least-requires c κs = records (c .before .before)
 
 prior-of-requires : tie.Need-prior-of-requires Inv-loop μ-loop
 prior-of-requires c κs =
-    room (c .before .before .before .before .before .before .pre) (left-below (c .before .before .before .loop .inv) (c .before .before .loop-test .taken) (c .before .at-least .ensures) (c .if1 .taken))
+    room (records (c .before .before .before .before)) (left-below (c .before .before .before .loop .inv) (c .before .before .loop-test .taken) (c .before .at-least .ensures) (c .if1 .taken))
 
 add-steps : tie.Need-add-steps Inv-loop μ-loop
 add-steps c = omega arith
@@ -41,10 +46,11 @@ loop-again c =
 
 returns : tie.Need-returns Inv-loop μ-loop
 returns c =
-    left-stops (c .before .before .before .loop .inv) (c .before .before .loop-test .taken) (c .before .at-least .ensures) (c .if1 .left)
+    let at = c .before .before .before in
+    rw (at .before .count-of .ensures) at (left-stops (at .loop .inv) (c .before .before .loop-test .taken) (c .before .at-least .ensures) (c .if1 .left))
 
 returns-2 : tie.Need-returns-2 Inv-loop μ-loop
-returns-2 c = left-spent (c .before .loop .inv) (c .loop-test .left)
+returns-2 c = rw (c .before .before .count-of .ensures) at (left-spent (c .before .loop .inv) (c .loop-test .left))
 
 pub left-border-spec : {M : Type 1} → statement M
 left-border-spec =
@@ -52,7 +58,7 @@ left-border-spec =
     (tie.spec
     Inv-loop
     μ-loop
-    shared-slice-read-n
+    count-of-requires
     loop-holds
     at-least-requires
     prior-of-requires
