@@ -57,7 +57,11 @@ module _ (ws : List ℕ) (c y : ℕ) (z : insert-refused c y ws ≡ 0) where
         let said-there = ap (λ (us : List ℕ). word-at us at-stamp) stamped-are ∙ header-says su (drop (length (words-of su)) ws) .stamp in
         omega (arith, there, said-there, own .stamp-fits, own .few, marked-few (said ws .facts))
 
-    pub accepted-all : (Inserted (record { 0 = word-at ws at-count }) m s ≡ insert-reply c y ws) × (set vs 7 (word-at vs at-stamp + 1) ≡ insert-words c y ws)
+    -- n, the stamp and the words with the stamp raised, as they are read and left
+    pub accepted-all : {n k : ℕ} {us : List ℕ} → n ≡ word-at ws at-count → k ≡ word-at vs at-stamp → us ≡ set vs at-stamp (k + 1) →
+        (Inserted (record { 0 = n }) m s ≡ insert-reply c y ws) × (us ≡ insert-words c y ws)
     unfolding insert-reply insert-words written replied stamped
-    accepted-all =
-        (rw (z, header-said ws (said ws) (says-accepted ws c y z) .issued, e .moved-is, e .split-is, right .moved-is, right .split-is), rw (z, add-one) stamped-are)
+    accepted-all first stamp raised = (
+      rw (z, first, header-said ws (said ws) (says-accepted ws c y z) .issued, e .moved-is, e .split-is, right .moved-is, right .split-is),
+      raised ∙ rw (z, stamp, add-one) stamped-are,
+    )

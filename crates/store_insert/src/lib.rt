@@ -85,7 +85,7 @@ fn parent_of(words: &[u32], place: TagId, tables: &[u64; PACKED_LENGTH]) -> u64
     requires { ⌜ Parent-reads (now words) (now tables) ⌝ }
     ensures { λ a. ⌜ Parent-of (now (words .entry)) (place .0) (now (tables .entry)) a ⌝ }
 {
-    let under = words[words::AT_HEIGHT] as usize - 1;
+    let under = words::height_of(words) as usize - 1;
     let label = words::places::watched_label(words, place);
     let numbers = walk_levels::ancestors::numbers(label, under, tables);
     numbers[1]
@@ -151,7 +151,7 @@ fn change(
     requires { ⌜ (insert-refused kind (place .0) (now words) ≡ 0) × Tables-at (now words) (place .0) (now tables) × (now sizes ≡ sizes-at (now words) (place .0) (replicate table-length 0)) ⌝ }
     ensures { λ d. ⌜ Edits (now (words .exit)) (d .moved) (d .split) (call-edit kind (place .0) (now (words .entry))) ⌝ }
 {
-    let n = words[words::AT_COUNT];
+    let n = words::count_of(words);
     let up = words::places::up_at(words, place);
     let p = insert_plan::plan_at(words, 1, place, tables, sizes);
     if kind != store_types::BEGIN {
@@ -171,9 +171,10 @@ pub fn insert(kind: u8, place: TagId, words: &mut [u32]) -> InsertReply
     if refusal != 0 {
         return InsertReply::Refused(refusal);
     }
-    let n = words[words::AT_COUNT];
+    let n = words::count_of(words);
     let done = change(kind, place, words, &tables, &sizes);
-    words[words::AT_STAMP] = words[words::AT_STAMP] + 1;
+    let stamp = words::stamp_of(words);
+    words::set_stamp(words, stamp + 1);
     InsertReply::Inserted {
         first: TagId(n),
         moved: done.moved,

@@ -7,18 +7,21 @@ use Rattle.store_insert.proofs.Changes.{text-ready, element-ready, text
 use Rattle.store_insert.proofs.change.Statement.{statement}
 use Rattle.store_insert.proofs.change.Tie as tie
 
--- from the plan of one tag back to the up of new tags, and from there to the call
+-- from the plan of one tag back to the up of new tags, and from there to n and to the call
 abbrev up-read : tie.After-plan-at → tie.After-up-at
 up-read c = c .before .before
 
-abbrev call : tie.After-up-at → tie.Start
-call c = c .before .before .before .before
+abbrev counted : tie.After-up-at → tie.After-count-of
+counted c = c .before .before
 
-slice-read-n : tie.Need-slice-read-n
-slice-read-n c = omega (arith, header-room _ (says-accepted _ (c .before .before .args .kind) (c .before .before .args .place .0) (c .before .before .pre .0)))
+abbrev call : tie.After-up-at → tie.Start
+call c = c .before .before .before .before .before
+
+count-of-requires : tie.Need-count-of-requires
+count-of-requires c κs = let start = c .before .before in header-room _ (says-accepted _ (start .args .kind) (start .args .place .0) (start .pre .0))
 
 up-at-requires : tie.Need-up-at-requires
-up-at-requires c κs = let start = c .before .before .before in place-accepted _ (start .args .kind) _ (start .pre .0)
+up-at-requires c κs = let start = c .before .before .before .before in place-accepted _ (start .args .kind) _ (start .pre .0)
 
 plan-at-requires : tie.Need-plan-at-requires
 plan-at-requires c κs = let start = call (c .before) in plan-accepted _ (start .args .kind) _ (start .pre .0) (start .pre .1)
@@ -28,7 +31,7 @@ insert-text-requires c κs =
     let test = c .before in
     let up = up-read (test .before) in
     let asked = call up .pre in
-    text-ready _ _ _ (asked .0) (up .up-at .ensures) (asked .1) (asked .2) (test .if1 .taken) (test .before .plan-at .ensures)
+    rw (counted up .count-of .ensures) (text-ready _ _ _ (asked .0) (up .up-at .ensures) (asked .1) (asked .2) (test .if1 .taken) (test .before .plan-at .ensures))
 
 same-length : tie.Need-same-length
 same-length c = search needs
@@ -51,7 +54,7 @@ insert-element-requires c κs =
     let up = up-read one in
     let asked = call up .pre in
     let ready = element-ready _ _ _ (asked .0) (up .up-at .ensures) (asked .1) (asked .2) (test .if1 .left) in
-    (ready 1 _ (one .plan-at .ensures), ready 2 _ (two .plan-at2 .ensures))
+    rw (counted up .count-of .ensures) (ready 1 _ (one .plan-at .ensures), ready 2 _ (two .plan-at2 .ensures))
 
 same-length-2 : tie.Need-same-length-2
 same-length-2 c = search needs
@@ -66,7 +69,7 @@ pub change-spec : {M : Type 1} → statement M
 change-spec =
     tie.close
     (tie.spec
-    slice-read-n
+    count-of-requires
     up-at-requires
     plan-at-requires
     insert-text-requires

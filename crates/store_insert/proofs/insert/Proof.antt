@@ -12,12 +12,18 @@ use Rattle.store_insert.proofs.Replies.{refused-all, stamp-fits, accept
 use Rattle.store_insert.proofs.insert.Statement.{statement}
 use Rattle.store_insert.proofs.insert.Tie as tie
 
--- where the call is refused or not, and where the change is made
+-- where the call is refused or not, where n is read, and where the change is made
 abbrev call : tie.After-insert-refused → tie.Start
 call c = c .before .before .before .before .before
 
-abbrev test : tie.After-change → tie.Else1
-test c = c .before .before .before .before .before
+abbrev counted : tie.After-change → tie.After-count-of
+counted c = c .before .before .before .before
+
+abbrev test : tie.After-count-of → tie.Else1
+test c = c .before .before
+
+abbrev done : tie.After-stamp-of → tie.After-change
+done c = c .before .before .before .before
 
 accepted : (c : tie.Else1) → let args = call (c .before) .args in insert-refused (args .kind) (args .place .0) (args .words .now) ≡ 0
 accepted c = sym (c .before .insert-refused .ensures .0) ∙ c .if1 .left
@@ -26,8 +32,8 @@ long-before : (c : tie.Else1) → header-words ≤ length (call (c .before) .arg
 long-before c = let args = call (c .before) .args in header-room (args .words .now) (says-accepted _ (args .kind) (args .place .0) (accepted c))
 
 -- the words after the change are as many
-long : (c : tie.After-slice-known4) → header-words ≤ length (c .before .before .before .change .last .1 .1 .0)
-long c = let done = c .before .before .before in omega (arith, done .change .kept, long-before (test done))
+long : (c : tie.After-change) → header-words ≤ length (c .change .last .1 .1 .0)
+long c = omega (arith, c .change .kept, long-before (test (counted c)))
 
 insert-refused-requires : tie.Need-insert-refused-requires
 insert-refused-requires c κs = search needs
@@ -38,33 +44,37 @@ same-length c = search needs
 returns : tie.Need-returns
 returns c = refused-all _ _ _ (c .before .insert-refused .ensures .0) (c .if1 .taken)
 
-slice-read-n : tie.Need-slice-read-n
-slice-read-n c = omega (arith, long-before (c .before))
+count-of-requires : tie.Need-count-of-requires
+count-of-requires c κs = long-before (c .before)
 
 change-requires : tie.Need-change-requires
 change-requires c κs =
-    let passed = c .before .before .before .before in
+    let passed = test (c .before .before .before) in
     let found = passed .before .insert-refused .ensures .1 in
     (accepted passed, found .0 (passed .if1 .left), found .1 (passed .if1 .left))
 
-slice-read-words : tie.Need-slice-read-words
-slice-read-words c = omega (arith, long c)
+stamp-of-requires : tie.Need-stamp-of-requires
+stamp-of-requires c κs = long (c .before .before .before)
 
-add-words : tie.Need-add-words
-add-words c =
-    let done = c .before .before .before in
-    omega (arith, stamp-fits _ _ _ (accepted (test done)) (done .change .ensures) (long c))
+add-set-stamp : tie.Need-add-set-stamp
+add-set-stamp c =
+    let stamp = c .before in
+    let made = done stamp in
+    omega (arith, stamp .stamp-of .ensures, stamp-fits _ _ _ (accepted (test (counted made))) (made .change .ensures) (long made))
 
-slice-write-words : tie.Need-slice-write-words
-slice-write-words c = omega (arith, long c)
+set-stamp-requires : tie.Need-set-stamp-requires
+set-stamp-requires c κs = long (done (c .before))
 
 same-length-2 : tie.Need-same-length-2
 same-length-2 c = search needs
 
 returns-2 : tie.Need-returns-2
 returns-2 c =
-    let done = c .before .before .before in
-    accepted-all _ _ _ (accepted (test done)) (done .change .ensures)
+    let raised = c .before .before in
+    let stamp = raised .before .before in
+    let made = done stamp in
+    let first = counted made in
+    accepted-all _ _ _ (accepted (test first)) (made .change .ensures) (first .count-of .ensures) (stamp .stamp-of .ensures) (raised .set-stamp .ensures)
 
 pub insert-spec : {M : Type 1} → statement M
 insert-spec =
@@ -73,10 +83,10 @@ insert-spec =
     insert-refused-requires
     same-length
     returns
-    slice-read-n
+    count-of-requires
     change-requires
-    slice-read-words
-    add-words
-    slice-write-words
+    stamp-of-requires
+    add-set-stamp
+    set-stamp-requires
     same-length-2
     returns-2)

@@ -7,8 +7,8 @@ use Rattle.store_insert.proofs.Edits.{parent-made}
 use Rattle.store_insert.proofs.parent_of.Statement.{statement}
 use Rattle.store_insert.proofs.parent_of.Tie as tie
 
-shared-slice-read-under : tie.Need-shared-slice-read-under
-shared-slice-read-under c = omega (arith, header-long (c .before .before .pre .records))
+height-of-requires : tie.Need-height-of-requires
+height-of-requires c κs = header-long (c .before .pre .records)
 
 cast-under : tie.Need-cast-under
 cast-under c = search needs
@@ -20,19 +20,21 @@ watched-label-requires : tie.Need-watched-label-requires
 watched-label-requires c κs = c .before .before .pre .records
 
 numbers-requires : tie.Need-numbers-requires
-numbers-requires c κs = rw sub-one (c .before .before .before .pre .ancestors)
+numbers-requires c κs = let height = c .before in rw (height .height-of .ensures, sub-one) (height .before .before .pre .ancestors)
 
 array-read-result : tie.Need-array-read-result
 array-read-result c = search needs
 
 returns : tie.Need-returns
-returns c = let label = c .before in parent-made _ _ _ (label .watched-label .ensures) (c .numbers .ensures) (omega (arith, label .watched-label .ok))
+returns c =
+    let label = c .before in
+    parent-made _ _ _ (label .watched-label .ensures) (rw (label .before .height-of .ensures) at (c .numbers .ensures)) (omega (arith, label .watched-label .ok))
 
 pub parent-of-spec : {M : Type 1} → statement M
 parent-of-spec =
     tie.close
     (tie.spec
-    shared-slice-read-under
+    height-of-requires
     cast-under
     sub-under
     watched-label-requires
