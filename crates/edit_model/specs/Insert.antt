@@ -1,4 +1,4 @@
--- Insertion over words. Follows the code of crate store_insert. Assumes nothing: these are definitions.
+-- Insertion over words. Follows the code of crate insert_call. Assumes nothing: these are definitions.
 use mathlib.Core.Bool.{cond}
 use mathlib.Core.List.{List, map}
 use Prim.Native.Nat.{ℕ, suc, pred, _+_, _*_, _-_}

@@ -2,9 +2,9 @@
 // list. None has a `requires`; each contract says by equations with the definitions of crate calls what is replied and
 // what every lent word then holds, for every input. Together they are the events of calls/specs/Calls.antt, of which
 // `runs-keep` (calls_laws/proofs/RunsKeep.antt) speaks.
-pub use store_held::hold;
-pub use store_held::question;
-pub use store_insert::insert;
-pub use store_list::list;
-pub use store_load::load;
-pub use store_mark::mark;
+pub use held_call::hold;
+pub use held_call::question;
+pub use insert_call::insert;
+pub use list_call::list;
+pub use load_call::load;
+pub use mark_call::mark;
