@@ -16,7 +16,7 @@ use Rattle.lists.proofs.Tests.{by-test}
 use Rattle.store_types.specs.Layout.{at-s, at-r, at-height, at-count, word-at, Records}
 use Rattle.shape.proofs.TableLaws.{table-at, table-bound}
 use Rattle.shape.proofs.Fits.{power-below}
-use Rattle.shape.specs.Tables.{entry, entry-limit, widths-of, lows-of, highs-of}
+use Rattle.shape.specs.Tables.{entry, entry-limit, widths-of, lows-of, highs-of, table-length}
 use Rattle.shape.specs.Packed.{Packed, widths-in, s-in, r-in}
 use Rattle.tree.specs.Book.{height}
 use Rattle.calls.specs.Kind.{Kind, kind-word}
@@ -77,7 +77,7 @@ module _ (ws : List ℕ) (says : Says ws (said ws)) where
   unfolding plan-of
   plan-said k y =
       let levels : suc (pred (word-at ws at-height)) ≡ word-at ws at-height = omega (arith, here .low) in
-      rw levels at (plan-fits ws (word-at ws at-s) (word-at ws at-r) (widths-of ws) (highs-of ws) (sizes-at ws y (replicate 24 0)) (word-at ws at-count) k (pred (word-at ws at-height)) y
+      rw levels at (plan-fits ws (word-at ws at-s) (word-at ws at-r) (widths-of ws) (highs-of ws) (sizes-at ws y (replicate table-length 0)) (word-at ws at-count) k (pred (word-at ws at-height)) y
       (omega (arith, here .degrees .s-least)) (here .degrees .s-most) (λ h l. highs-at h (omega arith)) widths-most)
 
   -- in one array

@@ -5,6 +5,7 @@ use Prim.Native.Nat.{ℕ, pred, _≤_, _<_}
 use native.Mathlib.Omega.{arith}
 use lib.ListN.{replicate}
 use borrow.Author.Tests.{eq-eqb, ne-eqb, lt-ltb, le-ltb}
+use Rattle.shape.specs.Tables.{table-length}
 use Rattle.store_types.specs.Layout.{at-height, at-count, word-at}
 use Rattle.shape.specs.Packed.{widths-in, highs-in, s-in}
 use Rattle.calls.specs.Replies.{insert-refused}
@@ -17,7 +18,7 @@ use Rattle.insert_call.proofs.Accepted.{s-said, says-accepted, kind-acc
 
 -- THE CALL, as the code reads it: the tables and sizes of its place, the up of new tags and the plans
 module _ (ws : List ℕ) (c y : ℕ) (z : insert-refused c y ws ≡ 0) {u : ℕ} {t sz : List ℕ} (up : u ≡ up-word ws y)
-    (tables : Tables-at ws y t) (sizes : sz ≡ sizes-at ws y (replicate 24 0)) where
+    (tables : Tables-at ws y t) (sizes : sz ≡ sizes-at ws y (replicate table-length 0)) where
   planned : (k : ℕ) {p : Plan} → p ≡ plan ws (s-in t) (widths-in t) (highs-in t) sz (word-at ws at-count) k (pred (word-at ws at-height)) y → p ≡ plan-of ws k y
   unfolding plan-of
   planned k e = e ∙ rw (s-said ws (says-accepted ws c y z) (tables .packed), tables .packed .widths-are, tables .packed .highs-are, sizes)

@@ -9,7 +9,7 @@ use Rattle.store_types.specs.Limits.{label-limit}
 use Rattle.store_types.specs.Layout.{at-height, word-at}
 use Rattle.words.specs.Places.{watched-label}
 use Rattle.words.proofs.PlaceLaws.{place-in}
-use Rattle.shape.specs.Tables.{entry}
+use Rattle.shape.specs.Tables.{entry, table-length}
 use Rattle.shape.specs.Packed.{widths-in, r-in}
 use Rattle.walk_model.specs.Watch.{ancestor-numbers}
 use Rattle.walk_levels.proofs.AncestorNumbers.{numbers-fit}
@@ -30,7 +30,7 @@ pub more-by-two : (n : ℕ) → n + 2 ≡ suc (suc n)
 more-by-two n = omega arith
 
 -- THE NUMBER of the parent of a place y: l is its label, and ns are the numbers of its ancestors
-pub parent-made : (ws t : List ℕ) (y : ℕ) {l : ℕ} {ns : List ℕ} → l ≡ watched-label ws y → ns ≡ ancestor-numbers (widths-in t) (word-at ws at-height - 1) l 0 (replicate 24 0) → l < label-limit →
+pub parent-made : (ws t : List ℕ) (y : ℕ) {l : ℕ} {ns : List ℕ} → l ≡ watched-label ws y → ns ≡ ancestor-numbers (widths-in t) (word-at ws at-height - 1) l 0 (replicate table-length 0) → l < label-limit →
     Parent-of ws y t (entry ns 1)
 unfolding numbers-at
 parent-made ws t y label numbers small =

@@ -10,7 +10,7 @@ use lib.Dec.{leb, eqb, ltb}
 use lib.ListN.{length, getD, set, length-set}
 use lib.Seq.{getD-set-same, getD-set-other}
 use Rattle.lists.proofs.Tests.{by-test}
-use Rattle.shape.specs.Tables.{entry}
+use Rattle.shape.specs.Tables.{entry, table-length}
 use Rattle.tree.specs.Forest.{labels, spread}
 use Rattle.tree_laws.proofs.Spread.{some-power}
 use Rattle.shape.specs.Sums.{cut}
@@ -112,11 +112,11 @@ first-cut = refl
 pub record Abreast (r u n : ℕ) (d : ℕ → ℕ) (i j a : ℕ) (bs : List ℕ) : Type 0 where
   pub nodes : ℕ → ℕ
   pub label : a ≡ cut (i + raised d nodes u)
-  pub size : length bs ≡ 24
+  pub size : length bs ≡ table-length
   pub held : (h : ℕ) → h < j → h < u → Holds (r ^ suc h) n i (nodes (suc h))
   pub coming : (h : ℕ) → j ≤ h → h < u → Coming (r ^ suc h) n i (nodes (suc h))
   pub next : (h : ℕ) → h < u → entry bs h ≡ behind (r ^ suc h) n (nodes (suc h))
-  pub none : (h : ℕ) → u ≤ h → h < 24 → entry bs h ≡ n
+  pub none : (h : ℕ) → u ≤ h → h < table-length → entry bs h ≡ n
 
 -- what the steps go by: at each height the leaves of a node, and the gap before it
 pub record Tables-say (r u : ℕ) (d : ℕ → ℕ) (gaps lows : List ℕ) : Type 0 where
@@ -209,7 +209,7 @@ module _ (r u n : ℕ) (d : ℕ → ℕ) (r-least : 2 ≤ r) (low : u ≤ 23) wh
             none = λ h m b. kept h (λ s. omega arith) ∙ g .none h m b;
           }
 
-      pub begun-all : (most j a : ℕ) (bs : List ℕ) → most + j ≡ 24 → Abreast r u n d i j a bs →
+      pub begun-all : (most j a : ℕ) (bs : List ℕ) → most + j ≡ table-length → Abreast r u n d i j a bs →
           Abreast r u n d i u (begun most j gaps lows n i a bs .label) (begun most j gaps lows n i a bs .begins)
       unfolding begun
       begun-all zero j a bs s g =

@@ -6,7 +6,7 @@ use mathlib.Core.List.{List}
 use Prim.Native.Nat.{ℕ, zero, suc, _+_, _*_, _≤_, _<_}
 use lib.Dec.{leb, eqb}
 use lib.ListN.{length, set}
-use Rattle.shape.specs.Tables.{entry}
+use Rattle.shape.specs.Tables.{entry, table-length}
 use Rattle.shape.specs.Sums.{cut}
 
 -- behind a node over e leaves that begins at place i of n, the place where the next one of its height begins: n where there is
@@ -30,6 +30,6 @@ begun (suc k) j g l n i a bs =
 
 -- before any tag is written: behind the first node of each of u heights the next one
 pub record First-begins (n u : ℕ) (lows begins : List ℕ) : Type 0 where
-  pub size : length begins ≡ 24
+  pub size : length begins ≡ table-length
   pub next : (h : ℕ) → h < u → entry begins h ≡ next-begin 0 n (entry lows h)
-  pub none : (h : ℕ) → u ≤ h → h < 24 → entry begins h ≡ n
+  pub none : (h : ℕ) → u ≤ h → h < table-length → entry begins h ≡ n

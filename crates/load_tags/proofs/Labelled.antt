@@ -13,7 +13,7 @@ use Rattle.store_types.specs.Limits.{label-limit}
 use Rattle.lists.specs.Lists.{numbers}
 use Rattle.lists.proofs.Tests.{by-test}
 use Rattle.lists.proofs.Numbers.{length-numbers}
-use Rattle.shape.specs.Tables.{entry, table, Table-fits}
+use Rattle.shape.specs.Tables.{entry, table, Table-fits, table-length}
 use Rattle.shape.proofs.TableLaws.{noughts, table-at, table-bound}
 use Rattle.shape.proofs.Sums.{cut-small}
 use Rattle.tree.specs.Forest.{labels, leaves, spread}
@@ -26,9 +26,9 @@ use Rattle.load_model.proofs.Steps.{Abreast, Tables-say, abreast-first, abreast
 use Rattle.load_tags.specs.Tags.{labels-new, gap, Gaps-of, Trees-fit, Widths-rise, Entries-fit}
 
 -- THE GAPS, height by height
-pub gaps-none : (r : ℕ) (w : List ℕ) → Gaps-of r 0 w (replicate 24 0)
+pub gaps-none : (r : ℕ) (w : List ℕ) → Gaps-of r 0 w (replicate table-length 0)
 gaps-none r w =
-    record { size = refl; entries = record { each = λ k. rw (noughts 24 k) (omega arith) }; each = λ h l. absurd (omega arith) }
+    record { size = refl; entries = record { each = λ k. rw (noughts table-length k) (omega arith) }; each = λ h l. absurd (omega arith) }
 
 pub room-below : (r u h : ℕ) (w : List ℕ) → Widths-rise r u w → h < u → r * entry w h ≤ entry w (h + 1)
 room-below r u h w rise l = rw add-one (rise .grows h l)
@@ -85,9 +85,9 @@ module _ (r n u : ℕ) (w : List ℕ) (h : Trees-fit r n u w) where
     labels-start bs f = abreast-first r u n (gap r w) (h .degree) low gs ls bs says (h .least) f
 
     pub labels-begun : (i a : ℕ) (bs : List ℕ) → i < n → Labelling i 0 a bs → (v : ℕ) (vs : List ℕ) →
-        v ≡ begun 24 0 gs ls n i a bs .label → vs ≡ begun 24 0 gs ls n i a bs .begins → Labelling i u v vs
+        v ≡ begun table-length 0 gs ls n i a bs .label → vs ≡ begun table-length 0 gs ls n i a bs .begins → Labelling i u v vs
     labels-begun i a bs l g v vs e f =
-        rw (e, f) (begun-all r u n (gap r w) (h .degree) low i l gs ls says 24 0 a bs (omega arith) g)
+        rw (e, f) (begun-all r u n (gap r w) (h .degree) low i l gs ls says table-length 0 a bs (omega arith) g)
 
   pub labels-next : (i a : ℕ) (bs : List ℕ) → Labelling i u a bs → Labelling (i + 1) 0 (cut (a + entry w 0)) bs
   labels-next i a bs g = rw (h .unit) (abreast-next r u n (gap r w) (h .degree) low i a bs g)

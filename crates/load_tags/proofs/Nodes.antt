@@ -9,16 +9,16 @@ use lib.Dec.{eqb}
 use lib.ListN.{set, replicate, length-set, length-replicate, getD-replicate}
 use lib.Seq.{getD-set-same, getD-set-other}
 use Rattle.lists.proofs.Tests.{by-test}
-use Rattle.shape.specs.Tables.{entry}
+use Rattle.shape.specs.Tables.{entry, table-length}
 use Rattle.shape.specs.Sums.{cut}
 use Rattle.load_model.specs.Begins.{next-begin, Front, begun, First-begins}
 
 -- BEHIND THE FIRST NODES, height by height
-pub first-none : (n : ℕ) (lows : List ℕ) → First-begins n 0 lows (replicate 24 n)
+pub first-none : (n : ℕ) (lows : List ℕ) → First-begins n 0 lows (replicate table-length n)
 first-none n lows =
-    record { size = length-replicate 24 n; next = λ h l. absurd (omega arith); none = λ h l m. getD-replicate 24 h n 0 m }
+    record { size = length-replicate table-length n; next = λ h l. absurd (omega arith); none = λ h l m. getD-replicate table-length h n 0 m }
 
-pub first-more : (n j : ℕ) (lows bs : List ℕ) → j < 24 → First-begins n j lows bs → First-begins n (j + 1) lows (set bs j (next-begin 0 n (entry lows j)))
+pub first-more : (n j : ℕ) (lows bs : List ℕ) → j < table-length → First-begins n j lows bs → First-begins n (j + 1) lows (set bs j (next-begin 0 n (entry lows j)))
 first-more n j lows bs l f =
     record {
       size = length-set bs j _ ∙ f .size;
@@ -32,22 +32,22 @@ first-more n j lows bs l f =
 -- AT A PLACE: what is left comes to what the whole does
 module _ (gaps lows : List ℕ) (n i : ℕ) where
   abbrev pub from-height : (j a : ℕ) → List ℕ → Front
-  from-height j a bs = begun (24 - j) j gaps lows n i a bs
+  from-height j a bs = begun (table-length - j) j gaps lows n i a bs
 
-  pub begun-stays : (j a : ℕ) (bs : List ℕ) → j < 24 → (entry bs j ≡ i → ⊥) → from-height j a bs ≡ record { label = a; begins = bs }
+  pub begun-stays : (j a : ℕ) (bs : List ℕ) → j < table-length → (entry bs j ≡ i → ⊥) → from-height j a bs ≡ record { label = a; begins = bs }
   unfolding begun
-  begun-stays j a bs l other = let e : 24 - j ≡ suc (24 - suc j) = omega arith in rw (e, ne-eqb (entry bs j) i other)
+  begun-stays j a bs l other = let e : table-length - j ≡ suc (table-length - suc j) = omega arith in rw (e, ne-eqb (entry bs j) i other)
 
-  pub begun-goes : (j a : ℕ) (bs : List ℕ) → j < 24 → entry bs j ≡ i →
+  pub begun-goes : (j a : ℕ) (bs : List ℕ) → j < table-length → entry bs j ≡ i →
       from-height j a bs ≡ from-height (j + 1) (cut (a + entry gaps j)) (set bs j (next-begin i n (entry lows j)))
   unfolding begun
   begun-goes j a bs l here =
-      let e : 24 - j ≡ suc (24 - suc j) = omega arith in
+      let e : table-length - j ≡ suc (table-length - suc j) = omega arith in
       rw (e, eq-eqb (entry bs j) i here, add-one j)
 
-  pub begun-ends : (j a : ℕ) (bs : List ℕ) → 24 ≤ j → from-height j a bs ≡ record { label = a; begins = bs }
+  pub begun-ends : (j a : ℕ) (bs : List ℕ) → table-length ≤ j → from-height j a bs ≡ record { label = a; begins = bs }
   unfolding begun
-  begun-ends j a bs l = let e : 24 - j ≡ zero = omega arith in rw e
+  begun-ends j a bs l = let e : table-length - j ≡ zero = omega arith in rw e
 
 -- both parts of what has come of it
 pub told : {f : Front} (a : ℕ) (bs : List ℕ) → record { label = a; begins = bs } ≡ f → (a ≡ f .label) × (bs ≡ f .begins)

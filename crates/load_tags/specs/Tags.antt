@@ -9,7 +9,7 @@ use lib.ListN.{length, getD, drop}
 use Rattle.store_types.specs.Limits.{no-tag}
 use Rattle.store_types.specs.Layout.{header-words, at-next, at-prior, at-mate, at-up, at-kind, word-at, words-for, field, label-at, with-field, with-label, Records}
 use Rattle.lists.specs.Lists.{numbers}
-use Rattle.shape.specs.Tables.{entry, entry-limit}
+use Rattle.shape.specs.Tables.{entry, entry-limit, table-length}
 use Rattle.tree.specs.Forest.{labels, spread}
 use Rattle.shape.specs.Sums.{cut}
 use Rattle.calls.specs.Kind.{kind-of, kind-word}
@@ -134,6 +134,6 @@ gap r w (suc j) = entry w (suc j) - r * entry w j
 
 -- of the nodes of heights 1 to u, by height less one
 pub record Gaps-of (r u : ℕ) (w gaps : List ℕ) : Type 0 where
-  pub size : length gaps ≡ 24
+  pub size : length gaps ≡ table-length
   pub entries : Entries-fit gaps
   pub each : (h : ℕ) → h < u → entry gaps h ≡ gap r w (suc h)

@@ -7,44 +7,45 @@ use native.Mathlib.Decide.{ℕ-discrete}
 use native.Mathlib.Omega.{arith}
 use lib.ListN.{length, getD, set, drop, length-set, length-drop}
 use lib.Seq.{getD-take, getD-drop, getD-set-same, getD-set-other, ext-getD, length-take-le}
+use Rattle.shape.specs.Tables.{table-length}
 use Rattle.shape.specs.Packed.{part, With-part, With-numbers, Packed}
 
-pub part-entry : (t : List ℕ) (k h : ℕ) → h < 24 → getD t (24 * k + h) 0 ≡ getD (part k t) h 0
+pub part-entry : (t : List ℕ) (k h : ℕ) → h < table-length → getD t (table-length * k + h) 0 ≡ getD (part k t) h 0
 unfolding part
-part-entry t k h p = sym (getD-take 24 (drop (24 * k) t) h 0 p ∙ getD-drop (24 * k) t h 0)
+part-entry t k h p = sym (getD-take table-length (drop (table-length * k) t) h 0 p ∙ getD-drop (table-length * k) t h 0)
 
-part-length : (t : List ℕ) (k : ℕ) → length t ≡ 96 → k < 4 → length (part k t) ≡ 24
+part-length : (t : List ℕ) (k : ℕ) → length t ≡ 96 → k < 4 → length (part k t) ≡ table-length
 unfolding part
-part-length t k e p = length-take-le 24 (drop (24 * k) t) (omega (arith, length-drop (24 * k) t))
+part-length t k e p = length-take-le table-length (drop (table-length * k) t) (omega (arith, length-drop (table-length * k) t))
 
 -- A LOOP on its way: the entries below h are those of `from`, those of the other parts are as before
 pub record Writing (t : List ℕ) (k : ℕ) (from : List ℕ) (h : ℕ) (u : List ℕ) : Type 0 where
-  pub fits : h ≤ 24
+  pub fits : h ≤ table-length
   pub long : length u ≡ 96
-  pub new : (i : ℕ) → i < h → getD u (24 * k + i) 0 ≡ getD from i 0
-  pub kept : (j i : ℕ) → (j ≡ k → ⊥) → i < 24 → getD u (24 * j + i) 0 ≡ getD t (24 * j + i) 0
+  pub new : (i : ℕ) → i < h → getD u (table-length * k + i) 0 ≡ getD from i 0
+  pub kept : (j i : ℕ) → (j ≡ k → ⊥) → i < table-length → getD u (table-length * j + i) 0 ≡ getD t (table-length * j + i) 0
 
 module _ (t : List ℕ) (k : ℕ) (from : List ℕ) (few : k < 4) where
   -- places of two parts, and of two heights, are two
-  apart : (j i h : ℕ) → (j ≡ k → ⊥) → i < 24 → h < 24 → 24 * j + i ≡ 24 * k + h → ⊥
+  apart : (j i h : ℕ) → (j ≡ k → ⊥) → i < table-length → h < table-length → table-length * j + i ≡ table-length * k + h → ⊥
   apart j i h ne p q e = ne (omega arith)
 
-  pub writing-more : {h : ℕ} {u : List ℕ} → Writing t k from h u → h < 24 → Writing t k from (h + 1) (set u (24 * k + h) (getD from h 0))
+  pub writing-more : {h : ℕ} {u : List ℕ} → Writing t k from h u → h < table-length → Writing t k from (h + 1) (set u (table-length * k + h) (getD from h 0))
   writing-more {h} {u} w p = record {
     fits = omega arith;
-    long = length-set u (24 * k + h) (getD from h 0) ∙ w .long;
+    long = length-set u (table-length * k + h) (getD from h 0) ∙ w .long;
     new = λ i q. by-cases (ℕ-discrete i h)
-        (λ e. rw e (getD-set-same u (24 * k + h) (getD from h 0) 0 (omega (arith, w .long))))
-        (λ ne. getD-set-other u (24 * k + h) (24 * k + i) (getD from h 0) 0 (λ e. ne (omega arith)) ∙ w .new i (omega arith));
-    kept = λ j i ne q. getD-set-other u (24 * k + h) (24 * j + i) (getD from h 0) 0 (apart j i h ne q p) ∙ w .kept j i ne q;
+        (λ e. rw e (getD-set-same u (table-length * k + h) (getD from h 0) 0 (omega (arith, w .long))))
+        (λ ne. getD-set-other u (table-length * k + h) (table-length * k + i) (getD from h 0) 0 (λ e. ne (omega arith)) ∙ w .new i (omega arith));
+    kept = λ j i ne q. getD-set-other u (table-length * k + h) (table-length * j + i) (getD from h 0) 0 (apart j i h ne q p) ∙ w .kept j i ne q;
   }
 
-  pub writing-end : {h : ℕ} {u : List ℕ} → length t ≡ 96 → length from ≡ 24 → Writing t k from h u → 24 ≤ h → With-part t k from u
+  pub writing-end : {h : ℕ} {u : List ℕ} → length t ≡ 96 → length from ≡ table-length → Writing t k from h u → table-length ≤ h → With-part t k from u
   writing-end {h} {u} old long w p = record {
     new = ext-getD 0 (part k u) from (part-length u k (w .long) few ∙ sym long)
         (λ i q. sym (part-entry u k i (omega (arith, part-length u k (w .long) few))) ∙ w .new i (omega (arith, part-length u k (w .long) few)));
     kept = λ j q ne. ext-getD 0 (part j u) (part j t) (part-length u j (w .long) q ∙ sym (part-length t j old q))
-        (λ i r. let s : i < 24 = omega (arith, part-length u j (w .long) q) in sym (part-entry u j i s) ∙ w .kept j i ne s ∙ part-entry t j i s);
+        (λ i r. let s : i < table-length = omega (arith, part-length u j (w .long) q) in sym (part-entry u j i s) ∙ w .kept j i ne s ∙ part-entry t j i s);
   }
 
 -- THE THREE, and numbers beside them

@@ -4,10 +4,10 @@ use mathlib.Core.Path.{_≡_}
 use mathlib.Core.List.{List}
 use Prim.Native.Nat.{ℕ, _*_, _<_}
 use lib.ListN.{take, drop}
-use Rattle.shape.specs.Tables.{entry}
+use Rattle.shape.specs.Tables.{entry, table-length}
 
 unfoldable pub part : (k : ℕ) → List ℕ → List ℕ
-part k t = take 24 (drop (24 * k) t)
+part k t = take table-length (drop (table-length * k) t)
 
 abbrev pub widths-in : List ℕ → List ℕ
 widths-in t = part 0 t

@@ -11,6 +11,7 @@ use native.Mathlib.Omega.{arith}
 use borrow.Author.Tests.{eq-eqb, ne-eqb, lt-ltb, le-ltb, ltb-true, eqb-true, not-true, not-false}
 use lib.Dec.{leb, eqb}
 use lib.ListN.{length, getD, replicate}
+use Rattle.shape.specs.Tables.{table-length}
 use Rattle.store_types.specs.Limits.{no-tag, label-limit}
 use Rattle.store_types.specs.Layout.{at-first, at-stamp, at-up, at-kind, word-at, field, label-at}
 use Rattle.words.specs.Offsets.{offset-of}
@@ -140,11 +141,11 @@ module _ (ws t : List ℕ) (n u : ℕ) where
   first-state p =
       record { place = 0; tag = record { 0 = word-at ws at-first }; at = record { 0 = p }; prior = record { 0 = no-tag }; parent = record { 0 = no-tag }; marks = 0; expect = 0 }
 
-  pub walk-start : (p : ℕ) {w : List ℕ} → w ≡ widths-in t → walk-at (first-state p) w (replicate 24 0) ≡ walk-whole
+  pub walk-start : (p : ℕ) {w : List ℕ} → w ≡ widths-in t → walk-at (first-state p) w (replicate table-length 0) ≡ walk-whole
   unfolding state-with start-with label-due
   walk-start p e = rw (sub-zero n, e)
 
-  pub sizes-start : (p : ℕ) {w : List ℕ} → w ≡ widths-in t → (sz : List ℕ) → sizes-at-tag (first-state p) w (replicate 24 0) sz ≡ sizes-whole sz
+  pub sizes-start : (p : ℕ) {w : List ℕ} → w ≡ widths-in t → (sz : List ℕ) → sizes-at-tag (first-state p) w (replicate table-length 0) sz ≡ sizes-whole sz
   unfolding state-with start-with label-due
   sizes-start p e sz = rw (sub-zero n, e)
 

@@ -12,7 +12,7 @@ use lib.ListN.{length, getD, replicate}
 use Rattle.store_types.specs.Limits.{most-levels, word-limit}
 use Rattle.store_types.specs.Layout.{at-s, at-r, at-height, at-count, header-words, word-at, Records}
 use Rattle.shape.proofs.TableLaws.{table-at, table-bound}
-use Rattle.shape.specs.Tables.{table, widths-of, lows-of, highs-of, entry-limit, Table-fits}
+use Rattle.shape.specs.Tables.{table, widths-of, lows-of, highs-of, entry-limit, Table-fits, table-length}
 use Rattle.shape.proofs.Fits.{Fits, product-range, widths-fit, lows-fit, highs-fit}
 use Rattle.calls.specs.Store.{labels-fit}
 use Rattle.calls.specs.Sound.{degrees-fit}
@@ -99,7 +99,7 @@ module _ (ws lo : List ℕ) (a : Frame ws) (of-lo : lo ≡ table 1 (r-of ws) (h-
   pub root-fits : Root-fits (h-of ws) lo
   root-fits = record { low = a .low; high = omega (arith, a .high); lows = entries-fit (lows-fit (framed-fits ws a)) of-lo }
 
-  pub pass-fits : {w hi ns t : List ℕ} {l : ℕ} → Packed t w lo hi → numbers-in t ≡ ns → w ≡ table 1 (s-of ws * r-of ws - 1) (h-of ws) → hi ≡ table (s-of ws) (r-of ws) (h-of ws) → ns ≡ ancestor-numbers w (h-of ws - 1) l 0 (replicate 24 0) → l < word-limit → Pass-fits ws (n-of ws) (h-of ws - 1) t
+  pub pass-fits : {w hi ns t : List ℕ} {l : ℕ} → Packed t w lo hi → numbers-in t ≡ ns → w ≡ table 1 (s-of ws * r-of ws - 1) (h-of ws) → hi ≡ table (s-of ws) (r-of ws) (h-of ws) → ns ≡ ancestor-numbers w (h-of ws - 1) l 0 (replicate table-length 0) → l < word-limit → Pass-fits ws (n-of ws) (h-of ws - 1) t
   pass-fits {w} p numbers of-w of-hi of-ns fits =
       let b = s-of ws * r-of ws - 1 in
       record {
@@ -147,7 +147,7 @@ module _ (ws : List ℕ) where
 
 -- WHERE THEY PASS, the sizes and the tables: l is the label at the place y, and ns are the numbers of its ancestors
 module _ (ws lo hi w : List ℕ) (of-lo : lo ≡ table 1 (r-of ws) (h-of ws)) (of-hi : hi ≡ table (s-of ws) (r-of ws) (h-of ws)) (of-w : w ≡ table 1 (s-of ws * r-of ws - 1) (h-of ws))
-    (y l : ℕ) (ns : List ℕ) {tables : List ℕ} (p : Packed tables w lo hi) (numbers-are : numbers-in tables ≡ ns) (label : l ≡ watched-label ws y) (numbers : ns ≡ ancestor-numbers w (h-of ws - 1) l 0 (replicate 24 0)) where
+    (y l : ℕ) (ns : List ℕ) {tables : List ℕ} (p : Packed tables w lo hi) (numbers-are : numbers-in tables ≡ ns) (label : l ≡ watched-label ws y) (numbers : ns ≡ ancestor-numbers w (h-of ws - 1) l 0 (replicate table-length 0)) where
   pub sizes-taken : (sz : List ℕ) {sz′ : List ℕ} → sz′ ≡ walk-sizes ws (shape-in tables (h-of ws - 1) (n-of ws)) (numbers-in tables) (n-of ws) 0 (start-with ws (widths-in tables)) sz → sz′ ≡ sizes-at ws y sz
   unfolding sizes-at watched-numbers shape-of start shape-with start-with tables-of levels-of widths-of lows-of highs-of
   sizes-taken sz e =

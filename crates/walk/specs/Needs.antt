@@ -6,6 +6,7 @@ use mathlib.Core.List.{List}
 use Prim.Native.Nat.{ℕ, _+_, _≤_}
 use lib.Dec.{ltb, leb, eqb}
 use lib.ListN.{length, getD, replicate}
+use Rattle.shape.specs.Tables.{table-length}
 use Rattle.store_types.specs.Limits.{no-tag, most-tags}
 use Rattle.store_types.specs.Layout.{at-first, at-stamp, header-words, at-next, at-kind, word-at, field, label-at, Records}
 use Rattle.words.specs.Offsets.{offset-of}
@@ -67,7 +68,7 @@ pub record Behind (ws : List ℕ) (end : ℕ) (v q : code.State) : Type 0 where
 
 unfoldable pub start-with : (words widths : List ℕ) → State
 start-with ws w =
-    record { tag = word-at ws at-first; prior = no-tag; open-begin = no-tag; marks = 0; expect = 0; levels = levels-of w (replicate 24 0) }
+    record { tag = word-at ws at-first; prior = no-tag; open-begin = no-tag; marks = 0; expect = 0; levels = levels-of w (replicate table-length 0) }
 
 -- behind the last tag
 pub record Ends-fit (ws : List ℕ) (n under marks : ℕ) (tables : List ℕ) : Type 0 where

@@ -6,7 +6,7 @@ use native.Mathlib.Nat.{div-mul-le-self}
 use native.Mathlib.Omega.{arith}
 use lib.ListN.{set, replicate}
 use Rattle.store_types.specs.Limits.{word-limit}
-use Rattle.shape.specs.Tables.{entry, entry-limit}
+use Rattle.shape.specs.Tables.{entry, entry-limit, table-length}
 use Rattle.walk_model.specs.Watch.{ancestor-numbers}
 
 -- what is added to the number above goes no further than the label
@@ -56,6 +56,6 @@ numbers-from w (suc u) l a ns h all i =
     numbers-from w u l (a + (l - a) / v * v) (set ns (suc u) (a + (l - a) / v * v)) fits (λ j. set-most ns (suc u) (a + (l - a) / v * v) j l fits all) i
 
 -- a word's
-pub numbers-fit : (w : List ℕ) (u : ℕ) {ns : List ℕ} {l : ℕ} → ns ≡ ancestor-numbers w u l 0 (replicate 24 0) → l < word-limit → (i : ℕ) → entry ns i ≤ entry-limit
+pub numbers-fit : (w : List ℕ) (u : ℕ) {ns : List ℕ} {l : ℕ} → ns ≡ ancestor-numbers w u l 0 (replicate table-length 0) → l < word-limit → (i : ℕ) → entry ns i ≤ entry-limit
 numbers-fit w u {ns} {l} e fits i =
-    rw e (omega (arith, numbers-from w u l 0 (replicate 24 0) (omega arith) (λ j. noughts-most 24 j l) i))
+    rw e (omega (arith, numbers-from w u l 0 (replicate table-length 0) (omega arith) (λ j. noughts-most table-length j l) i))

@@ -3,6 +3,7 @@
 use mathlib.Core.Path.{_≡_, refl, sym, _∙_}
 use Prim.Native.Nat.{_+_, _-_, _≤_, _<_}
 use native.Mathlib.Omega.{arith}
+use Rattle.shape.specs.Tables.{table-length}
 use Rattle.store_types.specs.Limits.{label-limit}
 use Rattle.shape.proofs.Sums.{cut-small}
 use Rattle.load_model.specs.Begins.{begun}
@@ -12,10 +13,10 @@ use Rattle.load_tags.proofs.begin_nodes.Tie as tie
 
 abbrev Inv-loop : tie.InvT-loop
 Inv-loop i n label gaps lows begins₀ at₀ j₀ begins at j =
-    (j ≤ 24) × (at < label-limit) × (from-height gaps lows n i j at begins ≡ begun 24 0 gaps lows n i label begins₀)
+    (j ≤ table-length) × (at < label-limit) × (from-height gaps lows n i j at begins ≡ begun table-length 0 gaps lows n i label begins₀)
 
 abbrev μ-loop : tie.MeasureT-loop
-μ-loop i n label gaps lows begins₀ at₀ j₀ begins at j = 24 - j
+μ-loop i n label gaps lows begins₀ at₀ j₀ begins at j = table-length - j
 
 loop-holds : tie.Need-loop-holds Inv-loop μ-loop
 loop-holds c = (omega arith, c .pre .1, refl)

@@ -16,13 +16,20 @@ next-tag-requires : tie.Need-next-tag-requires
 next-tag-requires c κs = search needs
 
 set-next-requires : tie.Need-set-next-requires
-set-next-requires c κs = room-same (c .before .before .before .before .before .before .before .before .before .before .before .pre .1) (omega arith)
+set-next-requires c κs =
+    let kind-set = c .before .before .before .before .before in
+    let labelled = kind-set .before .before .before .before in
+    room-same (labelled .before .before .pre .1) (omega arith)
 
 prior-tag-requires : tie.Need-prior-tag-requires
 prior-tag-requires c κs = search needs
 
 set-prior-requires : tie.Need-set-prior-requires
-set-prior-requires c κs = room-same (c .before .before .before .before .before .before .before .before .before .before .before .before .before .before .before .before .pre .1) (omega arith)
+set-prior-requires c κs =
+    let next-set = c .before .before .before .before .before in
+    let kind-set = next-set .before .before .before .before .before in
+    let labelled = kind-set .before .before .before .before in
+    room-same (labelled .before .before .pre .1) (omega arith)
 
 same-length : tie.Need-same-length
 same-length c = search needs

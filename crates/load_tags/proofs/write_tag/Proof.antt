@@ -23,7 +23,8 @@ mate-at-requires c κs = search needs
 
 write-links-requires : tie.Need-write-links-requires
 write-links-requires c κs =
-    let fits = c .before .before .before .before .before .before .before .before .before .pre .0 in
+    let placed = c .before .before .before .before .before .before in
+    let fits = placed .before .before .before .pre .0 in
     (room-same (room (fits .records) (fits .below)) (omega arith), room-same (mate-room fits (c .before .mate-at .ensures)) (omega arith))
 
 open-behind-requires : tie.Need-open-behind-requires

@@ -58,6 +58,10 @@ cast-begin-nodes c = omega arith
 cast-begin-nodes-2 : tie.Need-cast-begin-nodes-2 Inv-loop μ-loop
 cast-begin-nodes-2 c = omega arith
 
+-- where the pass began, from where a turn does
+abbrev start : tie.At-loop Inv-loop μ-loop → tie.Start Inv-loop μ-loop
+start c = c .before .before .before .before .before .before .before
+
 begin-nodes-requires : tie.Need-begin-nodes-requires Inv-loop μ-loop
 begin-nodes-requires c κs =
     let turn = c .before .before .before in
@@ -72,7 +76,7 @@ begin-nodes-requires c κs =
 -- the label has come to place i
 abbrev begun-here : (c : tie.After-begin-nodes Inv-loop μ-loop) →
     let turn = c .before .before .before .before in
-    let a = turn .before .before .before .before .before .before .before .before .args in
+    let a = start (turn .before) .args in
     (vs : List ℕ) × Abreast (a .r) (a .under) (length (a .kinds .now)) (gap (a .r) (a .widths .now)) (turn .before .loop .i) (a .under) (c .begin-nodes .result) vs
 begun-here c =
     let turn = c .before .before .before .before in
@@ -101,8 +105,7 @@ write-tag-requires : tie.Need-write-tag-requires Inv-loop μ-loop
 write-tag-requires c κs =
     let turn = c .before .before .before .before .before .before in
     let l = turn .before .loop in
-    let start = turn .before .before .before .before .before .before .before .before in
-    (tag-fits _ _ _ (start .pre .0) (l .i) (l .words) (l .inside .begin .0) (l .inv .2) (turn .loop-test .taken), l .inv .3)
+    (tag-fits _ _ _ (start (turn .before) .pre .0) (l .i) (l .words) (l .inside .begin .0) (l .inv .2) (turn .loop-test .taken), l .inv .3)
 
 element-copy-out-sum : tie.Need-element-copy-out-sum Inv-loop μ-loop
 element-copy-out-sum c = omega arith
@@ -115,9 +118,10 @@ sum-requires c κs =
 
 add-i : tie.Need-add-i Inv-loop μ-loop
 add-i c =
-    let turn = c .before .before .before .before .before .before .before .before .before .before .before in
-    let start = turn .before .before .before .before .before .before .before .before in
-    omega (arith, turn .loop-test .taken, start .pre .0 .records .few)
+    let written = c .before .before .before .before in
+    let begun = written .before .before .before in
+    let turn = begun .before .before .before .before in
+    omega (arith, turn .loop-test .taken, start (turn .before) .pre .0 .records .few)
 
 loop-less : tie.Need-loop-less Inv-loop μ-loop
 loop-less c = omega arith
@@ -128,7 +132,7 @@ loop-again c =
     let begun = written .before .before .before in
     let turn = begun .before .before .before .before in
     let l = turn .before .loop in
-    let p = turn .before .before .before .before .before .before .before .before .pre in
+    let p = start (turn .before) .pre in
     let test = turn .loop-test .taken in
     let here = begun-here begun .1 in
     let w = written .write-tag .ensures in (
@@ -144,8 +148,7 @@ same-length c = c .before .loop .inv .2 .filled .around .size
 returns : tie.Need-returns Inv-loop μ-loop
 returns c =
     let l = c .before .loop in
-    let start = c .before .before .before .before .before .before .before .before in
-    row-ends _ _ _ (start .pre .0) (l .i) _ _ (l .inv .2) (omega arith)
+    row-ends _ _ _ (start (c .before) .pre .0) (l .i) _ _ (l .inv .2) (omega arith)
 
 pub write-tags-spec : {M : Type 1} → statement M
 write-tags-spec =

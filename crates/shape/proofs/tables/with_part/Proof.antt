@@ -4,6 +4,7 @@ use mathlib.Core.Path.{refl}
 use Prim.Native.Nat.{_-_}
 use borrow.Author.Needs.{needs}
 use native.Mathlib.Omega.{arith}
+use Rattle.shape.specs.Tables.{table-length}
 use Rattle.shape.proofs.PartLaws.{Writing, writing-more, writing-end}
 use Rattle.shape.proofs.tables.with_part.Statement.{statement}
 use Rattle.shape.proofs.tables.with_part.Tie as tie
@@ -12,7 +13,7 @@ abbrev Inv-loop : tie.InvT-loop
 Inv-loop k from t₀ h₀ t h = Writing t₀ k from h t
 
 abbrev μ-loop : tie.MeasureT-loop
-μ-loop k from t₀ h₀ t h = 24 - h
+μ-loop k from t₀ h₀ t h = table-length - h
 
 loop-holds : tie.Need-loop-holds Inv-loop μ-loop
 loop-holds c = record { fits = omega arith; long = search needs; new = λ i p. absurd (omega arith); kept = λ j i ne p. refl }

@@ -3,6 +3,7 @@
 use Prim.Native.Nat.{_+_, _*_, _-_, _/_, _≤_}
 use native.Mathlib.Omega.{arith}
 use lib.ListN.{replicate}
+use Rattle.shape.specs.Tables.{table-length}
 use Rattle.shape.specs.Packed.{widths-in}
 use Rattle.walk_model.specs.Watch.{ancestor-numbers}
 use Rattle.walk_levels.proofs.AncestorNumbers.{Descending, step-fits, descend-start, descend-on, descend-end}
@@ -22,7 +23,7 @@ cast-l c = omega (arith, c .struct-known .given)
 loop-holds : tie.Need-loop-holds Inv-loop μ-loop
 loop-holds c =
     let args = c .before .args in
-    descend-start (widths-in (args .tables .now)) (args .under) (args .label .0) (replicate 24 0)
+    descend-start (widths-in (args .tables .now)) (args .under) (args .label .0) (replicate table-length 0)
 
 width-requires : tie.Need-width-requires Inv-loop μ-loop
 width-requires c κs = omega (arith, c .before .before .before .pre .height, c .before .loop .inv .fits)
