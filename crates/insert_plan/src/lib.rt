@@ -95,8 +95,8 @@ pub fn plan_at(
     requires { ⌜ Plan-reads (now words) (place .0) (now tables) ⌝ }
     ensures { λ p. ⌜ plan-record p ≡ plan-of-tags (now (words .entry)) (s-in (now (tables .entry))) (widths-in (now (tables .entry))) (highs-in (now (tables .entry))) (now (sizes .entry)) (issued (now (words .entry))) k (pred (word-at (now (words .entry)) at-height)) (place .0) ⌝ }
 {
-    let top = words[words::AT_HEIGHT] as usize;
-    let issued = words[words::AT_COUNT] as u64;
+    let top = words::height_of(words) as usize;
+    let issued = words::count_of(words) as u64;
     let all = issued + k as u64;
     if all == shape::tables::high(tables, top) {
         return Plan {
