@@ -108,9 +108,10 @@ module _ (ws w : List ℕ) (r : ℕ) (p : Plan) {x next m : ℕ} {vs : List ℕ}
       let moved : m ≡ trees-numbered ws w r (p .height) (p .number) x (p .count) .moved = numbered .moved ∙ ap (λ (t : Relabelled). t .moved) cut-number in
       (rw count-kept at e ∙ rw (q, numbered .next, start), rw (rw count-kept at f, moved, q, numbered .next, start))
 
-  pub moved-few : {d : ℕ} → d ≡ shift (issued vs) (issued vs) vs next (p .bound) (p .by) .moved → m + d ≤ p .count + issued ws
-  moved-few e =
-      omega (arith, numbered .moved, trees-moved ws w r (p .height) (cut (p .number)) x (p .count), shift-few (issued vs) (issued vs) vs next (p .bound) (p .by), count-kept)
+  -- few tags move, whatever the bound of the shift and whatever it adds
+  pub moved-few : (b k : ℕ) {d : ℕ} → d ≡ shift (issued vs) (issued vs) vs next b k .moved → m + d ≤ p .count + issued ws
+  moved-few b k e =
+      omega (arith, numbered .moved, trees-moved ws w r (p .height) (cut (p .number)) x (p .count), shift-few (issued vs) (issued vs) vs next b k, count-kept)
 
 -- THE NUMBERS OF A PLAN FIT, where the tables are right up to the root
 pub record Plan-fits (r top : ℕ) (p : Plan) : Type 0 where

@@ -55,7 +55,7 @@ add-result c =
     let shift = c .before .before .before in
     let number = shift .before .before .before .before in
     let start = first (started number) in
-    let few = moved-few _ _ _ (plan-record (start .args .p)) (started number .behind .ensures) (numbered number) (shift .shift .ensures .1) in
+    let few = moved-few _ _ _ (plan-record (start .args .p)) (started number .behind .ensures) (numbered number) _ _ (shift .shift .ensures .1) in
     omega (arith, few, start .pre .row .most, start .pre .records .few)
 
 same-length : tie.Need-same-length
