@@ -28,26 +28,26 @@ pub data Call : Type 0 where
   insert : (kind place : ℕ) → Call
   mark : (section : ℕ) → Call
 
--- ON STORES, where w words are lent: the refusal of a call, the store after it, and after a list of calls
-unfoldable pub refusal : (w : ℕ) → Call → Store → ℕ
-refusal w (load s r b cs) st = load-refusal w s r cs
-refusal w (insert c y) st = insert-refusal w c y st
-refusal w (mark x) st = section-refusal x st
+-- ON STORES, where so many words are lent: the refusal of a call, the store after it, and after a list of calls
+unfoldable pub refusal : (lent : ℕ) → Call → Store → ℕ
+refusal lent (load s r b cs) st = load-refusal lent s r cs
+refusal lent (insert c y) st = insert-refusal lent c y st
+refusal lent (mark x) st = section-refusal x st
 
 unfoldable pub changed : Call → Store → Store
 changed (load s r b cs) st = load-store s r b cs
 changed (insert c y) st = insert-store (insert-kinds c) y st
 changed (mark x) st = mark-store x st
 
-unfoldable pub accepts : (w : ℕ) → Call → Store → Bool
-accepts w c st = eqb (refusal w c st) 0
+unfoldable pub accepts : (lent : ℕ) → Call → Store → Bool
+accepts lent c st = eqb (refusal lent c st) 0
 
-unfoldable pub after-one : (w : ℕ) → Call → Store → Store
-after-one w c st = cond (accepts w c st) (changed c st) st
+unfoldable pub after-one : (lent : ℕ) → Call → Store → Store
+after-one lent c st = cond (accepts lent c st) (changed c st) st
 
-unfoldable pub after : (w : ℕ) → List Call → Store → Store
-after w [] st = st
-after w (c ∷ cs) st = after w cs (after-one w c st)
+unfoldable pub after : (lent : ℕ) → List Call → Store → Store
+after lent [] st = st
+after lent (c ∷ cs) st = after lent cs (after-one lent c st)
 
 -- whether the book numbers of loads, accepted or not, are words (u32 in the entries themselves); no statement but one on
 -- the store's own number asks for it
@@ -139,11 +139,11 @@ moved-by (load s r b cs) st t = 0
 moved-by (insert c y) st t = t + insert-moved (insert-kinds c) y st
 moved-by (mark x) st t = t
 
-unfoldable pub moved-after : (w : ℕ) → List Call → Store → (total : ℕ) → ℕ
-moved-after w [] st t = t
-moved-after w (c ∷ cs) st t = moved-after w cs (after-one w c st) (cond (accepts w c st) (moved-by c st t) t)
+unfoldable pub moved-after : (lent : ℕ) → List Call → Store → (total : ℕ) → ℕ
+moved-after lent [] st t = t
+moved-after lent (c ∷ cs) st t = moved-after lent cs (after-one lent c st) (cond (accepts lent c st) (moved-by c st t) t)
 
 -- each call with whether the definitions accept it, from a store on
-unfoldable pub judged : (w : ℕ) → List Call → Store → List Told
-judged w [] st = []
-judged w (c ∷ cs) st = record { call = c; accepted = accepts w c st } ∷ judged w cs (after-one w c st)
+unfoldable pub judged : (lent : ℕ) → List Call → Store → List Told
+judged lent [] st = []
+judged lent (c ∷ cs) st = record { call = c; accepted = accepts lent c st } ∷ judged lent cs (after-one lent c st)

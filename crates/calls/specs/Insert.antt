@@ -68,23 +68,23 @@ place-tests y st =
     ∷ (not (eqb y no-tag) && fact st y .marked, 9)
     ∷ []
 
--- of room for k tags; w is how many words are lent, and `no-labels` is whether labels do not suffice
-unfoldable pub room-tests : (w k : ℕ) → (no-labels : Bool) → Store → List (Bool × ℕ)
-room-tests w k e st =
-    (ltb most-tags (count st + k) || ltb w (words-for header-words (count st + k)), 6)
+-- of room for k tags; `lent` is how many words there are, and `no-labels` is whether labels do not suffice
+unfoldable pub room-tests : (lent k : ℕ) → (no-labels : Bool) → Store → List (Bool × ℕ)
+room-tests lent k e st =
+    (ltb most-tags (count st + k) || ltb lent (words-for header-words (count st + k)), 6)
     ∷ (e, 7)
     ∷ []
 
 -- of the call
-unfoldable pub insert-refusal : (w kind place : ℕ) → Store → ℕ
-insert-refusal w c y st =
+unfoldable pub insert-refusal : (lent kind place : ℕ) → Store → ℕ
+insert-refusal lent c y st =
     let k = length (insert-kinds c) in
     let no-labels = labels-end (height-fits st) (st .book .s) (st .book .r) k (count st) (height (st .book)) in
-    first ((not (eqb c 1 || eqb c 3), 4) ∷ place-tests y st ++ room-tests w k no-labels st) 0
+    first ((not (eqb c 1 || eqb c 3), 4) ∷ place-tests y st ++ room-tests lent k no-labels st) 0
 
 -- of a row of kinds of any length
-unfoldable pub row-refusal : (w : ℕ) → (kinds : List Kind) → (place : ℕ) → Store → ℕ
-row-refusal w ks y st =
+unfoldable pub row-refusal : (lent : ℕ) → (kinds : List Kind) → (place : ℕ) → Store → ℕ
+row-refusal lent ks y st =
     let k = length ks in
     let no-labels = labels-run-out (height-fits st) (st .book .s) (st .book .r) k (count st) (height (st .book)) in
-    first (place-tests y st ++ room-tests w k no-labels st) 0
+    first (place-tests y st ++ room-tests lent k no-labels st) 0

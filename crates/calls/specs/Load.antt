@@ -24,18 +24,18 @@ kinds-tests d cs =
     ∷ (not (nests d (map kind-of cs)), 5)
     ∷ []
 
--- all but the last; w is how many words are lent
-unfoldable pub early-tests : (w s r : ℕ) → (kinds : List ℕ) → List (Bool × ℕ)
-early-tests w s r cs =
+-- all but the last; `lent` is how many words there are
+unfoldable pub early-tests : (lent s r : ℕ) → (kinds : List ℕ) → List (Bool × ℕ)
+early-tests lent s r cs =
     let n = length cs in
     (not (degrees-fit s r), 3)
     ∷ (ltb most-tags n, 6)
-    ∷ (ltb w (words-for header-words n), 1)
+    ∷ (ltb lent (words-for header-words n), 1)
     ∷ kinds-tests 0 cs
 
-unfoldable pub load-refusal : (w s r : ℕ) → (kinds : List ℕ) → ℕ
-load-refusal w s r cs =
-    first (early-tests w s r cs ++ (not (power-fits s r (suc (load-under r (length cs)))), 7) ∷ []) 0
+unfoldable pub load-refusal : (lent s r : ℕ) → (kinds : List ℕ) → ℕ
+load-refusal lent s r cs =
+    first (early-tests lent s r cs ++ (not (power-fits s r (suc (load-under r (length cs)))), 7) ∷ []) 0
 
 -- tag numbers run in book order; stamp 0
 unfoldable pub load-store : (s r number : ℕ) → (kinds : List ℕ) → Store

@@ -31,11 +31,11 @@ use Rattle.calls.specs.Reference.{Reference, total, reference-load, refe
 
 -- ONE STEP, on any sound store: an accepted load, an accepted insertion of any row of kinds that nests, an accepted mark
 unfoldable pub Load-sound : Type 0
-Load-sound = (w s r b : ℕ) (cs : List ℕ) → load-refusal w s r cs ≡ 0 → sound (load-store s r b cs) ≡ true
+Load-sound = (lent s r b : ℕ) (cs : List ℕ) → load-refusal lent s r cs ≡ 0 → sound (load-store s r b cs) ≡ true
 
 unfoldable pub Insert-sound : Type 0
 Insert-sound =
-    (w y : ℕ) (ks : List Kind) (st : Store) → sound st ≡ true → nests 0 ks ≡ true → 1 ≤ length ks → row-refusal w ks y st ≡ 0 →
+    (lent y : ℕ) (ks : List Kind) (st : Store) → sound st ≡ true → nests 0 ks ≡ true → 1 ≤ length ks → row-refusal lent ks y st ≡ 0 →
     sound (insert-store ks y st) ≡ true
 
 unfoldable pub Mark-sound : Type 0
@@ -55,16 +55,16 @@ Height-most = (st : Store) → sound st ≡ true → height (st .book) ≤ most-
 -- EVERY LIST OF CALLS behind an accepted load. The tree keeps s and r in their ranges, b^H ≤ 2^32 and every node's limits
 unfoldable pub Stays-good : Type 0
 Stays-good =
-    (w s r b : ℕ) (ks : List ℕ) (cs : List Call) → load-refusal w s r ks ≡ 0 → tree-sound (after w cs (load-store s r b ks)) ≡ true
+    (lent s r b : ℕ) (ks : List ℕ) (cs : List Call) → load-refusal lent s r ks ≡ 0 → tree-sound (after lent cs (load-store s r b ks)) ≡ true
 
 unfoldable pub Stores-sound : Type 0
 Stores-sound =
-    (w s r b : ℕ) (ks : List ℕ) (cs : List Call) → load-refusal w s r ks ≡ 0 → sound (after w cs (load-store s r b ks)) ≡ true
+    (lent s r b : ℕ) (ks : List ℕ) (cs : List Call) → load-refusal lent s r ks ≡ 0 → sound (after lent cs (load-store s r b ks)) ≡ true
 
 -- and where every load's book number is a word, so is the store's (which document 03 has in its soundness)
 unfoldable pub Numbers-fit : Type 0
 Numbers-fit =
-    (w s r b : ℕ) (ks : List ℕ) (cs : List Call) → All-fit (load s r b ks ∷ cs) → after w cs (load-store s r b ks) .number < word-limit
+    (lent s r b : ℕ) (ks : List ℕ) (cs : List Call) → All-fit (load s r b ks ∷ cs) → after lent cs (load-store s r b ks) .number < word-limit
 
 -- LABELS TELL: in a sound store comparing labels is comparing places
 unfoldable pub Labels-tell : Type 0
@@ -133,9 +133,9 @@ pub record Kept (st : Store) (a : Reference) (t : ℕ) : Type 0 where
 
 unfoldable pub Lists-keep : Type 0
 Lists-keep =
-    (w s r b : ℕ) (ks : List ℕ) (cs : List Call) → load-refusal w s r ks ≡ 0 →
-    Kept (after w cs (load-store s r b ks)) (reference-after (judged w cs (load-store s r b ks)) (reference-load s r (length ks)))
-    (moved-after w cs (load-store s r b ks) 0)
+    (lent s r b : ℕ) (ks : List ℕ) (cs : List Call) → load-refusal lent s r ks ≡ 0 →
+    Kept (after lent cs (load-store s r b ks)) (reference-after (judged lent cs (load-store s r b ks)) (reference-load s r (length ks)))
+    (moved-after lent cs (load-store s r b ks) 0)
 
 -- THE WHOLE RUN, over the words and the replies. What the words hold of the header and along next
 pub record Words-kept (ws : List ℕ) (st : Store) (a : Reference) : Type 0 where
@@ -149,10 +149,10 @@ pub record Words-kept (ws : List ℕ) (st : Store) (a : Reference) : Type 0 wher
 
 -- of every list of events behind an accepted load, over the words and the replies: exactly the calls that the
 -- definitions refuse were refused, and the words, the reference list and the moved numbers of the replies agree
-pub record Whole-run (w : ℕ) (st : Store) (a : Reference) (es : List Event) (ws : List ℕ) : Type 0 where
-  pub refused-right : told es ≡ judged w (calls-of es) st
-  pub words : Words-kept ws (after w (calls-of es) st) (reference-after (told es) a)
-  pub kept : Kept (after w (calls-of es) st) (reference-after (told es) a) (total-moved 0 es)
+pub record Whole-run (lent : ℕ) (st : Store) (a : Reference) (es : List Event) (ws : List ℕ) : Type 0 where
+  pub refused-right : told es ≡ judged lent (calls-of es) st
+  pub words : Words-kept ws (after lent (calls-of es) st) (reference-after (told es) a)
+  pub kept : Kept (after lent (calls-of es) st) (reference-after (told es) a) (total-moved 0 es)
 
 unfoldable pub Runs-keep : Type 0
 Runs-keep =

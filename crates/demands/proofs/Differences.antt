@@ -12,7 +12,6 @@ use Rattle.store_types.specs.declared.InsertReply.the-variants as inserting
 use Rattle.store_types.specs.declared.MarkReply.the-variants as marking
 use Rattle.store_types.specs.declared.TagId.{TagId}
 use Rattle.lists.proofs.Tests.{by-test}
-use Rattle.store_types.specs.Layout.{label-at}
 use Rattle.lists.specs.Lists.{numbers}
 use Rattle.lists.proofs.Numbers.{length-numbers}
 use Rattle.tree.specs.Book.{Book, label-of, moved-among, moved}

@@ -5,7 +5,7 @@ use Prim.Native.Nat.{ℕ, suc, pred, _+_, _*_, _-_}
 use lib.Dec.{ltb, eqb}
 use lib.ListN.{replicate, set}
 use Rattle.store_types.specs.Limits.{no-tag}
-use Rattle.store_types.specs.Layout.{at-s, at-r, at-height, at-count, at-first, at-stamp, at-next, at-prior, at-mate, at-up, at-kind, word-at, field, label-at, with-field, with-label}
+use Rattle.store_types.specs.Layout.{at-s, at-r, at-height, at-count, at-first, at-stamp, at-next, at-prior, at-mate, at-up, at-kind, word-at, label-at, with-field, with-label}
 use Rattle.words.specs.Places.{behind, up-word, watched-label}
 use Rattle.shape.specs.Tables.{entry, widths-of, highs-of, table-length}
 use Rattle.tree.specs.Forest.{labels, spread}
@@ -118,8 +118,8 @@ text-edit y ws =
 unfoldable pub both-edit : (place : ℕ) → List ℕ → Edited
 both-edit y ws =
     let n = word-at ws at-count in
-    let u = up-word ws y in
-    put-words (added (added ws n y (suc n) u 1) (suc n) n n u 2) (widths-of ws) (word-at ws at-r) (suc (suc n)) 2 (plan-of ws 2 y)
+    let up = up-word ws y in
+    put-words (added (added ws n y (suc n) up 1) (suc n) n n up 2) (widths-of ws) (word-at ws at-r) (suc (suc n)) 2 (plan-of ws 2 y)
 
 -- else one after the other; the second shifts only what the first has moved
 unfoldable pub begin-edit : (place : ℕ) → List ℕ → Edited
@@ -128,9 +128,9 @@ begin-edit y ws =
     put-words (added ws n y (suc n) (up-word ws y) 1) (widths-of ws) (word-at ws at-r) (suc n) 1 (plan-of ws 1 y)
 
 unfoldable pub end-edit : (widths : List ℕ) → (n up : ℕ) → List ℕ → List ℕ
-end-edit w n u ws =
+end-edit w n up ws =
     let p = plain-plan ws w (pred (word-at ws at-height)) n in
-    applied (added ws (suc n) n n u 2) w (word-at ws at-r) (suc (suc n)) p .words
+    applied (added ws (suc n) n n up 2) w (word-at ws at-r) (suc (suc n)) p .words
 
 unfoldable pub in-turn-edit : (place : ℕ) → List ℕ → Edited
 in-turn-edit y ws =

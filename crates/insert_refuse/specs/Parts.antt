@@ -8,15 +8,15 @@ use Rattle.calls.specs.Store.{Store, count, height-fits}
 use Rattle.calls.specs.Insert.{labels-end, place-tests, room-tests}
 
 -- the tests of the call's room
-abbrev pub call-room : (w k : ℕ) → Store → List (Bool × ℕ)
-call-room w k st = room-tests w k (labels-end (height-fits st) (st .book .s) (st .book .r) k (count st) (height (st .book))) st
+abbrev pub call-room : (lent k : ℕ) → Store → List (Bool × ℕ)
+call-room lent k st = room-tests lent k (labels-end (height-fits st) (st .book .s) (st .book .r) k (count st) (height (st .book))) st
 
 -- THE REFUSALS of k tags in two parts: 8 and 9 of its place, 6 and 7 of its room; 0 where there is none
 unfoldable pub place-refusal : (place : ℕ) → Store → ℕ
 place-refusal y st = first (place-tests y st) 0
 
-unfoldable pub room-refusal : (w k : ℕ) → Store → ℕ
-room-refusal w k st = first (call-room w k st) 0
+unfoldable pub room-refusal : (lent k : ℕ) → Store → ℕ
+room-refusal lent k st = first (call-room lent k st) 0
 
-unfoldable pub tags-refusal : (w k place : ℕ) → Store → ℕ
-tags-refusal w k y st = first (place-tests y st ++ call-room w k st) 0
+unfoldable pub tags-refusal : (lent k place : ℕ) → Store → ℕ
+tags-refusal lent k y st = first (place-tests y st ++ call-room lent k st) 0

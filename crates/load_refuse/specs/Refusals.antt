@@ -20,8 +20,8 @@ unfoldable pub depth-behind : (open-begins kind : ℕ) → ℕ
 depth-behind d c = cond (eqb c 1) (d + 1) (cond (eqb c 2) (d - 1) d)
 
 -- 3, 6, 1, 4 and 5 in this order, 0 where there is none
-unfoldable pub refusal-before : (w s r : ℕ) → (kinds : List ℕ) → ℕ
-refusal-before w s r cs = first (early-tests w s r cs) 0
+unfoldable pub refusal-before : (lent s r : ℕ) → (kinds : List ℕ) → ℕ
+refusal-before lent s r cs = first (early-tests lent s r cs) 0
 
 -- what the search for the height is asked of
 pub record Height-fits (n r : ℕ) : Type 0 where

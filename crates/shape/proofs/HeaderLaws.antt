@@ -10,7 +10,7 @@ use borrow.Author.Tests.{eq-eqb, ne-eqb, lt-ltb, le-ltb, le-leb, lt-leb, leb-tru
 use lib.Dec.{leb, eqb}
 use lib.ListN.{length, getD}
 use Rattle.store_types.specs.Limits.{label-limit, most-tags, most-levels}
-use Rattle.store_types.specs.Layout.{at-version, at-s, at-r, at-height, at-count, header-words, tag-words, word-at, words-for}
+use Rattle.store_types.specs.Layout.{at-version, at-s, at-r, at-height, at-count, header-words, word-at, words-for}
 use Rattle.tree.specs.Book.{base, power-width}
 use Rattle.calls.specs.Store.{labels-fit, power-fits}
 use Rattle.calls.specs.Sound.{degrees-fit}

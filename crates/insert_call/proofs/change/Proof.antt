@@ -1,6 +1,5 @@
 -- `insert_call::change` meets its contract. Assumes nothing.
 use borrow.Author.Needs.{needs}
-use native.Mathlib.Omega.{arith}
 use Rattle.insert_refuse.proofs.Headers.{header-room}
 use Rattle.insert_call.proofs.Accepted.{says-accepted, place-accepted, plan-accepted}
 use Rattle.insert_call.proofs.Changes.{text-ready, element-ready, text-changes, element-changes}

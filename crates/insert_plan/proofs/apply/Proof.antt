@@ -1,6 +1,5 @@
 -- `insert_plan::apply` meets its contract. Assumes nothing.
 use borrow.Author.Needs.{needs}
-use mathlib.Core.Path.{_≡_}
 use native.Mathlib.Omega.{arith}
 use Rattle.words.proofs.PlaceLaws.{place-in}
 use Rattle.words.proofs.Fields.{records-kept}

@@ -1,5 +1,4 @@
 -- `insert_plan::plain_plan` meets its contract. Assumes nothing.
-use borrow.Author.Needs.{needs}
 use native.Mathlib.Omega.{arith}
 use Rattle.insert_plan.proofs.Plans.{plain-made}
 use Rattle.insert_plan.specs.Parts.{plan-record}

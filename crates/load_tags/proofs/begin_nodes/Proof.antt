@@ -1,7 +1,7 @@
 -- `load_tags::begin_nodes` meets its contract. The loop's invariant: what is left comes to what the whole does. The measure is what
 -- is left of the heights. Assumes nothing.
 use mathlib.Core.Path.{_≡_, refl, sym, _∙_}
-use Prim.Native.Nat.{_+_, _-_, _≤_, _<_}
+use Prim.Native.Nat.{_-_, _≤_, _<_}
 use native.Mathlib.Omega.{arith}
 use Rattle.shape.specs.Tables.{table-length}
 use Rattle.store_types.specs.Limits.{label-limit}

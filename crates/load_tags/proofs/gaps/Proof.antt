@@ -1,7 +1,7 @@
 -- `load_tags::gaps` meets its contract. The loop's invariant: the gaps of the heights up to h are written. The measure is what is
 -- left of them. Assumes nothing.
 use mathlib.Core.Path.{_≡_}
-use Prim.Native.Nat.{_+_, _-_, _≤_}
+use Prim.Native.Nat.{_-_, _≤_}
 use native.Mathlib.Omega.{arith}
 use Rattle.load_tags.specs.Tags.{Gaps-of}
 use Rattle.load_tags.proofs.Labelled.{room-below, room-small, gaps-none, gaps-more}

@@ -2,7 +2,6 @@
 use Rattle.words.proofs.Fields.{room-same}
 use Rattle.load_tags.specs.Tags.{links-written}
 use borrow.Author.Needs.{needs}
-use native.Mathlib.Omega.{arith}
 use Rattle.load_tags.proofs.write_links.Statement.{statement}
 use Rattle.load_tags.proofs.write_links.Tie as tie
 

@@ -4,9 +4,9 @@
 use mathlib.Core.Path.{_≡_, _∙_}
 use Prim.Native.Nat.{ℕ, _^_, _-_, _≤_, _<_}
 use native.Mathlib.Omega.{arith}
-use Rattle.shape.specs.Tables.{entry, entry-limit}
+use Rattle.shape.specs.Tables.{entry-limit}
 use Rattle.shape.specs.Packed.{widths-in, r-in}
-use Rattle.renumber.specs.Needs.{Trees-fit, trees-numbered}
+use Rattle.renumber.specs.Needs.{trees-numbered}
 use Rattle.renumber.proofs.Rows.{On-way, start, arrived}
 use Rattle.renumber.proofs.Parts.{parts-numbered, Parts-left, parts-start, parts-end, trees-zero, row-part, each-power, each-some, each-parts, fit-below, Next-part, next-part, part-counted, part-on}
 use borrow.Fn.Kinds.{In}

@@ -1,7 +1,6 @@
 -- `store_refuse::section_refused` meets its contract. Assumes nothing.
 use borrow.Author.Needs.{needs}
 use mathlib.Core.Path.{sym, _∙_}
-use native.Mathlib.Omega.{arith}
 use Rattle.calls.specs.Words.{Says}
 use Rattle.calls.specs.Replies.{said}
 use Rattle.store_refuse.specs.Needs.{Tag-said}

@@ -1,6 +1,5 @@
 -- `walk_levels::watched_end` meets its contract. Assumes nothing.
 use borrow.Author.Needs.{needs}
-use native.Mathlib.Omega.{arith}
 use Rattle.walk_levels.proofs.watched_end.Statement.{statement}
 use Rattle.walk_levels.proofs.watched_end.Tie as tie
 

@@ -1,6 +1,5 @@
 -- `words::places::behind` meets its contract. Assumes nothing.
 use borrow.Author.Needs.{needs}
-use native.Mathlib.Omega.{arith}
 use Rattle.words.proofs.PlaceLaws.{place-room, behind-front, behind-tag}
 use Rattle.words.proofs.places.behind.Statement.{statement}
 use Rattle.words.proofs.places.behind.Tie as tie
