@@ -3,12 +3,12 @@
 -- Expected values are worked out by hand from document 01. Assumes nothing: these are definitions.
 use mathlib.Core.Bool.{Bool, true, false, _&&_}
 use mathlib.Core.List.{List, [], _∷_}
-use Prim.Native.Nat.{ℕ, _-_}
+use Prim.Native.Nat.{ℕ, _-_, _+_, _*_}
 use lib.Dec.{eqb}
 use lib.ListN.{set, replicate}
 use Rattle.store_types.specs.Limits.{no-tag}
 use Rattle.lists.specs.Lists.{same, numbers}
-use Rattle.store_types.specs.Layout.{at-height, at-first, header-words, word-at, words-for}
+use Rattle.store_types.specs.Layout.{at-height, at-first, header-words, word-at, words-for, at-version, at-s, at-r, at-count, at-stamp, at-next, at-prior, at-mate, at-up, at-kind, tag-words}
 use Rattle.tree.specs.Forest.{spread}
 use Rattle.calls.specs.Kind.{text}
 use Rattle.calls.specs.Store.{Store}
@@ -50,16 +50,20 @@ pub record Damage : Type 0 where
 abbrev at : (place value : ℕ) → Damage
 at i v = record { place = i; value = v }
 
+-- a word of a tag's record; its label is the first
+abbrev of-tag : (tag place value : ℕ) → Damage
+of-tag x k v = at (header-words + tag-words * x + k) v
+
 abbrev pub damages : List Damage
 damages =
     -- the value 1; s; r; H, one too high and as high as a word goes; n, one too few and the most; the first tag; the stamp
-    at 0 2 ∷ at 1 1 ∷ at 2 17 ∷ at 3 3 ∷ at 3 4294967295 ∷ at 4 5 ∷ at 4 4294967295 ∷ at 5 1 ∷ at 7 7 ∷
+    at at-version 2 ∷ at at-s 1 ∷ at at-r 17 ∷ at at-height 3 ∷ at at-height 4294967295 ∷ at at-count 5 ∷ at at-count 4294967295 ∷ at at-first 1 ∷ at at-stamp 7 ∷
     -- tag 2's label: a gap, a label twice; tag 5's: past b^H
-    at 20 2 ∷ at 20 1 ∷ at 38 9 ∷
+    of-tag 2 0 2 ∷ of-tag 2 0 1 ∷ of-tag 5 0 9 ∷
     -- next past a tag, and round in a circle; a prior
-    at 9 2 ∷ at 39 0 ∷ at 16 no-tag ∷
+    of-tag 0 at-next 2 ∷ of-tag 5 at-next 0 ∷ of-tag 1 at-prior no-tag ∷
     -- a mate; an up; a kind that is none, one that does not nest, a begin marked without its end or what is inside
-    at 17 4 ∷ at 18 no-tag ∷ at 19 4 ∷ at 25 1 ∷ at 19 17 ∷ at 13 17 ∷ []
+    of-tag 1 at-mate 4 ∷ of-tag 1 at-up no-tag ∷ of-tag 1 at-kind 4 ∷ of-tag 2 at-kind 1 ∷ of-tag 1 at-kind 17 ∷ of-tag 0 at-kind 17 ∷ []
 
 unfoldable pub all-refused : List Damage → Bool
 all-refused [] = true

@@ -47,8 +47,8 @@ module _ (i : ℕ) (low : i < header-words) where
   record-header : (ws : List ℕ) (x next prior mate up kind : ℕ) → word-at (with-record ws x next prior mate up kind) i ≡ word-at ws i
   unfolding with-record
   record-header ws x next prior mate up kind =
-      header-kept _ x at-kind kind i low ∙ header-kept _ x at-up up i low ∙ header-kept _ x at-mate mate i low
-      ∙ header-kept _ x at-prior prior i low ∙ header-kept _ x at-next next i low ∙ header-kept-label ws x no-tag i low
+      let field-kept : (vs : List ℕ) (k v : ℕ) → word-at (with-field vs x k v) i ≡ word-at vs i = λ vs k v. header-kept vs x k v i low in
+      simp field-kept (header-kept-label ws x no-tag i low)
 
   place-header : (ws : List ℕ) (y n : ℕ) → (i ≡ at-first → ⊥) → word-at (linked-place ws y n) i ≡ word-at ws i
   unfolding linked-place

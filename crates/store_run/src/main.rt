@@ -148,9 +148,16 @@ fn insertions(words: &mut [u32]) {
     ask(7, 0, 0, 7, 6, words);
 }
 
+// Words for the tags of each part: 8, 3 and 128.
+const PRINTED_WORDS: usize = words::HEADER_WORDS + words::TAG_WORDS * 8;
+
+const FEW_WORDS: usize = words::HEADER_WORDS + words::TAG_WORDS * 3;
+
+const LIMIT_WORDS: usize = words::HEADER_WORDS + words::TAG_WORDS * 128;
+
 // The printed case of document 01.
 fn printed() {
-    let mut words = [0u32; 56];
+    let mut words = [0u32; PRINTED_WORDS];
     let mut tags = [0u32; 8];
     let mut labels = [0u32; 8];
     holds(&mut words);
@@ -194,7 +201,7 @@ fn marks(words: &mut [u32]) {
 
 // Refusals, each at least once, in a store for 3 tags.
 fn refusals() {
-    let mut words = [0u32; 26];
+    let mut words = [0u32; FEW_WORDS];
     let mut tags = [0u32; 2];
     let mut labels = [0u32; 3];
     hold(TagId(0), &words[..7]);
@@ -207,7 +214,7 @@ fn refusals() {
 
 // Specimens K and L: labels run out.
 fn limits() {
-    let mut words = [0u32; 776];
+    let mut words = [0u32; LIMIT_WORDS];
     let kinds = [3u8; 128];
     load(16, 2, &kinds[..127], &mut words);
     load(16, 2, &kinds, &mut words);

@@ -4,9 +4,16 @@ use mathlib.Core.List.{List}
 use Prim.Native.Nat.{ℕ, _*_}
 use Rattle.store_types.specs.Layout.{Room}
 
--- in steps of two words from the first record on, of which a record has three
+-- words in a step, and steps in a record
+abbrev pub step-words : ℕ
+step-words = 2
+
+abbrev pub record-steps : ℕ
+record-steps = 3
+
+-- in steps from the first record on
 abbrev pub offset-of : (tag : ℕ) → ℕ
-offset-of x = 3 * x
+offset-of x = record-steps * x
 
 -- a record stands there, and the whole of it
 pub record Record-at (ws : List ℕ) (p : ℕ) : Type 0 where
