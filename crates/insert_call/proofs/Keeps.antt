@@ -10,7 +10,7 @@ use lib.Dec.{eqb}
 use lib.ListN.{length, length-set}
 use lib.Seq.{getD-set-same, getD-set-other}
 use Rattle.store_types.specs.Limits.{no-tag}
-use Rattle.store_types.specs.Layout.{at-count, at-first, header-words, at-next, at-prior, at-mate, at-up, at-kind, word-at, field, Records}
+use Rattle.store_types.specs.Layout.{at-count, at-first, header-words, at-next, at-prior, word-at, field, Records, with-field}
 use Rattle.lists.proofs.Tests.{by-test}
 use Rattle.shape.specs.Tables.{entry, entry-limit}
 use Rattle.words.proofs.Fields.{header-fits, header-long, room, room-same, records-kept, field-same, field-other-word, header-kept, header-kept-label, length-with-field, length-with-label, field-past-header}
