@@ -8,7 +8,7 @@ use native.Mathlib.Nat.{pow-zero, pow-succ', dvd-mul-left, mul-le-mul, pow-le-po
 use native.Mathlib.Omega.{arith}
 use borrow.Author.Tests.{le-leb, leb-true, eqb-true, eqb-false, not-true}
 use lib.Dec.{eqb}
-use Rattle.store_types.specs.Limits.{no-tag, label-limit}
+use Rattle.store_types.specs.Limits.{label-limit}
 use Rattle.store_types.specs.Layout.{at-s, at-r, word-at}
 use Rattle.lists.proofs.Tests.{and-left, and-right, by-test}
 use Rattle.tree.specs.Book.{base, power-width}
@@ -85,21 +85,24 @@ all-miss : below 15 (λ i. below 15 (λ j. below 21 (misses i j))) ≡ true
 unfolding below misses
 all-miss = refl
 
-narrow-power : (s r h : ℕ) → Degrees s r → base s r ^ h ≤ label-limit → base s r ^ h ≤ no-tag
+-- so no width that fits is the limit of labels itself, and a label can hold where a root ends
+narrow-power : (w : ℕ → ℕ) (s r h : ℕ) → Degrees s r → w h ≡ base s r ^ h → labels-fit w h ≡ true → w h < label-limit
 unfolding base misses
-narrow-power s r h d fits =
+narrow-power w s r h d power fits =
+    let most : (s * r - 1) ^ h ≤ label-limit = omega (arith, power, fits-limit w h fits) in
     let least : 3 ≤ s * r - 1 = omega (arith, mul-le-mul (d .s-least) (d .r-least)) in
-    let low : h < 21 = omega (arith, height-range (s * r - 1) h least fits) in
+    let low : h < 21 = omega (arith, height-range (s * r - 1) h least most) in
     let own-s : s - 2 + 2 ≡ s = omega (arith, d .s-least) in
     let own-r : r - 2 + 2 ≡ r = omega (arith, d .r-least) in
     let test = below-at 21 (misses (s - 2) (r - 2)) (below-at 15 (λ j. below 21 (misses (s - 2) j)) (below-at 15 (λ i. below 15 (λ j. below 21 (misses i j))) all-miss (s - 2) (omega (arith, d))) (r - 2) (omega (arith, d))) h low in
     let other = eqb-false ((s * r - 1) ^ h) label-limit (not-true _ (rw (own-s, own-r) at test)) in
-    lt-narrow ((s * r - 1) ^ h) fits other
+    below-limit (w h) ((s * r - 1) ^ h) power most other
   where
-    lt-narrow : (n : ℕ) → n ≤ label-limit → (n ≡ label-limit → ⊥) → n ≤ no-tag
-    lt-narrow n l other = omega arith
+    below-limit : (n p : ℕ) → n ≡ p → p ≤ label-limit → (p ≡ label-limit → ⊥) → n < label-limit
+    below-limit n p e l other = omega arith
 
--- no root is as wide as all words are many: labels that fit are below the number that stands for no tag
-pub narrower : (st : Store) (h : ℕ) → Degrees (st .book .s) (st .book .r) → height-fits st h ≡ true → width st h ≤ no-tag
-narrower st h d fits =
-    rw (store-powers st h) (narrow-power (st .book .s) (st .book .r) h d (rw (store-powers st h) at (fits-limit (width st) h fits)))
+pub narrower : (st : Store) (h : ℕ) → Degrees (st .book .s) (st .book .r) → height-fits st h ≡ true → width st h < label-limit
+narrower st h d fits = narrow-power (width st) (st .book .s) (st .book .r) h d (store-powers st h) fits
+
+pub header-narrower : (ws : List ℕ) (h : ℕ) → Degrees (word-at ws at-s) (word-at ws at-r) → labels-fit (header-width ws) h ≡ true → header-width ws h < label-limit
+header-narrower ws h d fits = narrow-power (header-width ws) (word-at ws at-s) (word-at ws at-r) h d (header-powers ws h) fits

@@ -16,7 +16,8 @@ use Rattle.edit_model.specs.Insert.{Plan, applied}
 use Rattle.edit_model.proofs.Image.{Proper}
 use Rattle.edit_model.proofs.Along.{follow-at, along-at}
 use Rattle.edit_model.proofs.Differ.{differ}
-use Rattle.edit_model.proofs.Relabels.{relabel-words, relabel-proper, relabel-moved, cut-all, Stretch, shift-words, shift-moved}
+use Rattle.shape.proofs.Sums.{cut-all}
+use Rattle.edit_model.proofs.Relabels.{relabel-words, relabel-proper, relabel-moved, Stretch, shift-words, shift-moved}
 use Rattle.edit_model.proofs.Added.{tag-before, behind-place}
 
 -- LABELS BY HEIGHTS: widths of greater heights do not matter

@@ -7,7 +7,7 @@ use Prim.Native.Nat.{ℕ, suc, _+_, _-_, _≤_, _<_}
 use native.Mathlib.Omega.{arith}
 use lib.ListN.{length, getD, drop, length-drop}
 use lib.Seq.{drop-drop}
-use Rattle.store_types.specs.Limits.{no-tag, most-tags}
+use Rattle.store_types.specs.Limits.{no-tag, label-limit, most-tags}
 use Rattle.store_types.specs.Layout.{header-words, tag-words, words-for}
 use Rattle.lists.proofs.Tests.{fails}
 use Rattle.shape.specs.Tables.{widths-of, table-length}
@@ -20,7 +20,7 @@ use Rattle.calls.specs.Kind.{kind-word}
 use Rattle.calls.specs.Store.{Store, Fact, count, row, width, height-fits}
 use Rattle.calls.specs.Words.{words-of, Says}
 use Rattle.calls_laws.proofs.Heights.{sound-height}
-use Rattle.calls_laws.proofs.Widths.{store-widths}
+use Rattle.calls_laws.proofs.Widths.{store-widths, narrower}
 use Rattle.calls_laws.proofs.Tests.{Sound, sane}
 use Rattle.edit_model.specs.Image.{image-words, image-of, with-labels}
 use Rattle.edit_model.specs.Insert.{added, applied, plain-plan}
@@ -72,6 +72,9 @@ module _ (ws : List ℕ) (st : Store) (says : Says ws st) (p : ℕ) (fits : p �
     low : height (book-with p st) < table-length
     low = omega (arith, not-higher, sound-height own)
 
+    narrow : width st (height (book-with p st)) < label-limit
+    narrow = narrower st (height (book-with p st)) (own .degrees) labels-fit
+
     -- it is numbered by the same widths
     same-width : width (grown p t st) ≡ width st
     unfolding grown
@@ -105,7 +108,7 @@ module _ (ws : List ℕ) (st : Store) (says : Says ws st) (p : ℕ) (fits : p �
         ≡ image-words (with-labels (labels-of (width st) (book-with-two p st)) (with-tag (suc p) u (image-of (grown p t st)))) ++ drop tag-words rest
     next-said rest more =
         rw (count-first, last-first)
-        at (next-words (book-with p st) (sane-first own p fits) (width st) first-widths p (in-first own p fits) none low (proper-grown ws st says p fits t few-one room-one labels-fit) (omega (arith, count-first)) tags-first labels-first
+        at (next-words (book-with p st) (sane-first own p fits) (width st) first-widths p (in-first own p fits) none low narrow (proper-grown ws st says p fits t few-one room-one labels-fit) (omega (arith, count-first)) tags-first labels-first
         (widths-of ws) (λ i l. widths-right ws st says i (omega (arith, not-higher))) (widths-right ws st says 1 (omega arith)) u rest (small _ count-first) more)
 
     alike-after : Alike (with-labels (labels-of (width st) (book-with-two p st)) (with-tag (suc p) u (image-of (grown p t st)))) (image-of (grown (suc p) u (grown p t st)))

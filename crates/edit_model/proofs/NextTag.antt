@@ -8,9 +8,10 @@ use native.Mathlib.Omega.{arith}
 use borrow.Author.Tests.{ne-eqb}
 use lib.Dec.{eqb}
 use lib.ListN.{length, getD, drop, replicate}
-use Rattle.store_types.specs.Limits.{no-tag, most-tags}
+use Rattle.store_types.specs.Limits.{no-tag, label-limit, most-tags}
 use Rattle.store_types.specs.Layout.{at-count, tag-words, word-at, label-at}
 use Rattle.shape.specs.Tables.{entry, table-length}
+use Rattle.shape.proofs.Sums.{cut-below}
 use Rattle.tree.specs.Row.{insert-at}
 use Rattle.tree.specs.Forest.{size, labels}
 use Rattle.tree.specs.Book.{Book, height, tags, labels-of, inserted, split-of}
@@ -19,7 +20,7 @@ use Rattle.tree_laws.proofs.Rows.{length-insert, getD-before}
 use Rattle.tree_laws.proofs.Labels.{rising-from}
 use Rattle.tree_laws.proofs.Flat.{Piece, Flat}
 use Rattle.tree_laws.proofs.Root.{whole, labels-whole, flat-whole, split-flat, labels-put-whole}
-use Rattle.tree_laws.proofs.Border.{Cut, cut-flat}
+use Rattle.tree_laws.proofs.Border.{Cut, cut-flat, label-within}
 use Rattle.calls.specs.Kind.{kind-word}
 use Rattle.calls.specs.Store.{Fact}
 use Rattle.words.proofs.PlaceLaws.{label-tag}
@@ -30,11 +31,11 @@ use Rattle.edit_model.specs.Insert.{Plan, added, applied, numbers-at, pl
 use Rattle.edit_model.proofs.Image.{Proper, tag-below, image-header-word}
 use Rattle.edit_model.proofs.Along.{label-of-place}
 use Rattle.edit_model.proofs.Added.{with-tag, one-more, tag-before, added-image, proper-with-tag}
-use Rattle.edit_model.proofs.Plans.{cut-low}
+use Rattle.edit_model.proofs.Plans.{cut-low, bound-whole}
 use Rattle.edit_model.proofs.Single.{flat-labels, flat-with}
 use Rattle.edit_model.proofs.Renumbered.{Right, renumbered-words}
 
-module _ (m : Book) (fine : Sane m) (w : ℕ → ℕ) (widths : Widths (m .s) (m .r) w) (p : ℕ) (fits : suc p ≤ size (m .root)) (none : split-of (suc p) m ≡ 0) (low : height m < table-length)
+module _ (m : Book) (fine : Sane m) (w : ℕ → ℕ) (widths : Widths (m .s) (m .r) w) (p : ℕ) (fits : suc p ≤ size (m .root)) (none : split-of (suc p) m ≡ 0) (low : height m < table-length) (narrow : w (height m) < label-limit)
     {v : Image} (h : Proper v) (few : suc (length (v .facts)) ≤ most-tags) (tags-are : v .tags ≡ tags m) (labels-are : v .labels ≡ labels-of w m)
     (table : List ℕ) (wide : (i : ℕ) → i ≤ m .under → entry table i ≡ w i) (next-wide : entry table 1 ≡ w 1)
     (u : Fact) (rest : List ℕ) where
@@ -83,8 +84,8 @@ module _ (m : Book) (fine : Sane m) (w : ℕ → ℕ) (widths : Widths (m .s) (m
   cuts : Cut 0 (q .bound) (w (height m)) (d .before ++ (d .old ++ d .beside)) (d .after)
   unfolding plain-plan
   cuts =
-      rw (numbers-are, next-wide, numbers-whole m widths fine table (suc p) fits wide low 1 (omega arith) (omega arith))
-      (rw unsplit at (cut-flat widths fine fits d (omega (arith, unsplit))))
+      let all = rw unsplit at (cut-flat widths fine fits d (omega (arith, unsplit))) in
+      rw (numbers-are, next-wide, numbers-whole m widths fine table (suc p) fits wide low 1 (omega arith) (omega arith), bound-whole _ _ (d .after) (all .1) narrow) all
 
   -- THE PLAN IS RIGHT on the words with the tag
   old-one : length (insert-at (d .offset) (no-tag ∷ []) (d .old)) ≡ 1
@@ -95,7 +96,9 @@ module _ (m : Book) (fine : Sane m) (w : ℕ → ℕ) (widths : Widths (m .s) (m
 
   number-is : q .number ≡ d .number
   unfolding plain-plan
-  number-is = rw (is-tag, own-label, wide 0 (omega arith)) (ap (λ (ls : List ℕ). getD ls p 0 + w 0) (labels-whole w m) ∙ sym (d .next unsplit p refl))
+  number-is =
+      rw (is-tag, own-label, wide 0 (omega arith), cut-below (getD (labels-of w m) p 0 + w 0) (omega (arith, label-within widths fine p fits, narrow)))
+      (ap (λ (ls : List ℕ). getD ls p 0 + w 0) (labels-whole w m) ∙ sym (d .next unsplit p refl))
 
   right : Right (with-tag (suc p) u v) table w (m .r) q (d .before) (insert-at (d .offset) (no-tag ∷ []) (d .old)) (d .new) (d .beside) (d .after) (d .shift)
   unfolding with-tag insert-at plain-plan

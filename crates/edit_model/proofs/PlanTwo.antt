@@ -28,7 +28,7 @@ use Rattle.calls_laws.proofs.Tests.{sane}
 use Rattle.edit_model.specs.Split.{left-border}
 use Rattle.edit_model.specs.Insert.{Plan, numbers-at, plain-plan, root-plan, split-plan, plan, plan-of}
 use Rattle.edit_model.proofs.Splits.{Highest, Fills, second-split-of}
-use Rattle.edit_model.proofs.Plans.{place-tag, numbers-before, height-found, planned, cut-low, sound-said, widths-right, highs-right, numbers-said, plan-said, size-said, number-right, left-said, found-highest}
+use Rattle.edit_model.proofs.Plans.{place-tag, numbers-before, height-found, planned, cut-low, bound-whole, sound-said, narrow-said, widths-right, highs-right, numbers-said, plan-said, size-said, number-right, left-said, found-highest}
 
 module _ (ws : List ℕ) (st : Store) (says : Says ws st) (p : ℕ) (fits : p ≤ count st) where
   abbrev k : Book
@@ -156,12 +156,13 @@ module _ (ws : List ℕ) (st : Store) (says : Says ws st) (p : ℕ) (fits : p �
       }))
       (λ t same low.
       let cuts = bound-cuts-two low in
+      let whole-bound = bound-whole _ _ (d .after) (cuts .1) (narrow-said ws st says) in
       rw (t, same, ne-eqb (suc h) 0 (λ i. omega arith), numbers-said ws st says p fits) (record {
         height-is = refl;
         left-is = left-said ws st says p fits (suc h) (omega arith) (omega arith) ∙ rw (d .left-is);
         number-is = number-right ws st says p fits (suc h) (omega arith) (omega arith) ∙ d .number-is;
         count-is = highs-right ws st says (suc h) (omega arith);
         by-is = λ l. rw (widths-right ws st says (suc h) (omega arith));
-        low = cut-low _ _ _ (d .before) (labels (d .under) (width st) h (d .number)) (d .beside) (d .after) cuts;
-        stop = rising-from _ _ (d .after) (cuts .1) 0;
+        low = rw whole-bound (cut-low _ _ _ (d .before) (labels (d .under) (width st) h (d .number)) (d .beside) (d .after) cuts);
+        stop = rw whole-bound (rising-from _ _ (d .after) (cuts .1) 0);
       })))

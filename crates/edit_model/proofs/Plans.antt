@@ -3,27 +3,30 @@ use mathlib.Core.Path.{_≡_, refl, ap, sym, _∙_}
 use mathlib.Core.Bool.{true, false, cond}
 use mathlib.Core.List.{List, _∷_, _++_}
 use Prim.Native.Nat.{ℕ, zero, suc, _+_, _*_, _-_, _^_, _≤_, _<_}
+use native.Mathlib.Nat.{le-refl}
 use native.Mathlib.Omega.{arith}
 use borrow.Author.Tests.{le-ltb, lt-ltb, eq-eqb, ne-eqb, eqb-true, eqb-false}
 use lib.Dec.{eqb}
 use lib.ListN.{length, getD, replicate, length-append, List·getD-append, List·getD-eq-default}
 use lib.Seq.{getD-append-add}
-use Rattle.store_types.specs.Limits.{no-tag}
+use Rattle.store_types.specs.Limits.{no-tag, label-limit}
 use Rattle.store_types.specs.Layout.{label-at}
 use Rattle.lists.proofs.Tests.{by-test}
 use Rattle.shape.specs.Tables.{entry, widths-of, highs-of, table-length}
+use Rattle.shape.specs.Sums.{cut}
+use Rattle.shape.proofs.Sums.{cut-below}
 use Rattle.tree.specs.Good.{Good}
 use Rattle.tree.specs.Forest.{Forest, nil, leaf, node, leaves, size, labels, split-height}
 use Rattle.tree.specs.Book.{height, labels-of, root-full, split-of}
 use Rattle.tree.specs.Reach.{left-in, size-in}
 use Rattle.tree_laws.proofs.Rows.{member-getD}
 use Rattle.tree_laws.proofs.Spread.{some-power}
-use Rattle.tree_laws.proofs.Labels.{length-labels, rising-from, rising-below}
+use Rattle.tree_laws.proofs.Labels.{length-labels, Rising, rising-order, rising-from, rising-below}
 use Rattle.tree_laws.proofs.Insertion.{rooted, root-at-limit, split-of-split, split-of-inside}
 use Rattle.tree_laws.proofs.Ancestors.{number-in, at-here, at-inside}
 use Rattle.tree_laws.proofs.Flat.{Piece, Flat, split-at-most}
 use Rattle.tree_laws.proofs.Root.{whole, labels-whole, split-flat}
-use Rattle.tree_laws.proofs.Border.{Cut, cut-flat}
+use Rattle.tree_laws.proofs.Border.{Cut, cut-flat, label-within}
 use Rattle.calls.specs.Store.{Store, count, row, width}
 use Rattle.calls.specs.Words.{Says}
 use Rattle.calls_laws.proofs.Widths.{store-widths}
@@ -91,6 +94,10 @@ parts-of st p x d =
     let k = st .book in
     omega (arith, simp length-append at (ap length (labels-whole (width st) k ∙ d .was)), length-labels (k .root) (width st) (k .under) 0)
 
+-- a bound within the width of a root that a label can hold is a sum that is not cut
+pub bound-whole : (c e : ℕ) (behind : List ℕ) → Rising c e behind → e < label-limit → cut c ≡ c
+bound-whole c e ls rising narrow = cut-below c (omega (arith, rising-order c e ls rising))
+
 -- where labels are cut, those just before the cut are below it and the first behind it is not
 pub cut-low : (a c e : ℕ) (xs ys zs ts : List ℕ) → Cut a c e (xs ++ (ys ++ zs)) ts → (i : ℕ) → i < length zs → getD zs i 0 < c
 cut-low a c e xs ys zs ts cut i l =
@@ -117,6 +124,10 @@ module _ (ws : List ℕ) (st : Store) (says : Says ws st) where
   pub widths-right : (h : ℕ) → h ≤ height (st .book) → entry (widths-of ws) h ≡ width st h
   unfolding shape-of
   widths-right h l = tables-said .widths h l
+
+  -- a label can hold where the root ends
+  pub narrow-said : width st (height (st .book)) < label-limit
+  narrow-said = tables-said .narrow (height (st .book)) (le-refl (height (st .book)))
 
   pub highs-right : (h : ℕ) → h ≤ height (st .book) → entry (highs-of ws) h ≡ st .book .s * st .book .r ^ h
   unfolding shape-of
@@ -161,9 +172,11 @@ module _ (ws : List ℕ) (st : Store) (says : Says ws st) where
 
   -- the label right behind it
   pub next-number : (p n : ℕ) → p ≤ count st → (p ≡ 0 → n ≡ 0) → ((q : ℕ) → p ≡ suc q → n ≡ getD (labels-of (width st) (st .book)) q 0 + width st 0) →
-      cond (eqb (place-tag st p) no-tag) 0 (label-at ws (place-tag st p) + entry (widths-of ws) 0) ≡ n
+      cond (eqb (place-tag st p) no-tag) 0 (cut (label-at ws (place-tag st p) + entry (widths-of ws) 0)) ≡ n
   next-number zero n fits front next = sym (front refl)
-  next-number (suc q) n fits front next = rw (is-tag q fits, label-said q fits, widths-right 0 (omega arith)) (sym (next q refl))
+  next-number (suc q) n fits front next =
+      let room = label-within (store-widths st) (sane sound-said) q (omega (arith, sound-said .as-many)) in
+      rw (is-tag q fits, label-said q fits, widths-right 0 (omega arith)) (cut-below _ (omega (arith, narrow-said)) ∙ sym (next q refl))
 
   module _ (p : ℕ) (fits : p ≤ count st) where
     pub numbers-said : numbers-at ws (widths-of ws) (st .book .under) (place-tag st p) ≡ numbers-before ws st p
@@ -250,8 +263,8 @@ module _ (ws : List ℕ) (st : Store) (says : Says ws st) where
                 next-number p (d .number) fits (d .front) (λ q e. d .next none q e ∙ rw (← labels-whole (width st) k));
             count-is = rw (piece .1);
             by-is = λ l. widths-right 0 (omega arith) ∙ sym (piece .3);
-            low = rw numbers-said (cut-low _ _ _ (d .before) (d .old) (d .beside) (d .after) cuts);
-            stop = rw numbers-said (rising-from _ _ (d .after) (cuts .1) 0);
+            low = rw (numbers-said, bound-whole _ _ (d .after) (cuts .1) narrow-said) (cut-low _ _ _ (d .before) (d .old) (d .beside) (d .after) cuts);
+            stop = rw (numbers-said, bound-whole _ _ (d .after) (cuts .1) narrow-said) (rising-from _ _ (d .after) (cuts .1) 0);
           }
 
       -- BELOW THE ROOT: the height that is found is that of the split
@@ -282,8 +295,8 @@ module _ (ws : List ℕ) (st : Store) (says : Says ws st) where
               number-is = number-right (d .height) (omega arith) (omega (arith, at-most)) ∙ rw e (d .number-is h e);
               count-is = rw (highs-right (d .height) (omega (arith, at-most)), e, ← piece .limit, old);
               by-is = λ l. rw (widths-right (d .height) (omega (arith, at-most)), e) (sym (piece .shift-is));
-              low = cut-low _ _ _ (d .before) (d .old) (d .beside) (d .after) cuts;
-              stop = rising-from _ _ (d .after) (cuts .1) 0;
+              low = rw (bound-whole _ _ (d .after) (cuts .1) narrow-said) (cut-low _ _ _ (d .before) (d .old) (d .beside) (d .after) cuts);
+              stop = rw (bound-whole _ _ (d .after) (cuts .1) narrow-said) (rising-from _ _ (d .after) (cuts .1) 0);
             }
 
       -- THE PLAN OF ONE TAG

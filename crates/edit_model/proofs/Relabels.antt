@@ -14,7 +14,7 @@ use Rattle.store_types.specs.Layout.{at-next, field, label-at, with-label}
 use Rattle.tree.specs.Forest.{Forest, nil, leaf, node, labels}
 use Rattle.edit_model.specs.Image.{Image, image-words, with-labels}
 use Rattle.shape.specs.Sums.{cut}
-use Rattle.shape.proofs.Sums.{cut-below, cut-twice, cut-added}
+use Rattle.shape.proofs.Sums.{cut-below}
 use Rattle.edit_model.specs.Relabel.{relabel, shift}
 use Rattle.edit_model.proofs.Image.{Proper, proper-with-labels, tag-below, label-written}
 use Rattle.edit_model.proofs.Along.{label-of-place, next-at}
@@ -79,25 +79,6 @@ module _ {v : Image} (h : Proper v) (rest ls : List ℕ) (i k : ℕ) (many : len
 
   pub relabel-moved : relabel (take k (drop i (v .tags))) ls (image-words v ++ rest) .moved ≡ differ (take k (drop i (v .labels))) ls
   relabel-moved = rw (← many, relabel-sets h rest ls i (omega arith))
-
--- LABELS AS WORDS: where all of a list fit they are as they were
-pub cut-all : (ls : List ℕ) → ((i : ℕ) → i < length ls → getD ls i 0 < word-limit) → map cut ls ≡ ls
-cut-all [] small = refl
-cut-all (l ∷ ls) small = rw (cut-below l (small 0 (omega arith)), cut-all ls (λ i n. small (suc i) (omega arith)))
-
--- numbers of which the same is left, with the same added, and the labels from them
-cut-add : (a c d : ℕ) → cut a ≡ cut c → cut (a + d) ≡ cut (c + d)
-cut-add a c d e = sym (cut-added a d) ∙ ap (λ (n : ℕ). cut (n + d)) e ∙ cut-added c d
-
-labels-alike : (f : Forest) (w : ℕ → ℕ) (j a c : ℕ) → cut a ≡ cut c → map cut (labels f w j a) ≡ map cut (labels f w j c)
-unfolding labels
-labels-alike nil w j a c e = refl
-labels-alike (leaf x f) w j a c e = rw (e, labels-alike f w j (a + w j) (c + w j) (cut-add a c (w j) e))
-labels-alike (node g f) w j a c e =
-    simp (map-append, labels-alike g w (pred j) a c e, labels-alike f w j (a + w j) (c + w j) (cut-add a c (w j) e))
-
-pub labels-cut : (f : Forest) (w : ℕ → ℕ) (j a : ℕ) → map cut (labels f w j (cut a)) ≡ map cut (labels f w j a)
-labels-cut f w j a = labels-alike f w j (cut a) a (cut-twice a)
 
 -- LABELS RAISED BY d from place i on, as long as they are below b: those up to place m
 pub record Stretch (ls : List ℕ) (i m b d : ℕ) : Type 0 where

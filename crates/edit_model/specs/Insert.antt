@@ -60,9 +60,9 @@ plain-plan ws w u y =
     record {
       height = 0;
       left = y;
-      number = cond (eqb y no-tag) 0 (label-at ws y + entry w 0);
+      number = cond (eqb y no-tag) 0 (cut (label-at ws y + entry w 0));
       count = 1;
-      bound = entry ns 1 + entry w 1;
+      bound = cut (entry ns 1 + entry w 1);
       by = entry w 0;
     }
 
@@ -77,7 +77,7 @@ split-plan s w hi ns h x =
       left = x;
       number = entry ns h;
       count = entry hi h;
-      bound = entry ns (suc h) + entry w (suc h);
+      bound = cut (entry ns (suc h) + entry w (suc h));
       by = (s - 1) * entry w h;
     }
 

@@ -20,7 +20,7 @@ use Rattle.edit_model.specs.Relabel.{Relabelled, shift}
 use Rattle.edit_model.specs.Split.{highest-full, left-border}
 use Rattle.words.specs.Places.{behind}
 use Rattle.edit_model.specs.Insert.{Plan, numbers-at, plain-plan, root-plan, split-plan, plan, applied}
-use Rattle.edit_model.proofs.Relabels.{labels-cut}
+use Rattle.shape.proofs.Sums.{labels-cut}
 use Rattle.edit_model.proofs.Kept.{relabel-header}
 use Rattle.renumber.specs.Needs.{issued, trees-numbered, Row-numbered}
 use Rattle.renumber.proofs.Parts.{trees-moved}
@@ -32,9 +32,9 @@ module _ (ws : List ℕ) (y : ℕ) {t : Bool} (e : t ≡ eqb y no-tag) where
   unfolding next-label
   next-front v p = rw (← e, p)
 
-  pub next-tag : {l : ℕ} (v : ℕ) → t ≡ false → l ≡ label-at ws y → l + v ≡ next-label ws y v
+  pub next-tag : {l q : ℕ} (v : ℕ) → t ≡ false → l ≡ label-at ws y → q ≡ cut (l + v) → q ≡ next-label ws y v
   unfolding next-label
-  next-tag v p q = rw (← e, p, q)
+  next-tag v p own made = rw (← e, p) (made ∙ rw own)
 
 -- THE HEIGHT of a split is below the root
 height-under : (hi sz : List ℕ) (k m h q t : ℕ) → q ≤ t → m + h ≤ suc t → highest-full hi sz k m h q ≤ t
@@ -49,10 +49,10 @@ pub split-under : (hi sz : List ℕ) (k u : ℕ) → highest-full hi sz k u 1 0 
 split-under hi sz k u = height-under hi sz k u 1 0 u (omega arith) (omega arith)
 
 -- EACH PLAN
-pub plain-made : (ws w : List ℕ) (u y : ℕ) {a b c v : ℕ} → a ≡ entry (numbers-at ws w u y) 1 → b ≡ entry w 0 → c ≡ entry w 1 → v ≡ next-label ws y b →
-    _≡_ {A = Plan} (record { height = 0; left = y; number = v; count = 1; bound = a + c; by = b }) (plain-plan ws w u y)
+pub plain-made : (ws w : List ℕ) (u y : ℕ) {a b c v end : ℕ} → a ≡ entry (numbers-at ws w u y) 1 → b ≡ entry w 0 → c ≡ entry w 1 → v ≡ next-label ws y b → end ≡ cut (a + c) →
+    _≡_ {A = Plan} (record { height = 0; left = y; number = v; count = 1; bound = end; by = b }) (plain-plan ws w u y)
 unfolding plain-plan next-label
-plain-made ws w u y parent width next e = rw (e, parent, width, next)
+plain-made ws w u y parent width next e bound = rw (bound, e, parent, width, next)
 
 pub inner-plain : (ws : List ℕ) (s : ℕ) (w hi : List ℕ) (n u h y : ℕ) {p : Plan} → h ≡ 0 → p ≡ plain-plan ws w u y → p ≡ inner-plan ws s w hi n u h y
 unfolding inner-plan
@@ -64,10 +64,10 @@ pub inner-split : (ws : List ℕ) (s : ℕ) (w hi ns : List ℕ) (n u h y : ℕ)
 unfolding inner-plan
 inner-split ws s w hi ns n u h y numbers z e f = f ∙ rw (e, ne-eqb h 0 z, numbers)
 
-pub split-made : (w hi ns : List ℕ) (h x : ℕ) {s a b c d e : ℕ} → s ≡ entry hi 0 → a ≡ entry ns (h + 1) → b ≡ entry w (h + 1) → c ≡ entry ns h → d ≡ entry hi h → e ≡ entry w h →
-    _≡_ {A = Plan} (record { height = h; left = x; number = c; count = d; bound = a + b; by = (s - 1) * e }) (split-plan (entry hi 0) w hi ns h x)
+pub split-made : (w hi ns : List ℕ) (h x : ℕ) {s a b c d e end : ℕ} → s ≡ entry hi 0 → a ≡ entry ns (h + 1) → b ≡ entry w (h + 1) → c ≡ entry ns h → d ≡ entry hi h → e ≡ entry w h → end ≡ cut (a + b) →
+    _≡_ {A = Plan} (record { height = h; left = x; number = c; count = d; bound = end; by = (s - 1) * e }) (split-plan (entry hi 0) w hi ns h x)
 unfolding split-plan
-split-made w hi ns h x degree next next-width number limit width = rw (degree, next, next-width, number, limit, width, add-one)
+split-made w hi ns h x degree next next-width number limit width bound = rw (bound, degree, next, next-width, number, limit, width, add-one)
 
 module _ (ws : List ℕ) (s : ℕ) (w hi sz : List ℕ) (n k top y : ℕ) (some : 1 ≤ top) where
   one-higher : suc (pred top) ≡ top

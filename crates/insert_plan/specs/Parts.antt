@@ -6,6 +6,7 @@ use lib.Dec.{eqb}
 use Rattle.store_types.specs.Limits.{no-tag}
 use Rattle.store_types.specs.Layout.{label-at}
 use Rattle.shape.specs.Tables.{entry}
+use Rattle.shape.specs.Sums.{cut}
 use Rattle.edit_model.specs.Split.{left-border}
 use Rattle.edit_model.specs.Insert.{Plan, numbers-at, plain-plan, split-plan}
 use Rattle.insert_plan.specs.declared.Plan as code
@@ -16,7 +17,7 @@ plan-record p = record { height = p .height; left = p .left .0; number = p .numb
 
 -- the number behind a place
 unfoldable pub next-label : List ℕ → (place width : ℕ) → ℕ
-next-label ws y v = cond (eqb y no-tag) 0 (label-at ws y + v)
+next-label ws y v = cond (eqb y no-tag) 0 (cut (label-at ws y + v))
 
 -- the plan where the root does not come to its limit: the ancestor of height h is split, or none where that is 0
 unfoldable pub inner-plan : List ℕ → (s : ℕ) → (widths highs : List ℕ) → (n under h place : ℕ) → Plan

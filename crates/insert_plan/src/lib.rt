@@ -32,7 +32,7 @@ fn next_label(words: &[u32], place: TagId, width: u64) -> u64
     if place.is_none() {
         return 0;
     }
-    words::label_of(words, place).0 as u64 + width
+    shape::sum(words::label_of(words, place).0 as u64, width)
 }
 
 // No split: one tag right behind the place, and its right siblings are shifted; `parent` is the number of their parent.
@@ -47,7 +47,7 @@ pub fn plain_plan(words: &[u32], place: TagId, parent: u64, tables: &[u64; PACKE
         left: place,
         number,
         count: 1,
-        bound: parent + shape::tables::width(tables, 1),
+        bound: shape::sum(parent, shape::tables::width(tables, 1)),
         by: width,
     }
 }
@@ -59,7 +59,7 @@ fn split_plan(h: usize, left: TagId, tables: &[u64; PACKED_LENGTH]) -> Plan
     ensures { λ p. ⌜ plan-record p ≡ split-plan (s-in (now (tables .entry))) (widths-in (now (tables .entry))) (highs-in (now (tables .entry))) (numbers-in (now (tables .entry))) h (left .0) ⌝ }
 {
     let s = shape::tables::high(tables, 0);
-    let end = shape::tables::number(tables, h + 1) + shape::tables::width(tables, h + 1);
+    let end = shape::sum(shape::tables::number(tables, h + 1), shape::tables::width(tables, h + 1));
     Plan {
         height: h,
         left,

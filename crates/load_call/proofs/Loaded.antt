@@ -29,7 +29,7 @@ use Rattle.calls_laws.proofs.Steps.{Load-accepted}
 use Rattle.edit_model.specs.Image.{image-words, image-of}
 use Rattle.edit_model.proofs.Image.{image-is}
 use Rattle.edit_model.proofs.Applied.{labels-widths}
-use Rattle.edit_model.proofs.Relabels.{cut-all}
+use Rattle.shape.proofs.Sums.{cut-all}
 use Rattle.load_refuse.proofs.Height.{leaves-enough}
 use Rattle.load_tags.specs.Tags.{labels-new, Trees-fit}
 use Rattle.load_call.proofs.Fresh.{fresh}

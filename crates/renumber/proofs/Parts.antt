@@ -14,9 +14,9 @@ use Rattle.tree_laws.proofs.Spread.{parts-none, parts-one, parts-more, spread-s
 use Rattle.calls.specs.Words.{follow}
 use Rattle.shape.specs.Packed.{lows-in, r-in}
 use Rattle.shape.specs.Sums.{cut}
-use Rattle.shape.proofs.Sums.{cut-small}
+use Rattle.shape.proofs.Sums.{cut-small, labels-cut}
 use Rattle.edit_model.specs.Relabel.{Relabelled, relabel, along}
-use Rattle.edit_model.proofs.Relabels.{relabel-append-words, relabel-append-moved, labels-cut}
+use Rattle.edit_model.proofs.Relabels.{relabel-append-words, relabel-append-moved}
 use Rattle.renumber.specs.Needs.{Row-there, Trees-fit, Row-numbered, Part-size, leaves-numbered, trees-numbered}
 use Rattle.renumber.proofs.Rows.{Same-next, follow-same, relabel-keeps-next, length-follow, take-follow, drop-follow, relabel-none, follow-add, moved-most, leaf-widths, On-way, on}
 

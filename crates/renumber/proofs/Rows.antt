@@ -14,9 +14,8 @@ use Rattle.words.proofs.Fields.{room-same, field-past-label, length-with-label}
 use Rattle.tree.specs.Forest.{labels, leaf-row}
 use Rattle.calls.specs.Words.{follow}
 use Rattle.shape.specs.Sums.{cut}
-use Rattle.shape.proofs.Sums.{cut-small, cut-below}
+use Rattle.shape.proofs.Sums.{cut-small, cut-below, labels-cut}
 use Rattle.edit_model.specs.Relabel.{Relabelled, relabel, along}
-use Rattle.edit_model.proofs.Relabels.{labels-cut}
 use Rattle.renumber.specs.Needs.{Row-there, Row-numbered, leaves-numbered}
 
 -- THE ROW is the same by words in which each tag has the same next

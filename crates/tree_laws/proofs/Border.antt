@@ -7,7 +7,7 @@ use native.Mathlib.Nat.{le-refl, zero-add}
 use native.Mathlib.Omega.{arith}
 use borrow.Author.Tests.{eqb-true, eqb-false}
 use lib.Dec.{eqb}
-use lib.ListN.{length, take, drop, length-append}
+use lib.ListN.{length, take, drop, getD, length-append}
 use lib.Seq.{take-at, drop-at}
 use Rattle.lists.proofs.Tests.{by-test}
 use Rattle.tree.specs.Forest.{nil, size, labels}
@@ -15,7 +15,7 @@ use Rattle.tree.specs.Book.{Book, height, labels-of}
 use Rattle.tree.specs.Reach.{left-in, size-in}
 use Rattle.tree.specs.Promise.{Widths, Sane}
 use Rattle.tree_laws.proofs.Insertion.{rooted, empty-low}
-use Rattle.tree_laws.proofs.Labels.{Rising, rising-higher, rising-append, node-rising, children-fit, length-labels}
+use Rattle.tree_laws.proofs.Labels.{Rising, rising-higher, rising-append, node-rising, children-fit, length-labels, label-room}
 use Rattle.tree_laws.proofs.Ancestors.{number-in, found, at-here, at-inside}
 use Rattle.tree_laws.proofs.Flat.{Flat}
 use Rattle.tree_laws.proofs.Root.{whole, labels-whole}
@@ -33,6 +33,16 @@ Cut a c e front back = Rising a c front × Rising c e back
 
 cut-alike : (a c e : ℕ) (xs ys us vs : List ℕ) → xs ++ ys ≡ us ++ vs → length xs ≡ length us → Cut a c e us vs → Cut a c e xs ys
 cut-alike a c e xs ys us vs q n cut = rw (same-front xs ys us vs q n, same-back xs ys us vs q n) cut
+
+-- A LEAF MORE has room behind each of a book's labels
+pub label-within : {w : ℕ → ℕ} {k : Book} → Widths (k .s) (k .r) w → Sane k → (i : ℕ) → i < size (k .root) → getD (labels-of w k) i 0 + w 0 ≤ w (height k)
+label-within {w} {k} widths sane i inside =
+    let own = rooted k sane in
+    omega (
+      arith,
+      label-room (sane .s-least) (sane .r-least) widths (k .root) (k .under) 0 (own .good) i inside,
+      children-fit (sane .s-least) (sane .r-least) widths (k .root) (k .under) (own .good) (own .high),
+    )
 
 -- ANY CUT of a book's labels, by how many stand before it
 module _ {w : ℕ → ℕ} (p : ℕ) {k : Book} (widths : Widths (k .s) (k .r) w) (sane : Sane k) (fits : p ≤ size (k .root))

@@ -3,13 +3,14 @@
 use mathlib.Core.Path.{_≡_, refl, ap, sym}
 use mathlib.Core.Bool.{Bool, true, false}
 use mathlib.Core.List.{List, [], _∷_, _++_, map, append-assoc, map-append}
-use Prim.Native.Nat.{ℕ, zero, suc, pred, _+_, _*_, _^_, _≤_, _<_}
-use native.Mathlib.Nat.{suc-mul, mul-assoc, pow-succ', pow-zero, mul-le-mul, mul-le-mul-right, lt-of-mul-lt-mul-right, le-refl, le-of-eq, zero-add, add-right-comm}
+use Prim.Native.Nat.{ℕ, zero, suc, pred, _+_, _*_, _-_, _^_, _≤_, _<_}
+use native.Mathlib.Nat.{suc-mul, mul-assoc, pow-succ', pow-zero, mul-le-mul, mul-le-mul-right, lt-of-mul-lt-mul-right, le-refl, le-of-eq, zero-add, suc-add, add-right-comm}
 use native.Mathlib.Omega.{arith}
 use borrow.Author.Tests.{lt-ltb, le-ltb, ltb-true, ltb-false}
 use lib.Dec.{ltb}
-use lib.ListN.{length, getD, length-append}
-use Rattle.lists.proofs.Tests.{and-left, and-right, and-both}
+use lib.ListN.{length, getD, length-append, List·getD-append}
+use lib.Seq.{getD-append-add}
+use Rattle.lists.proofs.Tests.{and-left, and-right, and-both, by-test}
 use Rattle.tree.specs.Good.{Good}
 use Rattle.tree.specs.Row.{rises}
 use Rattle.tree.specs.Forest.{Forest, nil, leaf, node, leaves, size, labels, joined, within-limits}
@@ -123,6 +124,11 @@ module _ {s r : ℕ} {w : ℕ → ℕ} (s-least : 2 ≤ s) (r-least : 2 ≤ r) (
   width-least zero = widths .first
   width-least (suc j) = omega (arith, mul-le-mul base-least (width-least j), widths .grows j)
 
+  -- no width is more than a higher one
+  pub width-rises : (d j : ℕ) → w j ≤ w (d + j)
+  width-rises zero j = rw zero-add (le-refl (w j))
+  width-rises (suc d) j = rw suc-add (omega (arith, width-rises d j, mul-le-mul-right (w (d + j)) base-least, widths .grows (d + j)))
+
   -- a node's children fit into its width
   pub children-fit : (g : Forest) (j : ℕ) → Good s r g j → size g < s * r ^ suc j → trees g * w j ≤ w (suc j)
   children-fit g j h l = omega (arith, mul-le-mul-right (w j) (trees-base s r g j h l), widths .grows j)
@@ -151,6 +157,26 @@ module _ {s r : ℕ} {w : ℕ → ℕ} (s-least : 2 ≤ s) (r-least : 2 ≤ r) (
 
   pub label-below : (f : Forest) (j a : ℕ) → Good s r f j → (i : ℕ) → i < size f → getD (labels f w j a) i 0 < a + trees f * w j
   label-below f j a h i n = rising-below a _ (labels f w j a) (good-rising f j a h) i (omega (arith, length-labels f w j a))
+
+  -- and a leaf more has room behind each
+  pub label-room : (f : Forest) (j a : ℕ) → Good s r f j → (i : ℕ) → i < size f → getD (labels f w j a) i 0 + w 0 ≤ a + trees f * w j
+  unfolding labels leaves
+  label-room nil j a h i n = absurd (omega arith)
+  label-room (leaf x f) zero a h zero n = omega (arith, suc-mul (trees f) (w 0))
+  label-room (leaf x f) zero a h (suc i) n = rw next-end at (label-room f zero (a + w 0) h i (omega arith))
+  label-room (leaf x f) (suc j) a h i n = absurd h
+  label-room (node g f) zero a h i n = absurd h
+  label-room (node g f) (suc j) a h i n =
+      let own = length-labels g w j a in
+      by-test (ltb i (size g))
+      (λ t.
+      let inside = ltb-true i (size g) t in
+      rw (List·getD-append (labels g w j a) (labels f w (suc j) (a + w (suc j))) 0 i (omega arith))
+      (omega (arith, label-room g j a (h .2) i inside, children-fit g j (h .2) (h .1), suc-mul (trees f) (w (suc j)))))
+      (λ t.
+      let e : i ≡ length (labels g w j a) + (i - size g) = omega (arith, ltb-false i (size g) t) in
+      rw (e, getD-append-add (labels g w j a) (labels f w (suc j) (a + w (suc j))) _ 0)
+      (rw next-end at (label-room f (suc j) (a + w (suc j)) (h .3) (i - size g) (omega (arith, length-append (leaves g) (leaves f))))))
 
 -- labels rise strictly below the width of H
 pub labels-rise : Labels-rise

@@ -23,6 +23,7 @@ use Rattle.walk_tags.specs.Needs.{Open, none, begin, Tag-reads, fits-at, marks-
 use Rattle.walk_tags.proofs.TagLaws.{kind-fitting, begin-of, open-cases}
 use Rattle.walk_tags.proofs.TestLaws.{fits-small, inner-up}
 use Rattle.shape.specs.Packed.{widths-in, lows-in, highs-in, numbers-in}
+use Rattle.shape.specs.Sums.{cut}
 use Rattle.walk_levels.specs.Needs.{tables-of, levels-of, settle-from, place-from, close-from, expected-label}
 use Rattle.walk_levels.proofs.LevelLaws.{place-waited, place-settled}
 use Rattle.walk_levels.proofs.SizeLaws.{place-sizes-waited, place-sizes-settled}
@@ -114,7 +115,7 @@ module _ (ws t : List ℕ) (n u : ℕ) (v : code.State) (e f : List ℕ) where
 
 -- behind it
 module _ (ws t : List ℕ) (n u : ℕ) (v q : code.State) (e f e′ f′ : List ℕ) (fits : Pass-fits ws n u t) (below : v .tag .0 < n) where
-  next-behind : label-due ws (v .tag .0) ≡ label-at ws (v .tag .0) + 1
+  next-behind : label-due ws (v .tag .0) ≡ cut (label-at ws (v .tag .0) + 1)
   unfolding label-due
   next-behind = rw (ne-eqb (v .tag .0) no-tag (λ z. omega (arith, fits .records .few)))
 

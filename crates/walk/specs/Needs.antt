@@ -13,6 +13,7 @@ use Rattle.words.specs.Offsets.{offset-of}
 use Rattle.walk_model.specs.Walk.{Shape, State, open-after, placed}
 use Rattle.walk_tags.specs.Needs.{Open, marks-at}
 use Rattle.shape.specs.Packed.{widths-in, lows-in, highs-in}
+use Rattle.shape.specs.Sums.{cut}
 use Rattle.walk_levels.specs.Needs.{Tables-fit, tables-of, levels-of, close-from, expected-label}
 use Rattle.walk.specs.declared.State as code
 
@@ -31,7 +32,7 @@ shape-in t u n = shape-with (widths-in t) (lows-in t) (highs-in t) u n
 
 -- the label that comes next behind a tag, or at the front
 unfoldable pub label-due : List ℕ → (prior : ℕ) → ℕ
-label-due ws p = cond (eqb p no-tag) 0 (label-at ws p + 1)
+label-due ws p = cond (eqb p no-tag) 0 (cut (label-at ws p + 1))
 
 -- where the code stands, with the levels that it keeps beside it
 unfoldable pub state-with : List ℕ → code.State → (ends firsts : List ℕ) → State
@@ -64,7 +65,7 @@ pub record Behind (ws : List ℕ) (end : ℕ) (v q : code.State) : Type 0 where
   pub prior : q .prior .0 ≡ v .tag .0
   pub parent : q .parent .0 ≡ open-after ws (v .parent .0) (v .tag .0) (field ws (v .tag .0) at-kind)
   pub marks : q .marks ≡ marks-at ws (v .tag .0) (v .marks)
-  pub expect : q .expect ≡ expected-label (label-at ws (v .tag .0) + 1) end
+  pub expect : q .expect ≡ expected-label (cut (label-at ws (v .tag .0) + 1)) end
 
 unfoldable pub start-with : (words widths : List ℕ) → State
 start-with ws w =

@@ -14,6 +14,7 @@ use lib.ListN.{getD, set}
 use Rattle.walk_model.specs.Levels.{Levels, Settled, closes, settle, place-label, all-close}
 use Rattle.store_types.specs.Limits.{label-limit}
 use Rattle.shape.specs.Packed.{widths-in, lows-in, highs-in}
+use Rattle.shape.specs.Sums.{cut}
 use Rattle.walk_levels.specs.Needs.{Levels-fit, Tables-fit, tables-of, levels-of, closes-from, settle-from, place-from, close-from, expected-label}
 
 -- what is asked of the tables at a height that is no higher
@@ -82,7 +83,7 @@ module _ (w lo hi : List ℕ) (under l i : ℕ) where
     unfolding settle closes-from closes levels-of tables-of
     settle-fails p q r s = settled (sym inv ∙ rw (left-more under h p, le-ltb l (getD e h 0) q, sym r ∙ not-true _ s))
 
-    pub settle-more : {t : Bool} → h ≤ under → getD e h 0 ≤ l → t ≡ closes-from lo hi h (getD f h 0) i → not t ≡ false → settle-at (h + 1) (eqb (getD e h 0) l) (set e h (l + getD w h 0)) (set f h i) ≡ whole
+    pub settle-more : {t : Bool} → h ≤ under → getD e h 0 ≤ l → t ≡ closes-from lo hi h (getD f h 0) i → not t ≡ false → settle-at (h + 1) (eqb (getD e h 0) l) (set e h (cut (l + getD w h 0))) (set f h i) ≡ whole
     unfolding settle closes-from closes levels-of tables-of
     settle-more p q r s = rw (left-more under h p, le-ltb l (getD e h 0) q, sym r ∙ not-false _ s, ← add-one h) at inv
 

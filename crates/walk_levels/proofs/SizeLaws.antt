@@ -11,6 +11,7 @@ use lib.Dec.{eqb}
 use lib.ListN.{getD, set}
 use Rattle.walk_model.specs.Watch.{taken, settle-sizes, place-sizes, close-sizes}
 use Rattle.store_types.specs.Limits.{label-limit}
+use Rattle.shape.specs.Sums.{cut}
 use Rattle.walk_levels.specs.Needs.{levels-of, expected-label}
 use Rattle.walk_levels.proofs.LevelLaws.{left-more, waited-both, waited-not}
 
@@ -20,7 +21,7 @@ never e = absurd (false≢true e)
 
 -- THE SIZE of the node that closes at height h, as the code takes it: q is what stands there afterwards
 module _ (w ns : List ℕ) (h i : ℕ) (e f sz : List ℕ) where
-  taken-by : {q : ℕ} → q ≡ cond (eqb (getD e h 0) (getD ns h 0 + getD w h 0)) (i - getD f h 0) (getD sz h 0) → set sz h q ≡ taken w ns h i (levels-of e f) sz
+  taken-by : {q : ℕ} → q ≡ cond (eqb (getD e h 0) (cut (getD ns h 0 + getD w h 0))) (i - getD f h 0) (getD sz h 0) → set sz h q ≡ taken w ns h i (levels-of e f) sz
   unfolding taken levels-of
   taken-by p = rw p
 
@@ -37,8 +38,8 @@ module _ (w ns : List ℕ) (under l i : ℕ) where
     unfolding settle-sizes levels-of
     sizes-stay p q = rw (left-more under h p, lt-ltb l (getD e h 0) q) at inv
 
-    pub sizes-more : {q : ℕ} → h ≤ under → getD e h 0 ≤ l → q ≡ cond (eqb (getD e h 0) (getD ns h 0 + getD w h 0)) (i - getD f h 0) (getD sz h 0) →
-        settle-sizes-at (h + 1) (set e h (l + getD w h 0)) (set f h i) (set sz h q) ≡ whole
+    pub sizes-more : {q : ℕ} → h ≤ under → getD e h 0 ≤ l → q ≡ cond (eqb (getD e h 0) (cut (getD ns h 0 + getD w h 0))) (i - getD f h 0) (getD sz h 0) →
+        settle-sizes-at (h + 1) (set e h (cut (l + getD w h 0))) (set f h i) (set sz h q) ≡ whole
     unfolding settle-sizes levels-of
     sizes-more p r s = rw (taken-by w ns h i e f sz s) (rw (left-more under h p, le-ltb l (getD e h 0) r, ← add-one h) at inv)
 
@@ -69,7 +70,7 @@ module _ (w ns : List ℕ) (under i : ℕ) (e f : List ℕ) where
   close-sizes-start sz = let q : under + 1 - 1 ≡ under = omega arith in rw q
 
   module _ (h : ℕ) (sz : List ℕ) {whole : List ℕ} (inv : close-sizes-at h sz ≡ whole) where
-    pub close-sizes-more : {q : ℕ} → h ≤ under → q ≡ cond (eqb (getD e h 0) (getD ns h 0 + getD w h 0)) (i - getD f h 0) (getD sz h 0) → close-sizes-at (h + 1) (set sz h q) ≡ whole
+    pub close-sizes-more : {q : ℕ} → h ≤ under → q ≡ cond (eqb (getD e h 0) (cut (getD ns h 0 + getD w h 0))) (i - getD f h 0) (getD sz h 0) → close-sizes-at (h + 1) (set sz h q) ≡ whole
     close-sizes-more p s = rw (taken-by w ns h i e f sz s) (rw (left-more under h p, close-turn, ← add-one h) at inv)
 
     pub close-sizes-end : under < h → sz ≡ whole

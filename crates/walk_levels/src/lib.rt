@@ -9,24 +9,24 @@ ghost use lib.ListN.{getD};
 ghost use Rattle.walk_model.specs.Watch.{settle-sizes, close-sizes};
 ghost use Rattle.shape.specs.Tables.{entry-limit, table-length};
 ghost use Rattle.shape.specs.Packed.{widths-in, lows-in, highs-in, numbers-in};
+ghost use Rattle.shape.specs.Sums.{cut};
 ghost use Rattle.walk_levels.specs.Needs.{Levels-fit, Tables-fit, levels-of, closes-from, settle-from, close-from, expected-label};
 use shape::PACKED_LENGTH;
 use shape::TABLE_LENGTH;
 use store_types::Label;
 
-// Where a node of a height ends that begins at a number. Nothing is cut: where the words say no store, an end may pass every
-// label.
+// Where a node of a height ends that begins at a number.
 fn end_at(begin: u64, h: usize, tables: &[u64; PACKED_LENGTH]) -> u64
     requires { ⌜ (h < table-length) × (begin ≤ entry-limit) × (getD (widths-in (now tables)) h 0 ≤ entry-limit) ⌝ }
-    ensures { λ v. ⌜ v ≡ begin + getD (widths-in (now (tables .entry))) h 0 ⌝ }
+    ensures { λ v. ⌜ v ≡ cut (begin + getD (widths-in (now (tables .entry))) h 0) ⌝ }
 {
-    begin + shape::tables::width(tables, h)
+    shape::sum(begin, shape::tables::width(tables, h))
 }
 
 // Where the watched node of a height ends.
 fn watched_end(tables: &[u64; PACKED_LENGTH], h: usize) -> u64
     requires { ⌜ (h < table-length) × Tables-fit h (now tables) ⌝ }
-    ensures { λ v. ⌜ v ≡ getD (numbers-in (now (tables .entry))) h 0 + getD (widths-in (now (tables .entry))) h 0 ⌝ }
+    ensures { λ v. ⌜ v ≡ cut (getD (numbers-in (now (tables .entry))) h 0 + getD (widths-in (now (tables .entry))) h 0) ⌝ }
 {
     end_at(shape::tables::number(tables, h), h, tables)
 }
@@ -112,8 +112,8 @@ pub fn all_close(
 // The label to come behind a label, in the open node of height 1: a number that no label is where that node ends before it,
 // so that one test finds the next child.
 pub fn expected(label: Label, end: u64) -> u64
-    ensures { λ e. ⌜ e ≡ expected-label (label .0 + 1) end ⌝ }
+    ensures { λ e. ⌜ e ≡ expected-label (cut (label .0 + 1)) end ⌝ }
 {
-    let next = label.0 as u64 + 1;
-    if next < end { next } else { 4294967296 }
+    let next = shape::sum(label.0 as u64, 1);
+    if next < end { next } else { store_types::LABEL_LIMIT }
 }

@@ -12,7 +12,10 @@ use lib.Dec.{ltb, eqb}
 use lib.ListN.{length, length-set}
 use lib.Seq.{getD-set-same, getD-set-other}
 use Rattle.lists.proofs.Tests.{and-left, and-right, by-test}
+use Rattle.store_types.specs.Limits.{label-limit}
 use Rattle.shape.specs.Tables.{entry, table-length}
+use Rattle.shape.specs.Sums.{cut}
+use Rattle.shape.proofs.Sums.{cut-below}
 use Rattle.walk_model.specs.Levels.{Tables, Levels, Settled, closes, settle, place-label}
 use Rattle.walk_model.specs.Watch.{taken, settle-sizes, place-sizes}
 use Rattle.walk_model.proofs.Spine.{opened, settle-stays, settle-higher, settle-fails}
@@ -50,7 +53,7 @@ same-on a b = record { ends = b .ends ∙ a .ends; firsts = b .firsts ∙ a .fir
 
 -- the size at height g where the open node of that height closes
 abbrev pub size-taken : (w : ℕ → ℕ) (ns : List ℕ) (i : ℕ) (v : Levels) (sz : List ℕ) (g : ℕ) → ℕ
-size-taken w ns i v sz g = cond (eqb (entry (v .ends) g) (entry ns g + w g)) (i - entry (v .firsts) g) (entry sz g)
+size-taken w ns i v sz g = cond (eqb (entry (v .ends) g) (cut (entry ns g + w g))) (i - entry (v .firsts) g) (entry sz g)
 
 -- height g under a label l at place i
 pub data Step (w : ℕ → ℕ) (ns : List ℕ) (v z : Levels) (old new : List ℕ) (l i g : ℕ) : Type 0 where
@@ -83,20 +86,28 @@ pub record Open-at (w : ℕ → ℕ) (v : Levels) (g last : ℕ) : Type 0 where
   pub low : number ≤ last
   pub high : last < number + w g
 
--- tables of widths of which each divides the next
+-- tables of widths of which each divides the next, up to the root's, which a label can hold
 pub record Divided (w : ℕ → ℕ) (u : ℕ) (t : Tables) : Type 0 where
   pub fits : u < table-length
   pub wide : (g : ℕ) → g ≤ u → entry (t .widths) g ≡ w g
   pub first : w 0 ≡ 1
   pub divides : (g : ℕ) → w g ∣ w (suc g)
   pub least : (g : ℕ) → 1 ≤ w g
+  pub narrow : w (suc u) < label-limit
 
 -- the end of an open node is a multiple of its width
 end-aligned : {w : ℕ → ℕ} {v : Levels} {g last : ℕ} → Open-at w v g last → w g ∣ entry (v .ends) g
 end-aligned {w} {v} {g} o = rw (o .end-is) (dvd-add _ (o .aligned) (dvd-refl (w g)))
 
 module _ {w : ℕ → ℕ} {u : ℕ} {t : Tables} (tables : Divided w u t) (ns : List ℕ) where
-  -- so of the nodes around a label the higher ones end later, or there too
+  -- a node of a height below the root's that is numbered within the root ends there too, so that no end of one is cut
+  pub end-within : (g l : ℕ) → g ≤ u → w g ∣ l → l < w (suc u) → l + w g < label-limit
+  end-within g l fits d inside =
+      let e : suc u - g + g ≡ suc u = omega arith in
+      let wider : w g ∣ w (suc u) = rw e at (widths-divide w (tables .divides) (suc u - g) g) in
+      omega (arith, next-multiple (w g) l (w (suc u)) d wider inside, tables .narrow)
+
+  -- of the nodes around a label the higher ones end later, or there too
   nested : {v : Levels} {last : ℕ} (g h : ℕ) → g ≤ h → Open-at w v g last → Open-at w v h last → entry (v .ends) g ≤ entry (v .ends) h
   nested {v} {last} g h order a b =
       let e : h - g + g ≡ h = omega arith in
@@ -132,37 +143,37 @@ module _ {w : ℕ → ℕ} {u : ℕ} {t : Tables} (tables : Divided w u t) (ns :
     sizes = length-set sz _ _ ∙ long .sizes;
   }
 
-  closing-step : {v z : Levels} {old new : List ℕ} (c l i : ℕ) → c < u → Long v old → entry (v .ends) (suc c) ≤ l → w (suc c) ∣ l →
+  closing-step : {v z : Levels} {old new : List ℕ} (c l i : ℕ) → c < u → l < w (suc u) → Long v old → entry (v .ends) (suc c) ≤ l → w (suc c) ∣ l →
       Same (opened t v (suc c) l i) z (taken (t .widths) ns (suc c) i v old) new (suc c) → Step w ns v z old new l i (suc c)
   unfolding taken
-  closing-step {v} {z} {old} c l i fits long past d kept =
+  closing-step {v} {z} {old} c l i fits inside long past d kept =
       let width = tables .wide (suc c) fits in
       opens past d
-      (kept .ends ∙ getD-set-same (v .ends) (suc c) _ 0 (omega (arith, long .ends, tables .fits)) ∙ rw width)
+      (kept .ends ∙ getD-set-same (v .ends) (suc c) _ 0 (omega (arith, long .ends, tables .fits)) ∙ rw width (cut-below (l + w (suc c)) (end-within (suc c) l fits d inside)))
       (kept .firsts ∙ getD-set-same (v .firsts) (suc c) i 0 (omega (arith, long .firsts, tables .fits)))
       (kept .sizes ∙ getD-set-same old (suc c) _ 0 (omega (arith, long .sizes, tables .fits)) ∙ rw width)
 
-  closed-on : {v z : Levels} {old new : List ℕ} {l i c : ℕ} → c < u → Long v old → entry (v .ends) (suc c) ≤ l →
+  closed-on : {v z : Levels} {old new : List ℕ} {l i c : ℕ} → c < u → l < w (suc u) → Long v old → entry (v .ends) (suc c) ≤ l →
       Stepped w ns (opened t v (suc c) l i) z (taken (t .widths) ns (suc c) i v old) new l i (suc c) u → Stepped w ns v z old new l i c u
-  closed-on {v} {z} {old} {new} {l} {i} {c} fits long past s = record {
+  closed-on {v} {z} {old} {new} {l} {i} {c} fits inside long past s = record {
     long = s .long;
     kept = λ g n. same-on (closing-same v old c l i g (omega arith)) (s .kept g (omega arith));
     steps = λ g n m. by-test (eqb g (suc c))
-        (λ e. rw (eqb-true g (suc c) e) (closing-step c l i fits long past (s .aligned) (s .kept (suc c) (omega arith))))
+        (λ e. rw (eqb-true g (suc c) e) (closing-step c l i fits inside long past (s .aligned) (s .kept (suc c) (omega arith))))
         (λ e. let other = eqb-false g (suc c) e in step-on (closing-same v old c l i g other) (s .steps g (omega arith) m));
     aligned = dvd-trans _ (tables .divides c) (s .aligned);
   }
 
   -- NODES CLOSE from height suc c on
   settle-steps : (k c : ℕ) (exact : Bool) (l i last : ℕ) (v : Levels) (sz new : List ℕ) (q : Settled) → settle t k (suc c) exact l i v ≡ q →
-      settle-sizes (t .widths) ns k (suc c) l i v sz ≡ new → c + k ≡ u → Long v sz → ((g : ℕ) → c < g → g ≤ u → Open-at w v g last) →
+      settle-sizes (t .widths) ns k (suc c) l i v sz ≡ new → c + k ≡ u → l < w (suc u) → Long v sz → ((g : ℕ) → c < g → g ≤ u → Open-at w v g last) →
       (exact ≡ true → w c ∣ l) → q .ok ≡ true → Stepped w ns v (q .levels) sz new l i c u
   unfolding settle settle-sizes
-  settle-steps zero c exact l i last v sz new q e d m long nodes x o =
+  settle-steps zero c exact l i last v sz new q e d m inside long nodes x o =
       let b = and-left exact (ltb l (entry (v .ends) (suc c))) (ap (λ z. z .ok) e ∙ o) in
       rw (sym (ap (λ z. z .levels) e), sym d)
       (record { long = long; kept = λ g n. same; steps = λ g n k. absurd (omega arith); aligned = x b })
-  settle-steps (suc k) c exact l i last v sz new q e d m long nodes x o =
+  settle-steps (suc k) c exact l i last v sz new q e d m inside long nodes x o =
       let end = entry (v .ends) (suc c) in
       by-test (ltb l end)
       (λ below.
@@ -181,21 +192,21 @@ module _ {w : ℕ → ℕ} {u : ℕ} {t : Tables} (tables : Divided w u t) (ns :
         low = node .low;
         high = node .high;
       } in
-      closed-on (omega arith) long (ltb-false l end above) (
+      closed-on (omega arith) inside long (ltb-false l end above) (
       settle-steps k (suc c) (eqb end l) l i last (opened t v (suc c) l i) (taken (t .widths) ns (suc c) i v sz) new q
-      (sym (settle-higher t k (suc c) exact l i v above shut) ∙ e) (sym (sizes-higher t ns k (suc c) l i v sz above) ∙ d) (omega arith) (closing-long c l i long) higher
+      (sym (settle-higher t k (suc c) exact l i v above shut) ∙ e) (sym (sizes-higher t ns k (suc c) l i v sz above) ∙ d) (omega arith) inside (closing-long c l i long) higher
       (λ there. rw (← eqb-true end l there) (end-aligned own)) o))
       (λ fails. absurd (false≢true (ap (λ z. z .ok) (sym (settle-fails t k (suc c) exact l i v above fails) ∙ e) ∙ o))))
 
   -- A LABEL that is accepted, with or without closing
-  pub place-steps : (e l i last : ℕ) (v : Levels) (sz : List ℕ) → Long v sz → ((g : ℕ) → 1 ≤ g → g ≤ u → Open-at w v g last) →
+  pub place-steps : (e l i last : ℕ) (v : Levels) (sz : List ℕ) → l < w (suc u) → Long v sz → ((g : ℕ) → 1 ≤ g → g ≤ u → Open-at w v g last) →
       place-label t u e l i v .ok ≡ true → Stepped w ns v (place-label t u e l i v .levels) sz (place-sizes (t .widths) ns u e l i v sz) l i 0 u
   unfolding place-label place-sizes
-  place-steps e l i last v sz long nodes o =
+  place-steps e l i last v sz inside long nodes o =
       let end = entry (v .ends) 1 in
       by-test (eqb l e && ltb l end)
       (λ next. rw next (still long nodes (ltb-true l end (and-right (eqb l e) (ltb l end) next)) (rw (tables .first) (one-dvd l))))
-      (λ later. rw later (settle-steps u 0 false l i last v sz _ _ refl refl (zero-add u) long nodes (λ x. absurd (false≢true x)) (rw later at o)))
+      (λ later. rw later (settle-steps u 0 false l i last v sz _ _ refl refl (zero-add u) inside long nodes (λ x. absurd (false≢true x)) (rw later at o)))
 
   -- and the open nodes then
   pub nodes-after : {v z : Levels} {old new : List ℕ} {l i g last : ℕ} → last ≤ l → Open-at w v g last → Step w ns v z old new l i g → Open-at w z g l

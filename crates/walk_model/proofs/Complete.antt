@@ -10,7 +10,10 @@ use borrow.Author.Tests.{lt-ltb, le-ltb, eq-eqb}
 use lib.Dec.{eqb}
 use lib.ListN.{length, length-append}
 use Rattle.lists.proofs.Tests.{and-both}
+use Rattle.store_types.specs.Limits.{label-limit}
 use Rattle.shape.specs.Tables.{entry, table-length}
+use Rattle.shape.specs.Sums.{cut}
+use Rattle.shape.proofs.Sums.{cut-below, cut-most}
 use Rattle.tree.specs.Good.{Good}
 use Rattle.tree.specs.Forest.{Forest, nil, leaf, node, leaves, size, labels, joined}
 use Rattle.tree.specs.Promise.{Widths}
@@ -148,21 +151,54 @@ module _ {s r : ℕ} {w : ℕ → ℕ} {t : Tables} {u : ℕ} (s-least : 2 ≤ s
   next-label {j} {k} {l} {f} {g} {p} {q} {ls} b n e = first-label g j (number w (suc j) p + trees f * w j) l ls (after w (suc j) p q) (b .good) n e
 
   -- the trees on both sides fit into the open node
-  both-fit : {v : Levels} {j k i : ℕ} {f g : Forest} {p q : Spine k} → At s r w v j f p i → Rest s r j f g p q → trees f * w j + trees g * w j ≤ w (suc j)
-  both-fit {v} {j} {k} {i} {f} {g} {p} {q} a b =
-      let n : size (joined f g) ≡ size f + size g = rw leaves-joined (length-append (leaves f) (leaves g)) in
+  both-size : (f g : Forest) → size (joined f g) ≡ size f + size g
+  both-size f g = rw leaves-joined (length-append (leaves f) (leaves g))
+
+  both-fit : {j k : ℕ} {f g : Forest} {p q : Spine k} → Good s r f j → Rest s r j f g p q → trees f * w j + trees g * w j ≤ w (suc j)
+  both-fit {j} {k} {f} {g} {p} {q} good b =
       omega (
         arith,
-        children-fit s-least r-least widths (joined f g) j (good-joined s r f g j (a .good) (b .good)) (omega (arith, room-high s r j _ p q (b .room))),
+        children-fit s-least r-least widths (joined f g) j (good-joined s r f g j good (b .good)) (omega (arith, both-size f g, room-high s r j _ p q (b .room))),
         ap (λ z. z * w j) (trees-joined f g),
         add-mul (trees f) (trees g) (w j),
       )
 
-  -- so the next label is below the open node's end where a tree comes next there
-  below-end : {v : Levels} {j k l i : ℕ} {f g : Forest} {p q : Spine k} → At s r w v j f p i → Rest s r j f g p q → 1 ≤ size g →
+  -- so every open node ends within the root, and no number of one, no end and no label is cut
+  end-within : {k : ℕ} (j : ℕ) (f g : Forest) (p q : Spine k) → j + k ≡ u → Good s r f j → Good-spine s r (suc j) p → Rest s r j f g p q →
+      number w (suc j) p + w (suc j) < label-limit
+  end-within j f g top top m good above b = let e : j ≡ u = omega arith in rw (zero-add (w (suc j)), e) (tables .narrow (suc u) (omega arith))
+  end-within j f g (over left p) (over right q) m good above b =
+      let own = joined f g in
+      let n = both-size f g in
+      let more : size left + (size f + size g + size right) ≡ size (closed left own) + size right =
+      rw (closed-leaves left own, length-append) (omega (arith, n)) in
+      let better = good-joined s r left (node own nil) (suc j) (above .0) (omega (arith, b .room .0), omega (arith, b .room .1), good-joined s r f g j good (b .good), tt) in
+      let higher : Rest s r (suc j) (closed left own) right p q = record { good = b .good-above .0; good-above = b .good-above .1; room = rw more at (b .room .2) } in
+      omega (
+        arith,
+        closed-number w j left own p,
+        both-fit better higher,
+        end-within (suc j) (closed left own) right p q (omega arith) better (above .1) higher,
+      )
+
+  -- the next label is below the open node's end where a tree comes next there
+  below-end : {v : Levels} {j k l i : ℕ} {f g : Forest} {p q : Spine k} → j + k ≡ u → At s r w v j f p i → Rest s r j f g p q → 1 ≤ size g →
       l ≡ number w (suc j) p + trees f * w j → l < entry (v .ends) (suc j)
-  below-end {v} {j} {g = g} {p = p} a b n e =
-      omega (arith, both-fit a b, end-is w v (suc j) p (a .agrees), mul-le-mul (some-trees g n) (width-least s-least r-least widths j))
+  below-end {v} {j} {f = f} {g} {p} {q} m a b n e =
+      let end = number w (suc j) p + w (suc j) in
+      rw (end-is w v (suc j) p (a .agrees), cut-below end (end-within j f g p q m (a .good) (a .good-above) b))
+      (omega (arith, both-fit (a .good) b, mul-le-mul (some-trees g n) (width-least s-least r-least widths j)))
+
+  -- and is held whole
+  label-whole : {v : Levels} {j k l i : ℕ} {f g : Forest} {p q : Spine k} → j + k ≡ u → At s r w v j f p i → Rest s r j f g p q → 1 ≤ size g →
+      l ≡ number w (suc j) p + trees f * w j → l ≡ cut (number w (suc j) p + trees f * w j)
+  label-whole {v} {j} {f = f} {g} {p} {q} m a b n e =
+      e ∙ sym (cut-below (number w (suc j) p + trees f * w j) (omega (
+        arith,
+        end-within j f g p q m (a .good) (a .good-above) b,
+        both-fit (a .good) b,
+        mul-le-mul (some-trees g n) (width-least s-least r-least widths j),
+      )))
 
   -- the next label is at least the number of the tree that would come next
   rest-from : {v : Levels} {k : ℕ} (j : ℕ) (f g : Forest) (p q : Spine k) (l i : ℕ) (ls : List ℕ) → At s r w v j f p i → Rest s r j f g p q →
@@ -178,7 +214,7 @@ module _ {s r : ℕ} {w : ℕ → ℕ} {t : Tables} {u : ℕ} (s-least : 2 ≤ s
         arith,
         rest-from (suc j) (closed left f) right p q l i ls (at-up a b′) (rest-closed b′) (labels-closed w j f left right p q ∙ e′),
         closed-number w j left f p,
-        both-fit a b′,
+        both-fit (a .good) b′,
       ))
       (λ n. omega (arith, next-label b n e))
 
@@ -193,17 +229,18 @@ module _ {s r : ℕ} {w : ℕ → ℕ} {t : Tables} {u : ℕ} (s-least : 2 ≤ s
         rest-from (suc j) (closed left f) right p q l i ls (at-up a b) (rest-closed b) (labels-closed w j f left right p q ∙ e),
         closed-number w j left f p,
         a .agrees .0,
+        cut-most (number w (suc j) (over left p) + w (suc j)),
       )
 
   -- ready with nothing closed, and one height below where a tree comes next
-  ready-still : {v : Levels} {j k l i : ℕ} {f g : Forest} {p q : Spine k} (ls : List ℕ) → At s r w v j f p i → Rest s r j f g p q →
+  ready-still : {v : Levels} {j k l i : ℕ} {f g : Forest} {p q : Spine k} (ls : List ℕ) → j + k ≡ u → At s r w v j f p i → Rest s r j f g p q →
       1 ≤ size g → rest-labels w j f g p q ≡ l ∷ ls → Ready s r w v v j k l i ls
-  ready-still {v} {j} {k} {l} {i} {f} {g} {p} {q} ls a b n e = record {
+  ready-still {v} {j} {k} {l} {i} {f} {g} {p} {q} ls m a b n e = record {
     forest = f;
     right = g;
     spine = p;
     rights = q;
-    placed = stay a (next-label b n e);
+    placed = stay a (label-whole m a b n (next-label b n e));
     rest = b;
     some = n;
     labels-are = e;
@@ -230,10 +267,10 @@ module _ {s r : ℕ} {w : ℕ → ℕ} {t : Tables} {u : ℕ} (s-least : 2 ≤ s
   abbrev Accepted : (exact : Bool) (l i : ℕ) (ls : List ℕ) (v : Levels) (j k : ℕ) → Type 0
   Accepted exact l i ls v j k = (settle t k (suc j) exact l i v .ok ≡ true) × Ready s r w v (settle t k (suc j) exact l i v .levels) j k l i ls
 
-  settle-next : {v : Levels} {j k l i : ℕ} {f g : Forest} {p q : Spine k} {exact : Bool} {ls : List ℕ} → At s r w v j f p i → Rest s r j f g p q →
+  settle-next : {v : Levels} {j k l i : ℕ} {f g : Forest} {p q : Spine k} {exact : Bool} {ls : List ℕ} → j + k ≡ u → At s r w v j f p i → Rest s r j f g p q →
       1 ≤ size g → rest-labels w j f g p q ≡ l ∷ ls → exact ≡ true → Accepted exact l i ls v j k
-  settle-next {v} {j} {k} {l} {i} {f} {g} {ls = ls} a b n e x =
-      rw (x, settle-here t k (suc j) l i v (below-end a b n (next-label b n e))) (refl, ready-still ls a b n e)
+  settle-next {v} {j} {k} {l} {i} {f} {g} {ls = ls} m a b n e x =
+      rw (x, settle-here t k (suc j) l i v (below-end m a b n (next-label b n e))) (refl, ready-still ls m a b n e)
 
   settle-closed : (j k : ℕ) (f left right : Forest) (p q : Spine k) (exact : Bool) (l i : ℕ) (ls : List ℕ) (v : Levels) → j ≤ u →
       At s r w v j f (over left p) i → Rest s r j f nil (over left p) (over right q) → rest-labels w j f nil (over left p) (over right q) ≡ l ∷ ls →
@@ -246,17 +283,17 @@ module _ {s r : ℕ} {w : ℕ → ℕ} {t : Tables} {u : ℕ} (s-least : 2 ≤ s
       rw (settle-higher t k (suc j) exact l i v (le-ltb l end (end-passed j f (over left p) (over right q) l i ls a b e)) c)
       (up .0, ready-below (o .forest) (o .right) (o .spine) (o .rights) ls m (a .long-ends) (a .long-firsts) (o .placed) (o .rest) (o .some) (o .labels-are))
 
-  exact-end : (j k : ℕ) (f left right : Forest) (p q : Spine k) (l i : ℕ) (ls : List ℕ) (v : Levels) →
-      At s r w v j f (over left p) i → Rest s r (suc j) (closed left f) right p q → rest-labels w (suc j) (closed left f) right p q ≡ l ∷ ls →
+  exact-end : (j k : ℕ) (f left right : Forest) (p q : Spine k) (l i : ℕ) (ls : List ℕ) (v : Levels) → suc j + k ≡ u →
+      At s r w v j f (over left p) i → At s r w v (suc j) (closed left f) p i → Rest s r (suc j) (closed left f) right p q → rest-labels w (suc j) (closed left f) right p q ≡ l ∷ ls →
       1 ≤ size right → eqb (entry (v .ends) (suc j)) l ≡ true
-  exact-end j k f left right p q l i ls v a b e n =
-      eq-eqb (entry (v .ends) (suc j)) l (omega (arith, a .agrees .0, closed-number w j left f p, next-label b n e))
+  exact-end j k f left right p q l i ls v m a up b e n =
+      eq-eqb (entry (v .ends) (suc j)) l (a .agrees .0 ∙ ap cut (sym (closed-number w j left f p)) ∙ sym (label-whole m up b n (next-label b n e)))
 
   settle-ready : {k : ℕ} (j : ℕ) (f g : Forest) (p q : Spine k) (exact : Bool) (l i : ℕ) (ls : List ℕ) (v : Levels) → j + k ≡ u → At s r w v j f p i →
       Rest s r j f g p q → rest-labels w j f g p q ≡ l ∷ ls → (1 ≤ size g → exact ≡ true) → Accepted exact l i ls v j k
   unfolding labels
   settle-ready j f g top top exact l i ls v m a b e x =
-      next-tree g j (b .good) (λ n. absurd (no-labels (rw n at e))) (λ n. settle-next a b n e (x n))
+      next-tree g j (b .good) (λ n. absurd (no-labels (rw n at e))) (λ n. settle-next m a b n e (x n))
   settle-ready j f g (over {k} left p) (over right q) exact l i ls v m a b e x = next-tree g j (b .good)
       (λ n.
       let b′ : Rest s r j f nil (over left p) (over right q) = rw n at b in
@@ -264,12 +301,12 @@ module _ {s r : ℕ} {w : ℕ → ℕ} {t : Tables} {u : ℕ} (s-least : 2 ≤ s
       let d = labels-closed w j f left right p q ∙ e′ in
       settle-closed j k f left right p q exact l i ls v (omega arith) a b′ e′ (
       settle-ready (suc j) (closed left f) right p q (eqb (entry (v .ends) (suc j)) l) l i ls (opened t v (suc j) l i) (omega arith)
-      (at-opened t l (at-up a b′)) (rest-closed b′) d (exact-end j k f left right p q l i ls v a (rest-closed b′) d)))
-      (λ n. settle-next a b n e (x n))
+      (at-opened t l (at-up a b′)) (rest-closed b′) d (exact-end j k f left right p q l i ls v (omega arith) a (at-up a b′) (rest-closed b′) d)))
+      (λ n. settle-next m a b n e (x n))
 
   -- the next label is accepted, with or without closing
   place-ready : (f g : Forest) (p q : Spine u) (e l i : ℕ) (ls : List ℕ) (v : Levels) → At s r w v 0 f p i → Rest s r 0 f g p q →
-      rest-labels w 0 f g p q ≡ l ∷ ls → e ≡ number w 1 p + trees f * w 0 →
+      rest-labels w 0 f g p q ≡ l ∷ ls → e ≡ cut (number w 1 p + trees f * w 0) →
       (place-label t u e l i v .ok ≡ true) × Ready s r w v (place-label t u e l i v .levels) 0 u l i ls
   unfolding leaves
   place-ready f g p q e l i ls v a b d n = next-tree g 0 (b .good)
@@ -280,7 +317,8 @@ module _ {s r : ℕ} {w : ℕ → ℕ} {t : Tables} {u : ℕ} (s-least : 2 ≤ s
       (settle-ready 0 f nil p q false l i ls v (zero-add u) a b′ d′ (λ y. absurd (omega arith))))
       (λ x.
       let here = next-label b x d in
-      rw (place-next t u e l i v (here ∙ sym n) (below-end a b x here)) (refl, ready-still ls a b x d))
+      let whole = zero-add u in
+      rw (place-next t u e l i v (label-whole whole a b x here ∙ sym n) (below-end whole a b x here)) (refl, ready-still ls whole a b x d))
 
   -- at the end every open node is within its limits
   all-closed : {k : ℕ} (j : ℕ) (f g : Forest) (p q : Spine k) (i : ℕ) (v : Levels) → j + k ≡ u → At s r w v j f p i → Rest s r j f g p q →
@@ -308,7 +346,7 @@ module _ {s r : ℕ} {w : ℕ → ℕ} {t : Tables} {u : ℕ} (s-least : 2 ≤ s
 
   -- the labels of what is to the right pass
   pub rest-passes : (ls : List ℕ) (f g : Forest) (p q : Spine u) (e i : ℕ) (v : Levels) → At s r w v 0 f p i → Rest s r 0 f g p q →
-      rest-labels w 0 f g p q ≡ ls → e ≡ number w 1 p + trees f * w 0 → labels-pass t u e i v ls ≡ true
+      rest-labels w 0 f g p q ≡ ls → e ≡ cut (number w 1 p + trees f * w 0) → labels-pass t u e i v ls ≡ true
   unfolding labels-pass
   rest-passes [] f g p q e i v a b d n = all-closed 0 f g p q i v (zero-add u) a b d
   rest-passes (l ∷ ls) f g p q e i v a b d n =

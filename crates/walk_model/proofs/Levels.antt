@@ -2,17 +2,21 @@
 use mathlib.Core.Path.{_≡_, refl, ap, sym, _∙_}
 use mathlib.Core.Bool.{true}
 use mathlib.Core.List.{List, [], append-nil}
-use Prim.Native.Nat.{ℕ, zero, suc, _+_, _*_, _≤_}
+use Prim.Native.Nat.{ℕ, zero, suc, _+_, _*_, _^_, _≤_, _<_}
 use native.Mathlib.Omega.{arith}
-use lib.ListN.{length, getD-replicate, length-replicate}
-use Rattle.shape.specs.Tables.{table-length}
+use lib.ListN.{length, getD, getD-replicate, length-replicate}
+use Rattle.store_types.specs.Limits.{label-limit}
+use Rattle.shape.specs.Tables.{entry, table-length}
+use Rattle.shape.specs.Sums.{cut}
+use Rattle.shape.proofs.Sums.{cut-below, cut-all}
 use Rattle.tree.specs.Forest.{Forest, nil, leaf, node, leaves, size, labels}
 use Rattle.tree.specs.Promise.{Widths}
+use Rattle.tree_laws.proofs.Labels.{rising-below, node-rising}
 use Rattle.tree_laws.proofs.Spread.{some-power}
 use Rattle.walk_model.specs.Levels.{Tables, start-levels, labels-pass}
 use Rattle.walk_model.specs.Promise.{Tables-right, Tree-with, Levels-right}
 use Rattle.walk_model.proofs.Spine.{Spine, top, over, number, tags, marks, Good-spine, Agrees, At}
-use Rattle.walk_model.proofs.Sound.{tree-read}
+use Rattle.walk_model.proofs.Sound.{Tree-cut, tree-read}
 use Rattle.walk_model.proofs.Complete.{Rest, rest-labels, rest-below, labels-below, rest-passes}
 
 -- BEFORE THE FIRST LABEL nothing is closed
@@ -39,11 +43,15 @@ empty-good s r h zero = tt
 empty-good s r h (suc k) = (tt, empty-good s r (suc h) k)
 
 module _ {s r : ℕ} {w : ℕ → ℕ} {t : Tables} {u : ℕ} (tables : Tables-right s r w (suc u) t) where
+  -- a label can hold where the first node of each height ends
+  first-end : (h a : ℕ) → a ≡ 0 → h ≤ suc u → entry (t .widths) h ≡ cut (a + w h)
+  first-end h a e l = tables .widths h l ∙ sym (ap cut (omega arith) ∙ cut-below (w h) (tables .narrow h l))
+
   empty-agrees : (h k : ℕ) → h + k ≡ suc u → Agrees w (start-levels t) h (empty k)
   unfolding start-levels
-  empty-agrees h zero e = omega (arith, tables .widths h (omega arith))
+  empty-agrees h zero e = first-end h 0 refl (omega arith)
   empty-agrees h (suc k) e = (
-    omega (arith, tables .widths h (omega arith), empty-number w h (suc k)),
+    first-end h (number w h (empty (suc k))) (empty-number w h (suc k)) (omega arith),
     getD-replicate table-length h 0 0 (omega (arith, tables .top-fits)) ∙ sym (ap length (empty-tags (suc k))),
     empty-agrees (suc h) k (omega arith),
   )
@@ -59,16 +67,25 @@ module _ {s r : ℕ} {w : ℕ → ℕ} {t : Tables} {u : ℕ} (tables : Tables-r
     long-firsts = length-replicate {A = ℕ} table-length 0;
   }
 
-  number-start : 0 ≡ number w 1 (empty u) + 0 * w 0
-  number-start = omega (arith, empty-number w 1 u)
+  number-start : 0 ≡ cut (number w 1 (empty u) + 0 * w 0)
+  number-start = sym (ap cut (omega (arith, empty-number w 1 u)) ∙ cut-below 0 (omega arith))
 
-  -- labels that pass are those of a tree
-  tree-of : (xs ls : List ℕ) → length xs ≡ length ls → labels-pass t u 0 0 (start-levels t) ls ≡ true → Tree-with s r w u xs ls
+  -- labels that pass are what labels hold of those of a tree
+  tree-of : (xs ls : List ℕ) → length xs ≡ length ls → labels-pass t u 0 0 (start-levels t) ls ≡ true → Tree-cut s r w u xs ls
   unfolding leaves labels
   tree-of xs ls n c = rw (empty-tags u, empty-marks w 1 u) at (tree-read tables ls xs nil (empty u) 0 0 (start-levels t) at-start number-start n c)
 
-  -- the labels of a tree pass: its first nodes are opened down to the first leaf
   module _ (s-least : 2 ≤ s) (r-least : 2 ≤ r) (widths : Widths s r w) where
+    -- and those are whole: the labels of a tree within its limits are below the root's width
+    tree-whole : (xs ls : List ℕ) → length xs < s * r ^ suc u → Tree-cut s r w u xs ls → Tree-with s r w u xs ls
+    tree-whole xs ls high tree =
+        let f = tree .forest in
+        let own = node-rising s-least r-least widths f u 0 (tree .good) (omega (arith, ap length (tree .tags-are))) in
+        let small : (i : ℕ) → i < length (labels f w u 0) → getD (labels f w u 0) i 0 < label-limit =
+        λ i l. omega (arith, rising-below 0 (0 + w (suc u)) (labels f w u 0) own i l, tables .narrow (suc u) (omega arith)) in
+        record { forest = f; good = tree .good; tags-are = tree .tags-are; labels-are = sym (cut-all (labels f w u 0) small) ∙ tree .labels-are }
+
+    -- the labels of a tree pass: its first nodes are opened down to the first leaf
     first-passes : (j k : ℕ) (g : Forest) (q : Spine k) (ls : List ℕ) → j + k ≡ u → Rest s r j nil g (empty k) q → ((j ≡ 0 → ⊥) → 1 ≤ size g) →
         rest-labels w j nil g (empty k) q ≡ ls → labels-pass t u 0 0 (start-levels t) ls ≡ true
     unfolding leaves
@@ -93,7 +110,7 @@ module _ {s r : ℕ} {w : ℕ → ℕ} {t : Tables} {u : ℕ} (tables : Tables-r
 pub levels-right : Levels-right
 unfolding Levels-right leaves
 levels-right s r w t u xs ls s-least r-least widths tables n high low = (
-  tree-of tables xs ls n,
+  λ c. tree-whole tables s-least r-least widths xs ls (omega arith) (tree-of tables xs ls n c),
   λ tree.
       let m : size (tree .forest) ≡ length ls = ap length (tree .tags-are) ∙ n in
       tree-passes tables s-least r-least widths (tree .forest) ls (record { good = tree .good; good-above = tt; room = omega arith }) (λ x. omega (arith, low x)) (tree .labels-are),

@@ -12,6 +12,7 @@ use Rattle.store_types.specs.Limits.{no-tag}
 use Rattle.lists.proofs.Tests.{and-left, and-right, and-both}
 use Rattle.store_types.specs.Layout.{at-stamp, at-next, at-prior, at-kind, word-at, field, label-at}
 use Rattle.shape.specs.Tables.{entry}
+use Rattle.shape.specs.Sums.{cut}
 use Rattle.calls.specs.Words.{follow}
 use Rattle.walk_model.specs.Levels.{all-close, labels-pass}
 use Rattle.walk_model.specs.Walk.{kind-fits, open-after, State, Shape, placed, tag-passes, passed, ends-well, walk}
@@ -102,7 +103,7 @@ module _ (ws : List ℕ) (k : Shape) where
   walked-step i v xs h =
       let q = placed ws k i v in
       let later =
-      labels-pass (k .tables) (k .under) (label-at ws (v .tag) + entry (k .tables .widths) 0) (suc i) (q .levels) (map (label-at ws) xs) in
+      labels-pass (k .tables) (k .under) (cut (label-at ws (v .tag) + entry (k .tables .widths) 0)) (suc i) (q .levels) (map (label-at ws) xs) in
       let kind = kind-fits ws (k .n) (v .open-begin) (v .tag) (field ws (v .tag) at-kind) in
       let kinds = kinds-pass ws (k .n) (open-after ws (v .open-begin) (v .tag) (field ws (v .tag) at-kind)) xs in (
         four-test (record {

@@ -1,14 +1,14 @@
 -- The header's test as facts, and that the walk's tables are right where it is passed. Assumes nothing.
-use mathlib.Core.Path.{_≡_, refl, sym, _∙_}
+use mathlib.Core.Path.{_≡_, refl, ap, sym, _∙_}
 use mathlib.Core.Bool.{true, _&&_, _||_}
 use mathlib.Core.List.{List}
-use Prim.Native.Nat.{ℕ, suc, pred, _*_, _-_, _^_, _≤_, _<_}
+use Prim.Native.Nat.{ℕ, suc, pred, _+_, _*_, _-_, _^_, _≤_, _<_}
 use native.Mathlib.Nat.{one-mul}
 use native.Mathlib.Omega.{arith}
 use borrow.Author.Tests.{ltb-true, leb-true, eqb-true, lt-ltb, le-leb}
 use lib.Dec.{ltb, leb, eqb, eqb·suc-suc}
 use lib.ListN.{length}
-use Rattle.store_types.specs.Limits.{most-tags, most-levels}
+use Rattle.store_types.specs.Limits.{label-limit, most-tags, most-levels}
 use Rattle.store_types.specs.Layout.{at-version, at-s, at-r, at-height, at-count, header-words, word-at, words-for}
 use Rattle.lists.proofs.Tests.{and-left, and-right, and-both}
 use Rattle.words.proofs.Fields.{header-fits}
@@ -16,10 +16,11 @@ use Rattle.shape.proofs.TableLaws.{table-at, length-table}
 use Rattle.shape.specs.Tables.{widths-of, lows-of, highs-of, table-length}
 use Rattle.tree.specs.Book.{base}
 use Rattle.tree.specs.Promise.{Widths}
+use Rattle.tree_laws.proofs.Labels.{width-rises}
 use Rattle.calls.specs.Store.{labels-fit}
 use Rattle.calls.specs.Sound.{degrees-fit}
 use Rattle.calls.specs.Words.{header-width}
-use Rattle.calls_laws.proofs.Widths.{header-widths, header-powers}
+use Rattle.calls_laws.proofs.Widths.{header-widths, header-powers, header-narrower}
 use Rattle.calls_laws.proofs.Tests.{Degrees, degrees-of, degrees-test}
 use Rattle.walk_model.specs.Walk.{header-passes, shape-of}
 use Rattle.walk_model.specs.Promise.{Tables-right}
@@ -87,6 +88,18 @@ header-test {ws} {s} {r} {u} {n} h =
 pub widths-given : {ws : List ℕ} {s r u n : ℕ} → Header ws s r u n → Widths s r (header-width ws)
 widths-given {ws} h = rw (h .degree-s, h .degree-r) at (header-widths ws)
 
+-- none is wider than the root's, which a label can hold
+widths-narrow : {ws : List ℕ} {s r u n : ℕ} → Header ws s r u n → (j : ℕ) → j ≤ suc u → header-width ws j < label-limit
+widths-narrow {ws} {s} {r} {u} h j l =
+    let own : Degrees (word-at ws at-s) (word-at ws at-r) = rw (h .degree-s, h .degree-r) (h .degrees) in
+    let above : suc u - j + j ≡ suc u = omega arith in
+    omega (
+      arith,
+      ap (header-width ws) above,
+      width-rises (h .degrees .s-least) (h .degrees .r-least) (widths-given h) (suc u - j) j,
+      header-narrower ws (suc u) own (h .labels-fit),
+    )
+
 pub tables-right : {ws : List ℕ} {s r u n : ℕ} → Header ws s r u n → Tables-right s r (header-width ws) (suc u) (shape-of ws .tables)
 unfolding shape-of widths-of lows-of highs-of base
 tables-right {ws} {s} {r} {u} {n} h =
@@ -95,6 +108,7 @@ tables-right {ws} {s} {r} {u} {n} h =
       top-fits = low;
       long = length-table 1 _ (suc u) low;
       widths = λ j l. table-at 1 (s * r - 1) (suc u) j l ∙ one-mul ((s * r - 1) ^ j) ∙ sym (rw (h .degree-s, h .degree-r) at (header-powers ws j));
+      narrow = λ j l. widths-narrow h j l;
       lows = λ j l. table-at 1 r (suc u) j l ∙ one-mul (r ^ j);
       highs = table-at s r (suc u);
     })

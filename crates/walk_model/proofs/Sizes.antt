@@ -3,7 +3,7 @@
 use mathlib.Core.Path.{_≡_, refl, ap, sym, _∙_}
 use mathlib.Core.Bool.{true, cond}
 use mathlib.Core.List.{List, [], _∷_, map}
-use Prim.Native.Nat.{ℕ, zero, suc, pred, _+_, _*_, _-_, _≤_, _<_, _∣_}
+use Prim.Native.Nat.{ℕ, zero, suc, pred, _+_, _*_, _-_, _^_, _≤_, _<_, _∣_}
 use native.Mathlib.Nat.{dvd-zero, dvd-trans, dvd-add, dvd-mul-left, le-refl, zero-add}
 use native.Mathlib.Omega.{arith}
 use borrow.Author.Tests.{lt-ltb, le-leb, lt-leb, eq-eqb, ne-eqb, ltb-true, ltb-false, eqb-true, eqb-false}
@@ -11,15 +11,18 @@ use lib.Dec.{ltb, eqb}
 use lib.ListN.{length, getD, set, length-set, length-replicate, getD-replicate}
 use lib.Seq.{getD-set-same, getD-set-other}
 use Rattle.lists.proofs.Tests.{and-left, and-right, by-test}
+use Rattle.store_types.specs.Limits.{label-limit}
 use Rattle.store_types.specs.Layout.{at-height, at-count, at-first, word-at, label-at}
 use Rattle.shape.specs.Tables.{entry, table-length}
+use Rattle.shape.specs.Sums.{cut}
+use Rattle.shape.proofs.Sums.{cut-below}
 use Rattle.tree.specs.Good.{Good}
 use Rattle.tree.specs.Forest.{Forest, size, labels}
 use Rattle.tree.specs.Book.{labels-of}
 use Rattle.tree.specs.Reach.{size-in}
 use Rattle.tree.specs.Promise.{Widths}
 use Rattle.tree_laws.proofs.Spread.{some-power}
-use Rattle.tree_laws.proofs.Labels.{trees, Rising, rising-lower, good-rising, width-least}
+use Rattle.tree_laws.proofs.Labels.{trees, Rising, rising-lower, rising-order, children-fit, node-rising, width-least}
 use Rattle.tree_laws.proofs.Ancestors.{count-in, count-above, number-in, number-top, number-next, found, size-count}
 use Rattle.calls.specs.Store.{Store, count, row, width}
 use Rattle.calls.specs.Words.{Says, follow, header-width}
@@ -39,7 +42,7 @@ use Rattle.walk_model.proofs.Aligned.{next-multiple, size-taken, Step, 
 abbrev labels-sizes : Tables → (numbers : List ℕ) → (under expect i : ℕ) → Levels → (labels sizes : List ℕ) → List ℕ
 labels-sizes t ns u e i v [] sz = close-sizes (t .widths) ns u 1 i v sz
 labels-sizes t ns u e i v (l ∷ ls) sz =
-    labels-sizes t ns u (l + entry (t .widths) 0) (suc i) (place-label t u e l i v .levels) ls (place-sizes (t .widths) ns u e l i v sz)
+    labels-sizes t ns u (cut (l + entry (t .widths) 0)) (suc i) (place-label t u e l i v .levels) ls (place-sizes (t .widths) ns u e l i v sz)
 
 walk-labels : (ws : List ℕ) (k : Shape) (ns : List ℕ) (m i : ℕ) (v : State) (sz : List ℕ) → i + m ≡ k .n →
     walk-sizes ws k ns m i v sz ≡ labels-sizes (k .tables) ns (k .under) (v .expect) i (v .levels) (map (label-at ws) (follow m ws (v .tag))) sz
@@ -70,16 +73,19 @@ record Due (n v : ℕ) (end first old i : ℕ) (ls : List ℕ) (out : ℕ) : Typ
   later : end < n + v → 1 ≤ count-in n (n + v) ls → out ≡ count-in n (n + v) ls
 
 module _ {w : ℕ → ℕ} {u : ℕ} {t : Tables} (tables : Divided w u t) (ns : List ℕ) (h n : ℕ) (least : 1 ≤ h) (most : h ≤ u)
-    (watched : entry ns h ≡ n) (aligned : w h ∣ n) where
+    (watched : entry ns h ≡ n) (aligned : w h ∣ n) (ends : n + w h < label-limit) where
   abbrev Due-at : (i : ℕ) (v : Levels) (sz ls : List ℕ) (out : ℕ) → Type 0
   Due-at i v sz ls out = Due n (w h) (entry (v .ends) h) (entry (v .firsts) h) (entry sz h) i ls out
 
+  watched-end : cut (n + w h) ≡ n + w h
+  watched-end = cut-below (n + w h) ends
+
   -- the size taken where the open node closes, by whether it is the watched one
   taken-own : (i : ℕ) (v : Levels) (sz : List ℕ) → entry (v .ends) h ≡ n + w h → size-taken w ns i v sz h ≡ i - entry (v .firsts) h
-  taken-own i v sz e = rw (watched, eq-eqb (entry (v .ends) h) (n + w h) e)
+  taken-own i v sz e = rw (watched, watched-end, eq-eqb (entry (v .ends) h) (n + w h) e)
 
   taken-past : (i : ℕ) (v : Levels) (sz : List ℕ) → n + w h < entry (v .ends) h → size-taken w ns i v sz h ≡ entry sz h
-  taken-past i v sz e = rw (watched, ne-eqb (entry (v .ends) h) (n + w h) (omega arith))
+  taken-past i v sz e = rw (watched, watched-end, ne-eqb (entry (v .ends) h) (n + w h) (omega arith))
 
   -- at the end
   close-at : (k j i : ℕ) (v : Levels) (sz : List ℕ) → j ≤ h → h < j + k → length sz ≡ table-length →
@@ -87,7 +93,7 @@ module _ {w : ℕ → ℕ} {u : ℕ} {t : Tables} (tables : Divided w u t) (ns :
   unfolding close-sizes taken
   close-at zero j i v sz low high long = absurd (omega arith)
   close-at (suc k) j i v sz low high long =
-      let next = set sz j (cond (eqb (entry (v .ends) j) (entry ns j + entry (t .widths) j)) (i - entry (v .firsts) j) (entry sz j)) in
+      let next = set sz j (cond (eqb (entry (v .ends) j) (cut (entry ns j + entry (t .widths) j))) (i - entry (v .firsts) j) (entry sz j)) in
       by-test (eqb h j)
       (λ e.
       let same = eqb-true h j e in
@@ -151,17 +157,18 @@ module _ {w : ℕ → ℕ} {u : ℕ} {t : Tables} (tables : Divided w u t) (ns :
 
   -- ALONG LABELS THAT PASS
   labels-due : (ls : List ℕ) (e i last b : ℕ) (v : Levels) (sz : List ℕ) → Long v sz → ((g : ℕ) → 1 ≤ g → g ≤ u → Open-at w v g last) →
-      entry (v .firsts) h ≤ i → Rising last b ls → labels-pass t u e i v ls ≡ true → Due-at i v sz ls (entry (labels-sizes t ns u e i v ls sz) h)
+      entry (v .firsts) h ≤ i → b ≤ w (suc u) → Rising last b ls → labels-pass t u e i v ls ≡ true → Due-at i v sz ls (entry (labels-sizes t ns u e i v ls sz) h)
   unfolding labels-pass
-  labels-due [] e i last b v sz long nodes begun rising pass = due-end i v sz _ (close-at u 1 i v sz least (omega arith) (long .sizes))
-  labels-due (l ∷ ls) e i last b v sz long nodes begun rising pass =
+  labels-due [] e i last b v sz long nodes begun bound rising pass = due-end i v sz _ (close-at u 1 i v sz least (omega arith) (long .sizes))
+  labels-due (l ∷ ls) e i last b v sz long nodes begun bound rising pass =
       let q = place-label t u e l i v in
-      let rest = labels-pass t u (l + entry (t .widths) 0) (suc i) (q .levels) ls in
-      let s = place-steps tables ns e l i last v sz long nodes (and-left (q .ok) rest pass) in
+      let rest = labels-pass t u (cut (l + entry (t .widths) 0)) (suc i) (q .levels) ls in
+      let inside : l < w (suc u) = omega (arith, rising-order (suc l) b ls (rising .1)) in
+      let s = place-steps tables ns e l i last v sz inside long nodes (and-left (q .ok) rest pass) in
       let up = rising .0 in
       due-before b ls (nodes h least most) up begun (rising .1) (s .steps h least most) (
-      labels-due ls (l + entry (t .widths) 0) (suc i) l b (q .levels) _ (s .long) (λ g y z. nodes-after tables ns up (nodes g y z) (s .steps g y z))
-      (first-after begun (s .steps h least most)) (rising-lower (suc l) l b ls (omega arith) (rising .1)) (and-right (q .ok) rest pass))
+      labels-due ls (cut (l + entry (t .widths) 0)) (suc i) l b (q .levels) _ (s .long) (λ g y z. nodes-after tables ns up (nodes g y z) (s .steps g y z))
+      (first-after begun (s .steps h least most)) bound (rising-lower (suc l) l b ls (omega arith) (rising .1)) (and-right (q .ok) rest pass))
 
 -- IN A GOOD FOREST: the numbers of ancestors are multiples of their widths
 number-aligned : (w : ℕ → ℕ) → ((g : ℕ) → w g ∣ w (suc g)) → (f : Forest) (u p d h : ℕ) → d + h ≡ u → w h ∣ number-in f w u h p 0
@@ -175,22 +182,24 @@ number-aligned w divides f u p (suc d) h e =
     rw next.1 (dvd-add _ (dvd-trans _ (divides h) parent) (dvd-mul-left (w h) (next .0)))
 
 forest-sizes : {s r : ℕ} {w : ℕ → ℕ} {u : ℕ} {t : Tables} → 2 ≤ s → 2 ≤ r → Widths s r w → Divided w u t → length (t .widths) ≡ table-length →
-    (f : Forest) → Good s r f u → (p : ℕ) → p ≤ size f → 1 ≤ size f → labels-pass t u 0 0 (start-levels t) (labels f w u 0) ≡ true →
+    (f : Forest) → Good s r f u → size f < s * r ^ suc u → (p : ℕ) → p ≤ size f → 1 ≤ size f → labels-pass t u 0 0 (start-levels t) (labels f w u 0) ≡ true →
     (ns sz : List ℕ) → length sz ≡ table-length → (g : ℕ) → g < u → entry ns (suc g) ≡ number-in f w u (suc g) p 0 →
     entry (labels-sizes t ns u 0 0 (start-levels t) (labels f w u 0) sz) (suc g) ≡ size-in f u (suc g) p
 unfolding start-levels
-forest-sizes {s} {r} {w} {u} {t} s-least r-least widths tables long f good p fits some pass ns sz sizes g below watched =
+forest-sizes {s} {r} {w} {u} {t} s-least r-least widths tables long f good most p fits some pass ns sz sizes g below watched =
     let h = suc g in
     let n = number-in f w u h p 0 in
     let d = found s-least r-least widths f u g p 0 good below fits some in
     let e : u - h + h ≡ u = omega arith in
+    let ends : n + w h < label-limit =
+    omega (arith, d .number-is, rising-order _ _ (d .after) (d .high), children-fit s-least r-least widths f u good most, tables .narrow) in
     let first = getD-replicate {A = ℕ} table-length h 0 0 (omega (arith, tables .fits)) in
     let end = tables .wide h below in
     let nodes : (j : ℕ) → 1 ≤ j → j ≤ u → Open-at w (start-levels t) j 0 =
     λ j l m. record { number = 0; aligned = dvd-zero (w j); end-is = omega (arith, tables .wide j m); low = omega arith; high = omega (arith, tables .least j) } in
-    let due = labels-due tables ns h n (omega arith) below watched (number-aligned w (tables .divides) f u p (u - h) h e)
-    (labels f w u 0) 0 0 0 (0 + trees f * w u) (start-levels t) sz (record { ends = long; firsts = length-replicate {A = ℕ} table-length 0; sizes = sizes }) nodes
-    (omega arith) (good-rising s-least r-least widths f u 0 good) pass in
+    let due = labels-due tables ns h n (omega arith) below watched (number-aligned w (tables .divides) f u p (u - h) h e) ends
+    (labels f w u 0) 0 0 0 (w (suc u)) (start-levels t) sz (record { ends = long; firsts = length-replicate {A = ℕ} table-length 0; sizes = sizes }) nodes
+    (omega arith) (le-refl (w (suc u))) (rw zero-add at (node-rising s-least r-least widths f u 0 good most)) pass in
     let counted = size-count s-least r-least widths d in
     by-test (eqb n 0)
     (λ y. let zeroth = eqb-true n 0 y in omega (arith, due .here (omega arith), counted))
@@ -199,7 +208,7 @@ forest-sizes {s} {r} {w} {u} {t} s-least r-least widths tables long f good p fit
 -- IN WORDS THAT SAY A STORE: the sizes of the ancestors of a place p, where the label before it is watched (the first, where
 -- p is 0)
 given-tables : {ws : List ℕ} {s r u n : ℕ} → Header ws s r u n → Divided (header-width ws) u (shape-of ws .tables)
-given-tables {ws} h =
+given-tables {ws} {u = u} h =
     let t = tables-right h in
     record {
       fits = omega (arith, t .top-fits);
@@ -207,6 +216,7 @@ given-tables {ws} h =
       first = header-unit ws;
       divides = header-divides ws;
       least = λ g. width-least (h .degrees .s-least) (h .degrees .r-least) (widths-given h) g;
+      narrow = t .narrow (suc u) (le-refl (suc u));
     }
 
 module _ (ws : List ℕ) (st : Store) (said : Says ws st) (p y : ℕ) (fits : p ≤ count st) (some : 1 ≤ count st)
@@ -248,4 +258,4 @@ module _ (ws : List ℕ) (st : Store) (said : Says ws st) (p y : ℕ) (fits : p 
       ap (λ (z : List ℕ). entry z (suc g)) (walk-labels ws (shape-of ws) (watched-numbers ws y) (word-at ws at-count) 0 (start ws) sz (zero-add _))
       ∙ rw (labels-met, under-is)
       (forest-sizes (head .degrees .s-least) (head .degrees .r-least) (store-widths st) tables-said (tables-right head .long) (k .root)
-      (good ws st said) p (omega arith) (omega arith) pass (watched-numbers ws y) sz long g high (numbers-watched (suc g) low high))
+      (good ws st said) (omega (arith, head .below)) p (omega arith) (omega arith) pass (watched-numbers ws y) sz long g high (numbers-watched (suc g) low high))

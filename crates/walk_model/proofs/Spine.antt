@@ -1,6 +1,6 @@
 -- The open nodes while labels are read: at each height the closed trees left of the open node, what the levels of
 -- specs/Levels.antt are then, and how they change when nodes are closed. Assumes nothing.
-use mathlib.Core.Path.{_≡_, refl, _∙_}
+use mathlib.Core.Path.{_≡_, refl, ap, _∙_}
 use mathlib.Core.Bool.{Bool, true, false}
 use mathlib.Core.List.{List, [], _∷_, _++_, append-nil}
 use Prim.Native.Nat.{ℕ, zero, suc, _+_, _*_, _^_, _≤_, _<_}
@@ -12,6 +12,8 @@ use lib.ListN.{length, set, length-append, length-set}
 use lib.Seq.{getD-set-same, getD-set-other}
 use Rattle.lists.proofs.Tests.{and-left, and-right, and-both}
 use Rattle.shape.specs.Tables.{entry, table-length}
+use Rattle.shape.specs.Sums.{cut}
+use Rattle.shape.proofs.Sums.{cut-added}
 use Rattle.tree.specs.Good.{Good}
 use Rattle.tree.specs.Forest.{Forest, nil, leaf, node, leaves, size, labels, joined}
 use Rattle.tree_laws.proofs.Labels.{trees, labels-joined}
@@ -44,11 +46,11 @@ Good-spine s r h (over f p) = Good s r f h × Good-spine s r (suc h) p
 
 -- levels that say the ends of these nodes and the root, and the places where they begin
 abbrev pub Agrees : (w : ℕ → ℕ) (v : Levels) (h : ℕ) {k : ℕ} → Spine k → Type 0
-Agrees w v h top = entry (v .ends) h ≡ number w h top + w h
+Agrees w v h top = entry (v .ends) h ≡ cut (number w h top + w h)
 Agrees w v h (over f p) =
-    (entry (v .ends) h ≡ number w h (over f p) + w h) × (entry (v .firsts) h ≡ length (tags (over f p))) × Agrees w v (suc h) p
+    (entry (v .ends) h ≡ cut (number w h (over f p) + w h)) × (entry (v .firsts) h ≡ length (tags (over f p))) × Agrees w v (suc h) p
 
-pub end-is : (w : ℕ → ℕ) (v : Levels) (h : ℕ) {k : ℕ} (p : Spine k) → Agrees w v h p → entry (v .ends) h ≡ number w h p + w h
+pub end-is : (w : ℕ → ℕ) (v : Levels) (h : ℕ) {k : ℕ} (p : Spine k) → Agrees w v h p → entry (v .ends) h ≡ cut (number w h p + w h)
 end-is w v h top a = a
 end-is w v h (over f p) a = a .0
 
@@ -100,7 +102,7 @@ at-closed {s} {r} {w} {v} {j} {k} {i} {f} {left} {p} a low high = record {
 
 -- levels after a node of height h is opened for a label at place i
 abbrev pub opened : Tables → Levels → (h label i : ℕ) → Levels
-opened t v h l i = record { ends = set (v .ends) h (l + entry (t .widths) h); firsts = set (v .firsts) h i }
+opened t v h l i = record { ends = set (v .ends) h (cut (l + entry (t .widths) h)); firsts = set (v .firsts) h i }
 
 agrees-opened : (t : Tables) (w : ℕ → ℕ) (v : Levels) (g l i h : ℕ) {k : ℕ} (p : Spine k) → g < h → Agrees w v h p → Agrees w (opened t v g l i) h p
 agrees-opened t w v g l i h top n a = rw (getD-set-other (v .ends) g h _ 0 (omega arith)) a
@@ -171,13 +173,13 @@ settle-fails t k h exact l i v e c = rw (e, c)
 -- behind its lowest trees; levels below height suc j are as before
 pub record Placed (s r : ℕ) (w : ℕ → ℕ) (before after : Levels) (j : ℕ) {k : ℕ} (f : Forest) (p : Spine k) (l i : ℕ) : Type 0 where
   pub here : At s r w after j f p i
-  pub label-is : l ≡ number w (suc j) p + trees f * w j
+  pub label-is : l ≡ cut (number w (suc j) p + trees f * w j)
   pub kept-ends : (g : ℕ) → g ≤ j → entry (after .ends) g ≡ entry (before .ends) g
   pub kept-firsts : (g : ℕ) → g ≤ j → entry (after .firsts) g ≡ entry (before .firsts) g
 
 -- nothing is closed
 pub stay : {s r : ℕ} {w : ℕ → ℕ} {v : Levels} {j k l i : ℕ} {f : Forest} {p : Spine k} → At s r w v j f p i →
-    l ≡ number w (suc j) p + trees f * w j → Placed s r w v v j f p l i
+    l ≡ cut (number w (suc j) p + trees f * w j) → Placed s r w v v j f p l i
 stay a e = record { here = a; label-is = e; kept-ends = λ g n. refl; kept-firsts = λ g n. refl }
 
 module _ {s r : ℕ} {w : ℕ → ℕ} {t : Tables} {u : ℕ} (tables : Tables-right s r w (suc u) t) where
@@ -204,9 +206,10 @@ module _ {s r : ℕ} {w : ℕ → ℕ} {t : Tables} {u : ℕ} (tables : Tables-r
         (omega (arith, ltb-true i _ (and-right above below c), high-is, a .place-is))
 
   -- the label expected behind one leaf more
-  pub next-number : {k : ℕ} (f : Forest) (p : Spine k) (x l : ℕ) → l ≡ number w 1 p + trees f * w 0 →
-      l + entry (t .widths) 0 ≡ number w 1 p + trees (with-leaf f x) * w 0
-  next-number f p x l e = rw (tables .widths 0 (omega arith)) (leaf-number w f p x l e)
+  pub next-number : {k : ℕ} (f : Forest) (p : Spine k) (x l : ℕ) → l ≡ cut (number w 1 p + trees f * w 0) →
+      cut (l + entry (t .widths) 0) ≡ cut (number w 1 p + trees (with-leaf f x) * w 0)
+  next-number f p x l e =
+      rw (tables .widths 0 (omega arith), e) (cut-added (number w 1 p + trees f * w 0) (w 0) ∙ ap cut (leaf-number w f p x _ refl))
 
   -- one height down, to no trees under the node opened there
   pub descend : {v z : Levels} {j k l i : ℕ} {f : Forest} {p : Spine k} → j ≤ u → length (v .ends) ≡ table-length → length (v .firsts) ≡ table-length →
@@ -214,7 +217,7 @@ module _ {s r : ℕ} {w : ℕ → ℕ} {t : Tables} {u : ℕ} (tables : Tables-r
   unfolding leaves
   descend {v} {z} {j} {k} {l} {i} {f} {p} fits long-ends long-firsts q =
       let small : suc j < table-length = omega (arith, tables .top-fits) in
-      let ends-here : entry (z .ends) (suc j) ≡ l + entry (t .widths) (suc j) =
+      let ends-here : entry (z .ends) (suc j) ≡ cut (l + entry (t .widths) (suc j)) =
       q .kept-ends (suc j) (omega arith) ∙ getD-set-same (v .ends) (suc j) _ 0 (omega arith) in
       let firsts-here : entry (z .firsts) (suc j) ≡ i =
       q .kept-firsts (suc j) (omega arith) ∙ getD-set-same (v .firsts) (suc j) i 0 (omega arith) in
@@ -224,14 +227,14 @@ module _ {s r : ℕ} {w : ℕ → ℕ} {t : Tables} {u : ℕ} (tables : Tables-r
           good-above = (q .here .good, q .here .good-above);
           place-is = rw length-append (omega (arith, q .here .place-is));
           agrees = (
-            omega (arith, ends-here, tables .widths (suc j) (omega arith), q .label-is),
+            ends-here ∙ rw (tables .widths (suc j) (omega arith), q .label-is) (cut-added (number w (suc (suc j)) p + trees f * w (suc j)) (w (suc j))),
             rw length-append (omega (arith, firsts-here, q .here .place-is)),
             q .here .agrees,
           );
           long-ends = q .here .long-ends;
           long-firsts = q .here .long-firsts;
         };
-        label-is = omega (arith, q .label-is);
+        label-is = q .label-is ∙ ap cut (omega arith);
         kept-ends = λ g n. q .kept-ends g (omega arith) ∙ getD-set-other (v .ends) (suc j) g _ 0 (omega arith);
         kept-firsts = λ g n. q .kept-firsts g (omega arith) ∙ getD-set-other (v .firsts) (suc j) g _ 0 (omega arith);
       }

@@ -6,6 +6,7 @@ use Prim.Native.Nat.{ℕ, zero, suc, _+_}
 use lib.Dec.{ltb, leb, eqb}
 use lib.ListN.{set, replicate}
 use Rattle.shape.specs.Tables.{entry, table-length}
+use Rattle.shape.specs.Sums.{cut}
 
 -- by height: the width of a tree, the least leaves of a node, and its limit
 pub record Tables : Type 0 where
@@ -35,7 +36,7 @@ closes t h f i = leb (f + entry (t .lows) h) i && ltb i (f + entry (t .highs) h)
 unfoldable pub settle : Tables → (left h : ℕ) → (exact : Bool) → (label i : ℕ) → Levels → Settled
 settle t zero h exact l i v = record { ok = exact && ltb l (entry (v .ends) h); levels = v }
 settle t (suc k) h exact l i v =
-    let opened : Levels = record { ends = set (v .ends) h (l + entry (t .widths) h); firsts = set (v .firsts) h i } in
+    let opened : Levels = record { ends = set (v .ends) h (cut (l + entry (t .widths) h)); firsts = set (v .firsts) h i } in
     let higher = settle t k (suc h) (eqb (entry (v .ends) h) l) l i opened in
     let stays : Settled = record { ok = exact; levels = v } in
     let fails : Settled = record { ok = false; levels = v } in
@@ -57,4 +58,4 @@ all-close t (suc k) h i v = closes t h (entry (v .firsts) h) i && all-close t k 
 unfoldable pub labels-pass : Tables → (under expect i : ℕ) → Levels → (labels : List ℕ) → Bool
 labels-pass t u e i v [] = all-close t u 1 i v
 labels-pass t u e i v (l ∷ ls) =
-    let q = place-label t u e l i v in q .ok && labels-pass t u (l + entry (t .widths) 0) (suc i) (q .levels) ls
+    let q = place-label t u e l i v in q .ok && labels-pass t u (cut (l + entry (t .widths) 0)) (suc i) (q .levels) ls

@@ -5,6 +5,7 @@ use mathlib.Core.List.{List}
 use mathlib.Core.Logic.{_↔_}
 use Prim.Native.Nat.{ℕ, suc, _*_, _^_, _≤_, _<_}
 use lib.ListN.{length}
+use Rattle.store_types.specs.Limits.{label-limit}
 use Rattle.shape.specs.Tables.{entry, table-length}
 use Rattle.tree.specs.Good.{Good}
 use Rattle.tree.specs.Forest.{Forest, leaves, labels}
@@ -14,11 +15,12 @@ use Rattle.calls.specs.Words.{Says}
 use Rattle.walk_model.specs.Levels.{Tables, start-levels, labels-pass}
 use Rattle.walk_model.specs.Walk.{words-pass}
 
--- tables that are right up to height H
+-- tables that are right up to height H, whose widths a label can hold
 pub record Tables-right (s r : ℕ) (w : ℕ → ℕ) (top : ℕ) (t : Tables) : Type 0 where
   pub top-fits : top < table-length
   pub long : length (t .widths) ≡ table-length
   pub widths : (h : ℕ) → h ≤ top → entry (t .widths) h ≡ w h
+  pub narrow : (h : ℕ) → h ≤ top → w h < label-limit
   pub lows : (h : ℕ) → h ≤ top → entry (t .lows) h ≡ r ^ h
   pub highs : (h : ℕ) → h ≤ top → entry (t .highs) h ≡ s * r ^ h
 

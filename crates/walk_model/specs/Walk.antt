@@ -11,6 +11,7 @@ use Rattle.calls.specs.Store.{labels-fit}
 use Rattle.calls.specs.Sound.{degrees-fit}
 use Rattle.calls.specs.Words.{header-width}
 use Rattle.shape.specs.Tables.{entry, widths-of, lows-of, highs-of, table-length}
+use Rattle.shape.specs.Sums.{cut}
 use Rattle.walk_model.specs.Levels.{Tables, Levels, Settled, place-label, all-close}
 
 -- ONE TAG x of kind word c, where o is the innermost open begin or no tag
@@ -68,7 +69,7 @@ passed ws k i v =
       prior = x;
       open-begin = open-after ws (v .open-begin) x c;
       marks = v .marks + cond (leb 16 c) 1 0;
-      expect = label-at ws x + entry (k .tables .widths) 0;
+      expect = cut (label-at ws x + entry (k .tables .widths) 0);
       levels = placed ws k i v .levels;
     }
 

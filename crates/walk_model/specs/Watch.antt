@@ -11,6 +11,7 @@ use Rattle.store_types.specs.Layout.{at-height, at-count, word-at, label-at}
 use Rattle.words.specs.Places.{watched-label}
 use Rattle.shape.specs.Tables.{entry, entry-limit, widths-of, lows-of, highs-of, table-length}
 use Rattle.shape.specs.Packed.{Packed, numbers-in}
+use Rattle.shape.specs.Sums.{cut}
 use Rattle.walk_model.specs.Levels.{Levels}
 use Rattle.walk_model.specs.Walk.{Shape, State, passed, shape-of, start}
 
@@ -23,13 +24,13 @@ ancestor-numbers w (suc h) l a ns =
 -- the node of height h closes before place i: if it is the watched one, its size is taken
 unfoldable pub taken : (widths numbers : List ℕ) → (h i : ℕ) → Levels → (sizes : List ℕ) → List ℕ
 taken w ns h i v sz =
-    set sz h (cond (eqb (entry (v .ends) h) (entry ns h + entry w h)) (i - entry (v .firsts) h) (entry sz h))
+    set sz h (cond (eqb (entry (v .ends) h) (cut (entry ns h + entry w h))) (i - entry (v .firsts) h) (entry sz h))
 
 -- the sizes beside settle, place-label and all-close, where these pass
 unfoldable pub settle-sizes : (widths numbers : List ℕ) → (left h label i : ℕ) → Levels → (sizes : List ℕ) → List ℕ
 settle-sizes w ns zero h l i v sz = sz
 settle-sizes w ns (suc k) h l i v sz =
-    let opened : Levels = record { ends = set (v .ends) h (l + entry w h); firsts = set (v .firsts) h i } in
+    let opened : Levels = record { ends = set (v .ends) h (cut (l + entry w h)); firsts = set (v .firsts) h i } in
     let higher = settle-sizes w ns k (suc h) l i opened (taken w ns h i v sz) in
     cond (ltb l (entry (v .ends) h)) sz higher
 

@@ -57,9 +57,9 @@ fn links_fit(
     ensures { λ t. ⌜ t ≡ links-fit (now (words .entry)) (prior .0) (parent .0) (x .0) (q .0) kind ⌝ }
 {
     let up = words::get_at(words, at, words::AT_UP);
-    let open = words::get(
+    let open = words::get_at(
         words,
-        x,
+        at,
         kind_pick::at_end(kind, words::AT_MATE as u32, words::AT_UP as u32) as usize,
     );
     if open != parent.0 {

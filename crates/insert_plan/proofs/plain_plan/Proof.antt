@@ -14,15 +14,16 @@ next-label-requires c κs = let asked = c .before .before .pre in (asked .place,
 width-requires-2 : tie.Need-width-requires-2
 width-requires-2 c κs = omega arith
 
-add-t8 : tie.Need-add-t8
-add-t8 c = let asked = c .before .before .before .before .pre in omega (arith, c .width2 .ensures, asked .widths 1, asked .parent-fits)
+sum-requires : tie.Need-sum-requires
+sum-requires c κs = let asked = c .before .before .before .before .pre in (asked .parent-fits, rw (c .width2 .ensures) (asked .widths 1))
 
 returns : tie.Need-returns
 unfolding plan-record
 returns c =
-    let next = c .before in
-    plain-made _ _ _ _ (next .before .before .before .pre .parent-is) (next .before .width .ensures) (c .width2 .ensures) (next .next-label .ensures)
+    let wide = c .before in
+    let next = wide .before in
+    plain-made _ _ _ _ (next .before .before .before .pre .parent-is) (next .before .width .ensures) (wide .width2 .ensures) (next .next-label .ensures) (c .sum .ensures)
 
 pub plain-plan-spec : {M : Type 1} → statement M
 plain-plan-spec =
-    tie.close (tie.spec width-requires next-label-requires width-requires-2 add-t8 returns)
+    tie.close (tie.spec width-requires next-label-requires width-requires-2 sum-requires returns)

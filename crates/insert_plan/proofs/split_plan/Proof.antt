@@ -24,26 +24,30 @@ add-width c = omega (arith, c .before .before .pre .height)
 width-requires : tie.Need-width-requires
 width-requires c κs = omega (arith, c .before .before .pre .height)
 
-add-end : tie.Need-add-end
-add-end c =
+sum-requires : tie.Need-sum-requires
+sum-requires c κs =
     let start = c .before .before .before in
-    omega (arith, c .width .ensures, c .before .number .ensures, start .pre .widths (start .args .h + 1), start .pre .numbers (start .args .h + 1))
+    (rw (c .before .number .ensures) (start .pre .numbers (start .args .h + 1)), rw (c .width .ensures) (start .pre .widths (start .args .h + 1)))
+
+-- from where the end is known back to where s is
+abbrev begun : tie.After-sum → tie.After-high
+begun c = c .before .before .before
 
 number-requires-2 : tie.Need-number-requires-2
-number-requires-2 c κs = omega (arith, c .before .before .before .pre .height)
+number-requires-2 c κs = omega (arith, begun c .before .pre .height)
 
 high-requires-2 : tie.Need-high-requires-2
-high-requires-2 c κs = omega (arith, c .before .before .before .before .pre .height)
+high-requires-2 c κs = omega (arith, begun (c .before) .before .pre .height)
 
 sub-t10 : tie.Need-sub-t10
-sub-t10 c = let read = c .before .before .before .before in omega (arith, read .high .ensures, read .before .pre .least)
+sub-t10 c = let read = begun (c .before .before) in omega (arith, read .high .ensures, read .before .pre .least)
 
 width-requires-2 : tie.Need-width-requires-2
-width-requires-2 c κs = omega (arith, c .before .before .before .before .before .pre .height)
+width-requires-2 c κs = omega (arith, begun (c .before .before) .before .pre .height)
 
 mul-t12 : tie.Need-mul-t12
 mul-t12 c =
-    let read = c .before .before .before .before .before in
+    let read = begun (c .before .before .before) in
     let start = read .before in
     let few : read .high .result - 1 ≤ 15 = omega (arith, read .high .ensures, start .pre .most) in
     let wide : c .width2 .result ≤ entry-limit = rw (c .width2 .ensures) (start .pre .widths (start .args .h)) in
@@ -55,9 +59,11 @@ returns c =
     let limit = c .before in
     let number = limit .before in
     let end = number .before in
-    let args = end .before .before .before .args in
+    let read = begun end in
+    let args = read .before .args in
     let t = args .tables .now in
-    split-made (widths-in t) (highs-in t) (numbers-in t) (args .h) (args .left .0) (end .before .before .high .ensures) (end .before .number .ensures) (end .width .ensures) (number .number2 .ensures) (limit .high2 .ensures) (c .width2 .ensures)
+    split-made (widths-in t) (highs-in t) (numbers-in t) (args .h) (args .left .0) (read .high .ensures) (end .before .before .number .ensures) (end .before .width .ensures) (number .number2 .ensures) (limit .high2 .ensures) (c .width2 .ensures)
+    (end .sum .ensures)
 
 pub split-plan-spec : {M : Type 1} → statement M
 split-plan-spec =
@@ -68,7 +74,7 @@ split-plan-spec =
     number-requires
     add-width
     width-requires
-    add-end
+    sum-requires
     number-requires-2
     high-requires-2
     sub-t10

@@ -5,19 +5,19 @@ use Rattle.walk_levels.specs.Needs.{expected-label}
 use Rattle.walk_levels.proofs.expected.Statement.{statement}
 use Rattle.walk_levels.proofs.expected.Tie as tie
 
-cast-next : tie.Need-cast-next
-cast-next c = search needs
+cast-sum : tie.Need-cast-sum
+cast-sum c = search needs
 
-add-next : tie.Need-add-next
-add-next c = search needs
+sum-requires : tie.Need-sum-requires
+sum-requires c κs = search needs
 
 returns : tie.Need-returns
 unfolding expected-label
-returns c = rw (lt-ltb _ _ (c .if1 .taken))
+returns c = rw (← c .before .sum .ensures, lt-ltb _ _ (c .if1 .taken))
 
 returns-2 : tie.Need-returns-2
 unfolding expected-label
-returns-2 c = rw (le-ltb _ _ (c .if1 .left))
+returns-2 c = rw (← c .before .sum .ensures, le-ltb _ _ (c .if1 .left))
 
 pub expected-spec : {M : Type 1} → statement M
-expected-spec = tie.close (tie.spec cast-next add-next returns returns-2)
+expected-spec = tie.close (tie.spec cast-sum sum-requires returns returns-2)

@@ -16,14 +16,16 @@ cast-at-end-2 c = search needs
 at-end-requires : tie.Need-at-end-requires
 at-end-requires c κs = search needs
 
-cast-get : tie.Need-cast-get
-cast-get c = search needs
+cast-get-at : tie.Need-cast-get-at
+cast-get-at c = search needs
 
-get-requires : tie.Need-get-requires
-get-requires c κs = let from = c .before .before .before in (from .pre .0 .room, open-place-fits (from .args .kind) (c .at-end .ensures))
+get-at-requires-2 : tie.Need-get-at-requires-2
+get-at-requires-2 c κs =
+    let from = c .before .before .before in
+    (record { tag = from .args .x .0; there = from .pre .0 .there; room = from .pre .0 .room }, open-place-fits (from .args .kind) (c .at-end .ensures))
 
 returns : tie.Need-returns
-returns c = links-open-not _ _ _ _ _ _ (c .before .before .before .at-end .ensures) (c .before .before .get .ensures) (c .if1 .taken)
+returns c = links-open-not _ _ _ _ _ _ (c .before .before .before .at-end .ensures) (c .before .before .get-at2 .ensures _ (c .before .before .before .before .before .before .pre .0 .there)) (c .if1 .taken)
 
 at-end-requires-2 : tie.Need-at-end-requires-2
 at-end-requires-2 c κs = search needs
@@ -33,8 +35,9 @@ up-of-requires c κs = let from = c .before .before .before .before .before .bef
 
 returns-2 : tie.Need-returns-2
 returns-2 c = let read = c .before .before .before .before .before .before in
-    links-up-not _ _ _ _ _ _ (read .before .at-end .ensures) (read .get .ensures) (c .before .before .before .before .if1 .left)
-    (read .before .before .get-at .ensures _ (read .before .before .before .before .pre .0 .there)) (c .before .before .before .at-end2 .ensures)
+    let there = read .before .before .before .before .pre .0 .there in
+    links-up-not _ _ _ _ _ _ (read .before .at-end .ensures) (read .get-at2 .ensures _ there) (c .before .before .before .before .if1 .left)
+    (read .before .before .get-at .ensures _ there) (c .before .before .before .at-end2 .ensures)
     (c .before .before .up-of .ensures) (c .if2 .taken)
 
 cast-at-begin : tie.Need-cast-at-begin
@@ -46,11 +49,11 @@ cast-at-begin-2 c = search needs
 at-begin-requires : tie.Need-at-begin-requires
 at-begin-requires c κs = search needs
 
-cast-get-2 : tie.Need-cast-get-2
-cast-get-2 c = search needs
+cast-get : tie.Need-cast-get
+cast-get c = search needs
 
-get-requires-2 : tie.Need-get-requires-2
-get-requires-2 c κs = let side = c .before .before .before .before in
+get-requires : tie.Need-get-requires
+get-requires c κs = let side = c .before .before .before .before in
     let from = side .before .before .before .before .before .before .before in
     (partner-fits (from .args .kind) _ (side .at-end2 .ensures) (from .pre .0 .beside) (from .pre .0 .room), back-place-fits (from .args .kind) (c .at-begin .ensures))
 
@@ -60,10 +63,11 @@ at-begin-requires-2 c κs = search needs
 returns-3 : tie.Need-returns-3
 returns-3 c = let side = c .before .before .before .before .before .before in
     let read = side .before .before .before in
-    links-back _ _ _ _ _ _ (read .before .at-end .ensures) (read .get .ensures) (side .before .if1 .left)
-    (read .before .before .get-at .ensures _ (read .before .before .before .before .pre .0 .there)) (side .at-end2 .ensures)
+    let there = read .before .before .before .before .pre .0 .there in
+    links-back _ _ _ _ _ _ (read .before .at-end .ensures) (read .get-at2 .ensures _ there) (side .before .if1 .left)
+    (read .before .before .get-at .ensures _ there) (side .at-end2 .ensures)
     (c .before .before .before .before .before .up-of .ensures) (c .before .before .before .if2 .left) (c .before .before .at-begin .ensures)
-    (c .before .get2 .ensures) (c .at-begin2 .ensures)
+    (c .before .get .ensures) (c .at-begin2 .ensures)
 
 pub links-fit-spec : {M : Type 1} → statement M
 links-fit-spec =
@@ -73,8 +77,8 @@ links-fit-spec =
     cast-at-end
     cast-at-end-2
     at-end-requires
-    cast-get
-    get-requires
+    cast-get-at
+    get-at-requires-2
     returns
     at-end-requires-2
     up-of-requires
@@ -82,7 +86,7 @@ links-fit-spec =
     cast-at-begin
     cast-at-begin-2
     at-begin-requires
-    cast-get-2
-    get-requires-2
+    cast-get
+    get-requires
     at-begin-requires-2
     returns-3)
