@@ -34,7 +34,7 @@ inside-tests x st =
     ∷ (not (eqb x no-tag) && not (is-begin (fact st x .kind)), 10)
     ∷ []
 
--- and then of the two lent lists, whose lengths are t and l
-unfoldable pub list-refusal : (t l section : ℕ) → Store → ℕ
-list-refusal t l x st =
-    let n = length (listed-tags x st) in first (inside-tests x st ++ (ltb t n || ltb l n, 11) ∷ []) 0
+-- and then of the two lent lists, by their lengths
+unfoldable pub list-refusal : (tags labels section : ℕ) → Store → ℕ
+list-refusal tags labels x st =
+    let many = length (listed-tags x st) in first (inside-tests x st ++ (ltb tags many || ltb labels many, 11) ∷ []) 0

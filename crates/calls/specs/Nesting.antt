@@ -25,14 +25,14 @@ closing zero x (end ∷ ks) = x
 closing (suc d) x (end ∷ ks) = closing d (suc x) ks
 closing d x (text ∷ ks) = closing d (suc x) ks
 
--- the unmarked tags x, x + 1, .. of a row of kinds; u is the innermost open begin or no tag, os are those around it
-unfoldable pub new-facts : (u : ℕ) → (os : List ℕ) → (x : ℕ) → List Kind → List Fact
-new-facts u os x [] = []
-new-facts u os x (begin ∷ ks) =
-    new-fact begin false (closing 0 (suc x) ks) u ∷ new-facts x (u ∷ os) (suc x) ks
-new-facts u os x (end ∷ ks) =
-    new-fact end false u (headD os no-tag) ∷ new-facts (headD os no-tag) (tail os) (suc x) ks
-new-facts u os x (text ∷ ks) = new-fact text false x u ∷ new-facts u os (suc x) ks
+-- the unmarked tags x, x + 1, .. of a row of kinds; o is the innermost open begin or no tag, os are those around it
+unfoldable pub new-facts : (o : ℕ) → (os : List ℕ) → (x : ℕ) → List Kind → List Fact
+new-facts o os x [] = []
+new-facts o os x (begin ∷ ks) =
+    new-fact begin false (closing 0 (suc x) ks) o ∷ new-facts x (o ∷ os) (suc x) ks
+new-facts o os x (end ∷ ks) =
+    new-fact end false o (headD os no-tag) ∷ new-facts (headD os no-tag) (tail os) (suc x) ks
+new-facts o os x (text ∷ ks) = new-fact text false x o ∷ new-facts o os (suc x) ks
 
 -- THE PASS. o is the innermost open begin, or no tag. A begin or text has o as its up, and is marked if o is; a text is
 -- its own mate. An end and o are each other's mates, and have the same up and mark.

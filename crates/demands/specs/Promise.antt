@@ -117,6 +117,7 @@ request (holds x q) = hold x
 request (asks p d q) = ask p d
 request (lists x ts ls us ms q) = list x ts ls
 
+-- a run from words in which just these requests were made, in their order
 pub record Ran-so (ws : List ℕ) (qs : List Request) : Type 0 where
   pub events : List Event
   pub end : List ℕ
@@ -147,6 +148,8 @@ pub record Current-words (p : HeldPair) (ws : List ℕ) : Type 0 where
 unfoldable pub Enclosed : HeldPair → (d : ℕ) → (words : List ℕ) → Type 0
 Enclosed p d ws = Stand ws (p .tag .0) d (field ws (p .tag .0) at-mate)
 
+-- what yes and no have in common: the words say a store, the pair is of its tags and current, d is unmarked; and what the answer
+-- tells
 pub record Yes-or-no-words (p : HeldPair) (d : ℕ) (ws : List ℕ) (enclosure : Type 0) : Type 0 where
   pub says : Says-some ws
   pub asked : Asked-words p d ws

@@ -1,8 +1,8 @@
 -- Labels written along the row of an image: its words afterwards, and how many labels were others. Assumes nothing.
-use mathlib.Core.Path.{_≡_, refl, ap, sym, _∙_}
+use mathlib.Core.Path.{_≡_, refl, _∙_}
 use mathlib.Core.Bool.{true, false, _||_, cond, or-true}
-use mathlib.Core.List.{List, [], _∷_, _++_, map, append-assoc, map-append}
-use Prim.Native.Nat.{ℕ, zero, suc, pred, _+_, _-_, _≤_, _<_}
+use mathlib.Core.List.{List, [], _∷_, _++_, map, append-assoc}
+use Prim.Native.Nat.{ℕ, zero, suc, _+_, _-_, _≤_, _<_}
 use native.Mathlib.Omega.{arith}
 use borrow.Author.Tests.{ltb-true, ltb-false, le-leb, lt-leb}
 use lib.Dec.{leb, ltb, eqb}
@@ -11,7 +11,6 @@ use lib.Seq.{length-take-le, drop-cons, getD-set-other, drop-set-lt, sets, lengt
 use Rattle.store_types.specs.Limits.{no-tag, word-limit, most-tags}
 use Rattle.lists.proofs.Tests.{by-test}
 use Rattle.store_types.specs.Layout.{at-next, field, label-at, with-label}
-use Rattle.tree.specs.Forest.{Forest, nil, leaf, node, labels}
 use Rattle.edit_model.specs.Image.{Image, image-words, with-labels}
 use Rattle.shape.specs.Sums.{cut}
 use Rattle.shape.proofs.Sums.{cut-below}

@@ -22,16 +22,16 @@ pub record Image : Type 0 where
   pub facts : List Fact
 
 unfoldable pub image-header : Image → List ℕ
-image-header v =
-    1 ∷ v .s ∷ v .r ∷ v .levels ∷ length (v .facts) ∷ getD (v .tags) 0 no-tag ∷ v .number ∷ v .stamp ∷ []
+image-header image =
+    1 ∷ image .s ∷ image .r ∷ image .levels ∷ length (image .facts) ∷ getD (image .tags) 0 no-tag ∷ image .number ∷ image .stamp ∷ []
 
 unfoldable pub image-record : Image → (tag : ℕ) → List ℕ
-image-record v x =
-    let t = fact-in (v .facts) x in
-    getD (v .labels) (place x (v .tags)) 0 ∷ next-in (v .tags) x ∷ prior-in (v .tags) x ∷ t .mate ∷ t .up ∷ kind-word (t .kind) (t .marked) ∷ []
+image-record image x =
+    let t = fact-in (image .facts) x in
+    getD (image .labels) (place x (image .tags)) 0 ∷ next-in (image .tags) x ∷ prior-in (image .tags) x ∷ t .mate ∷ t .up ∷ kind-word (t .kind) (t .marked) ∷ []
 
 unfoldable pub image-words : Image → List ℕ
-image-words v = image-header v ++ flatMap (image-record v) (numbers 0 (length (v .facts)))
+image-words image = image-header image ++ flatMap (image-record image) (numbers 0 (length (image .facts)))
 
 unfoldable pub image-of : Store → Image
 image-of st =
@@ -48,14 +48,14 @@ image-of st =
 
 -- an image with other labels
 unfoldable pub with-labels : List ℕ → Image → Image
-with-labels ls v =
+with-labels ls image =
     record {
-      s = v .s;
-      r = v .r;
-      levels = v .levels;
-      number = v .number;
-      stamp = v .stamp;
-      tags = v .tags;
+      s = image .s;
+      r = image .r;
+      levels = image .levels;
+      number = image .number;
+      stamp = image .stamp;
+      tags = image .tags;
       labels = ls;
-      facts = v .facts;
+      facts = image .facts;
     }

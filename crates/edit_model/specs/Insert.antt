@@ -67,14 +67,14 @@ plain-plan ws w u y =
     }
 
 unfoldable pub root-plan : (height count : ℕ) → Plan
-root-plan h n = record { height = h; left = no-tag; number = 0; count = n; bound = 0; by = 0 }
+root-plan h count = record { height = h; left = no-tag; number = 0; count = count; bound = 0; by = 0 }
 
 -- the node of height h below the root is split; `left` is the tag left of it
 unfoldable pub split-plan : (s : ℕ) → (widths highs numbers : List ℕ) → (h left : ℕ) → Plan
-split-plan s w hi ns h x =
+split-plan s w hi ns h left =
     record {
       height = h;
-      left = x;
+      left = left;
       number = entry ns h;
       count = entry hi h;
       bound = cut (entry ns (suc h) + entry w (suc h));
@@ -91,7 +91,7 @@ plan ws s w hi sz n k u y =
 
 -- H is one higher where the root was split
 unfoldable pub raised-words : List ℕ → (split : ℕ) → List ℕ
-raised-words ws h = cond (eqb h (word-at ws at-height)) (set ws at-height (suc (word-at ws at-height))) ws
+raised-words ws split = cond (eqb split (word-at ws at-height)) (set ws at-height (suc (word-at ws at-height))) ws
 
 -- THE CHANGE: the words afterwards, how many tags moved, and the split height
 pub record Edited : Type 0 where
@@ -103,11 +103,11 @@ unfoldable pub plan-of : List ℕ → (k place : ℕ) → Plan
 plan-of ws k y =
     plan ws (word-at ws at-s) (widths-of ws) (highs-of ws) (sizes-at ws y (replicate table-length 0)) (word-at ws at-count) k (pred (word-at ws at-height)) y
 
--- one tag goes in behind a place by a plan made before; c of the numbered tags are new
-unfoldable pub put-words : List ℕ → (widths : List ℕ) → (r n c : ℕ) → Plan → Edited
-put-words ws w r n c p =
+-- one tag goes in behind a place by a plan made before; k of the numbered tags are new
+unfoldable pub put-words : List ℕ → (widths : List ℕ) → (r n k : ℕ) → Plan → Edited
+put-words ws w r n k p =
     let q = applied ws w r n p in
-    record { words = raised-words (q .words) (p .height); moved = q .moved - c; split = p .height }
+    record { words = raised-words (q .words) (p .height); moved = q .moved - k; split = p .height }
 
 unfoldable pub text-edit : (place : ℕ) → List ℕ → Edited
 text-edit y ws =

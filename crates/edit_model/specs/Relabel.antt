@@ -22,14 +22,14 @@ relabel (x ∷ xs) (l ∷ ls) ws =
 -- the tag behind so many along next
 unfoldable pub along : (steps : ℕ) → List ℕ → (tag : ℕ) → ℕ
 along zero ws x = x
-along (suc n) ws x = along n ws (field ws x at-next)
+along (suc m) ws x = along m ws (field ws x at-next)
 
 -- `by` is added to each label from a tag on, as long as the tag is one of n and its label is below
 -- a bound; `most` bounds the steps
 unfoldable pub shift : (most n : ℕ) → List ℕ → (tag bound by : ℕ) → Relabelled
-shift zero n ws x b d = record { words = ws; moved = 0 }
-shift (suc k) n ws x b d =
+shift zero n ws x bound by = record { words = ws; moved = 0 }
+shift (suc m) n ws x bound by =
     let stays : Relabelled = record { words = ws; moved = 0 } in
-    let rest = shift k n (with-label ws x (cut (label-at ws x + d))) (field ws x at-next) b d in
+    let rest = shift m n (with-label ws x (cut (label-at ws x + by))) (field ws x at-next) bound by in
     let goes : Relabelled = record { words = rest .words; moved = suc (rest .moved) } in
-    cond (leb n x || leb b (label-at ws x)) stays goes
+    cond (leb n x || leb bound (label-at ws x)) stays goes

@@ -10,12 +10,12 @@ use Rattle.shape.specs.Tables.{entry}
 -- the highest height from h on whose ancestor comes to its limit with k leaves more; `left` heights are left below the
 -- root, and `found` is the one below h
 unfoldable pub highest-full : (highs sizes : List ℕ) → (k left h found : ℕ) → ℕ
-highest-full hi sz k zero h q = q
-highest-full hi sz k (suc m) h q = highest-full hi sz k m (suc h) (cond (eqb (entry sz h + k) (entry hi h)) h q)
+highest-full hi sz k zero h found = found
+highest-full hi sz k (suc m) h found = highest-full hi sz k m (suc h) (cond (eqb (entry sz h + k) (entry hi h)) h found)
 
 -- the tag left of a node: from x on along prior as long as it is a tag of n with a label of at least low; `most` bounds
 -- the steps
 unfoldable pub left-border : (most n : ℕ) → List ℕ → (low : ℕ) → (tag : ℕ) → ℕ
 left-border zero n ws low x = x
-left-border (suc k) n ws low x =
-    let further = left-border k n ws low (field ws x at-prior) in cond (leb n x || ltb (label-at ws x) low) x further
+left-border (suc m) n ws low x =
+    let further = left-border m n ws low (field ws x at-prior) in cond (leb n x || ltb (label-at ws x) low) x further

@@ -33,7 +33,7 @@ pub record Ready (c k : ℕ) (ws : List ℕ) (n y up : ℕ) (p : Plan) (tables :
   pub packed : Packed tables (widths-of ws) (lows-of ws) (highs-of ws)
 
 abbrev pub Both-ready : (ws : List ℕ) → (n y up : ℕ) → Plan → (tables : List ℕ) → Type 0
-Both-ready ws n y u p t = Ready 1 2 ws n y u p t × (plan-of ws 1 y .height < plan-of ws 2 y .height)
+Both-ready ws n y up p t = Ready 1 2 ws n y up p t × (plan-of ws 1 y .height < plan-of ws 2 y .height)
 
 -- the ancestors of a place, and the number of its parent
 pub record Parent-reads (ws tables : List ℕ) : Type 0 where

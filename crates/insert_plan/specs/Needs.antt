@@ -22,8 +22,8 @@ pub record Split-fits (h : ℕ) (tables : List ℕ) : Type 0 where
   pub least : 1 ≤ s-in tables
   pub most : s-in tables ≤ 16
   pub height : h ≤ 22
-  pub widths : (i : ℕ) → entry (widths-in tables) i ≤ entry-limit
-  pub numbers : (i : ℕ) → entry (numbers-in tables) i ≤ entry-limit
+  pub widths : (j : ℕ) → entry (widths-in tables) j ≤ entry-limit
+  pub numbers : (j : ℕ) → entry (numbers-in tables) j ≤ entry-limit
 
 -- and all of it
 pub record Plan-reads (ws : List ℕ) (y : ℕ) (tables : List ℕ) : Type 0 where

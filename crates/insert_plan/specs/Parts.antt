@@ -17,7 +17,7 @@ plan-record p = record { height = p .height; left = p .left .0; number = p .numb
 
 -- the number behind a place
 unfoldable pub next-label : List ℕ → (place width : ℕ) → ℕ
-next-label ws y v = cond (eqb y no-tag) 0 (cut (label-at ws y + v))
+next-label ws y width = cond (eqb y no-tag) 0 (cut (label-at ws y + width))
 
 -- the plan where the root does not come to its limit: the ancestor of height h is split, or none where that is 0
 unfoldable pub inner-plan : List ℕ → (s : ℕ) → (widths highs : List ℕ) → (n under h place : ℕ) → Plan

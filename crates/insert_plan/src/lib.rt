@@ -59,7 +59,10 @@ fn split_plan(h: usize, left: TagId, tables: &[u64; PACKED_LENGTH]) -> Plan
     ensures { λ p. ⌜ plan-record p ≡ split-plan (s-in (now (tables .entry))) (widths-in (now (tables .entry))) (highs-in (now (tables .entry))) (numbers-in (now (tables .entry))) h (left .0) ⌝ }
 {
     let s = shape::tables::high(tables, 0);
-    let end = shape::sum(shape::tables::number(tables, h + 1), shape::tables::width(tables, h + 1));
+    let end = shape::sum(
+        shape::tables::number(tables, h + 1),
+        shape::tables::width(tables, h + 1),
+    );
     Plan {
         height: h,
         left,

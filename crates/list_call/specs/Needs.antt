@@ -18,19 +18,19 @@ abbrev pub Has-place : Store → (tag : ℕ) → Type 0
 Has-place st x = getD (row st) (place-of st x) no-tag ≡ x
 
 -- words that say a store, and two that stand in its row, the second not before the first
-pub record Span-said (ws : List ℕ) (x y : ℕ) : Type 0 where
+pub record Span-said (ws : List ℕ) (x d : ℕ) : Type 0 where
   pub says : Says ws (said ws)
   pub from : Has-place (said ws) x
-  pub to : Has-place (said ws) y
-  pub order : place-of (said ws) x ≤ place-of (said ws) y
+  pub to : Has-place (said ws) d
+  pub order : place-of (said ws) x ≤ place-of (said ws) d
 
 -- the unmarked tags of a row, and those from one tag up to another
 unfoldable pub unmarked : Store → List ℕ → List ℕ
 unmarked st [] = []
 unmarked st (d ∷ ds) = let rest = unmarked st ds in cond (fact st d .marked) rest (d ∷ rest)
 
-unfoldable pub unmarked-between : Store → (x y : ℕ) → List ℕ
-unmarked-between st x y = unmarked st (slice (place-of st x) (place-of st y) (row st))
+unfoldable pub unmarked-between : Store → (x d : ℕ) → List ℕ
+unmarked-between st x d = unmarked st (slice (place-of st x) (place-of st d) (row st))
 
 -- 8, 9 and 10 of list, 0 where there is none (1 and 2 are the words', 11 the lent lists')
 unfoldable pub inside-refusal : (section : ℕ) → Store → ℕ
@@ -46,4 +46,4 @@ stop-of x st = cond (eqb x no-tag) no-tag (fact st x .mate)
 
 -- one of two lists has less room than so many
 unfoldable pub short : (many tags labels : ℕ) → Bool
-short n t l = ltb t n || ltb l n
+short many tags labels = ltb tags many || ltb labels many

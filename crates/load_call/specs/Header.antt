@@ -11,4 +11,4 @@ first-number n = cond (eqb n 0) no-tag 0
 
 -- as document 01 has it ("The book in words"), with stamp 0
 unfoldable pub header-new : (s r h n number : ℕ) → List ℕ
-header-new s r h n b = 1 ∷ s ∷ r ∷ h ∷ n ∷ first-number n ∷ b ∷ 0 ∷ []
+header-new s r h n number = 1 ∷ s ∷ r ∷ h ∷ n ∷ first-number n ∷ number ∷ 0 ∷ []

@@ -9,10 +9,10 @@ use lib.ListN.{length, set}
 use Rattle.shape.specs.Tables.{entry, table-length}
 use Rattle.shape.specs.Sums.{cut}
 
--- behind a node over e leaves that begins at place i of n, the place where the next one of its height begins: n where there is
+-- behind a node over `each` leaves that begins at place i of n, the place where the next one of its height begins: n where there is
 -- none, since the last takes all that remain
-unfoldable pub next-begin : (i n e : ℕ) → ℕ
-next-begin i n e = cond (leb (i + 2 * e) n) (i + e) n
+unfoldable pub next-begin : (i n each : ℕ) → ℕ
+next-begin i n each = cond (leb (i + 2 * each) n) (i + each) n
 
 -- a label, and the places where the next nodes begin: the j-th is that of height j + 1
 pub record Front : Type 0 where
@@ -22,11 +22,11 @@ pub record Front : Type 0 where
 -- at place i the nodes that begin there, from height j + 1 on: each takes the label a gap further. Where none of a height begins,
 -- none above it does
 unfoldable pub begun : (most j : ℕ) → (gaps lows : List ℕ) → (n i label : ℕ) → (begins : List ℕ) → Front
-begun zero j g l n i a bs = record { label = a; begins = bs }
-begun (suc k) j g l n i a bs =
-    let stays : Front = record { label = a; begins = bs } in
-    let goes = begun k (suc j) g l n i (cut (a + entry g j)) (set bs j (next-begin i n (entry l j))) in
-    cond (eqb (entry bs j) i) goes stays
+begun zero j gaps lo n i l begins = record { label = l; begins = begins }
+begun (suc m) j gaps lo n i l begins =
+    let stays : Front = record { label = l; begins = begins } in
+    let goes = begun m (suc j) gaps lo n i (cut (l + entry gaps j)) (set begins j (next-begin i n (entry lo j))) in
+    cond (eqb (entry begins j) i) goes stays
 
 -- before any tag is written: behind the first node of each of u heights the next one
 pub record First-begins (n u : ℕ) (lows begins : List ℕ) : Type 0 where

@@ -9,7 +9,7 @@ use Rattle.calls.specs.Load.{all-kinds, kinds-tests, early-tests}
 
 -- 4 and 5 of the kinds that are left where so many begins are open; 0 where there is neither
 unfoldable pub kinds-refusal : (open-begins : ℕ) → List ℕ → ℕ
-kinds-refusal d cs = first (kinds-tests d cs) 0
+kinds-refusal depth cs = first (kinds-tests depth cs) 0
 
 -- the same where an end before them closes none
 unfoldable pub rest-refusal : List ℕ → ℕ
@@ -17,7 +17,7 @@ rest-refusal cs = cond (not (all-kinds cs)) 4 5
 
 -- how many begins are open behind a kind
 unfoldable pub depth-behind : (open-begins kind : ℕ) → ℕ
-depth-behind d c = cond (eqb c 1) (d + 1) (cond (eqb c 2) (d - 1) d)
+depth-behind depth c = cond (eqb c 1) (depth + 1) (cond (eqb c 2) (depth - 1) depth)
 
 -- 3, 6, 1, 4 and 5 in this order, 0 where there is none
 unfoldable pub refusal-before : (lent s r : ℕ) → (kinds : List ℕ) → ℕ

@@ -27,8 +27,8 @@ prior-number x = cond (ltb 0 x) (x - 1) no-tag
 
 -- label, kind, next and prior of tag x
 unfoldable pub place-written : (x n kind label : ℕ) → List ℕ → List ℕ
-place-written x n c a ws =
-    with-field (with-field (with-field (with-label ws x a) x at-kind c) x at-next (next-number x n)) x at-prior (prior-number x)
+place-written x n c l ws =
+    with-field (with-field (with-field (with-label ws x l) x at-kind c) x at-next (next-number x n)) x at-prior (prior-number x)
 
 -- a kind as the caller gives it
 pub record Kind-number (c : ℕ) : Type 0 where
@@ -45,16 +45,16 @@ new-up c o ws = cond (eqb c 2) (field ws o at-up) o
 
 -- a tag with this mate and up is the mate of its mate
 unfoldable pub links-written : (x mate up : ℕ) → List ℕ → List ℕ
-links-written x m u ws = with-field (with-field (with-field ws x at-mate m) m at-mate x) x at-up u
+links-written x mate up ws = with-field (with-field (with-field ws x at-mate mate) mate at-mate x) x at-up up
 
 -- the whole record
 unfoldable pub tag-written : (x n kind label o : ℕ) → List ℕ → List ℕ
-tag-written x n c a o ws =
-    let placed = place-written x n c a ws in links-written x (new-mate x c o) (new-up c o placed) placed
+tag-written x n c l o ws =
+    let placed = place-written x n c l ws in links-written x (new-mate x c o) (new-up c o placed) placed
 
 -- the innermost open begin behind tag x
 unfoldable pub open-behind : (x n kind label o : ℕ) → List ℕ → ℕ
-open-behind x n c a o ws = cond (eqb c 1) x (new-up c o (place-written x n c a ws))
+open-behind x n c l o ws = cond (eqb c 1) x (new-up c o (place-written x n c l ws))
 
 -- what a tag is asked of: the records of n tags are there, x is one of them, and an end has a begin
 pub record Tag-fits (ws : List ℕ) (n x kind o : ℕ) : Type 0 where
@@ -111,7 +111,7 @@ labels-new r w n u = map cut (labels (spread u r (numbers 0 n)) (entry w) u 0)
 
 -- what a table is asked of: a sum of entries fits
 pub record Entries-fit (t : List ℕ) : Type 0 where
-  pub each : (k : ℕ) → entry t k ≤ entry-limit
+  pub each : (h : ℕ) → entry t h ≤ entry-limit
 
 -- and one of widths: a node of height h + 1 has room for r of height h
 pub record Widths-rise (r u : ℕ) (w : List ℕ) : Type 0 where

@@ -28,10 +28,10 @@ count-new ws (x ∷ xs) = new-mark (field ws x at-kind) + count-new (mark-one ws
 
 -- from tag x along next to the last one: at most so many tags, each below n
 unfoldable pub section-tags : (steps n : ℕ) → List ℕ → (x last : ℕ) → List ℕ
-section-tags zero n ws x m = []
-section-tags (suc k) n ws x m =
-    let rest = section-tags k n ws (field ws x at-next) m in
-    cond (ltb x n) (x ∷ cond (eqb x m) [] rest) []
+section-tags zero n ws x last = []
+section-tags (suc m) n ws x last =
+    let rest = section-tags m n ws (field ws x at-next) last in
+    cond (ltb x n) (x ∷ cond (eqb x last) [] rest) []
 
 -- a section's tags, to its mate
 unfoldable pub tags-of : (n : ℕ) → List ℕ → (section : ℕ) → List ℕ

@@ -18,7 +18,8 @@ use Rattle.shape.proofs.Sums.{cut-small, labels-cut}
 use Rattle.edit_model.specs.Relabel.{Relabelled, relabel, along}
 use Rattle.edit_model.proofs.Relabels.{relabel-append-words, relabel-append-moved}
 use Rattle.renumber.specs.Needs.{Row-there, Trees-fit, Row-numbered, Part-size, leaves-numbered, trees-numbered}
-use Rattle.renumber.proofs.Rows.{Same-next, follow-same, relabel-keeps-next, length-follow, take-follow, drop-follow, relabel-none, follow-add, moved-most, leaf-widths, On-way, on}
+use Rattle.calls_laws.proofs.Reader.{length-follow}
+use Rattle.renumber.proofs.Rows.{Same-next, follow-same, relabel-keeps-next, take-follow, drop-follow, relabel-none, follow-add, moved-most, leaf-widths, On-way, on}
 
 -- so many parts of e tags over what is left of a row, each a tree of height j
 unfoldable pub parts-numbered : (ws widths : List ℕ) → (r j e p a x left : ℕ) → Relabelled

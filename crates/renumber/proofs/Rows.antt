@@ -42,11 +42,6 @@ relabel-keeps-next (x ∷ xs) [] ws y = refl
 relabel-keeps-next (x ∷ xs) (l ∷ ls) ws y = relabel-keeps-next xs ls (with-label ws x l) y ∙ label-keeps-next ws x l y
 
 -- SO MANY TAGS of a row, and those behind them
-pub length-follow : (k : ℕ) (ws : List ℕ) (x : ℕ) → length (follow k ws x) ≡ k
-unfolding follow
-length-follow zero ws x = refl
-length-follow (suc k) ws x = ap suc (length-follow k ws (field ws x at-next))
-
 pub take-follow : (e d : ℕ) (ws : List ℕ) (x : ℕ) → take e (follow (e + d) ws x) ≡ follow e ws x
 unfolding follow
 take-follow zero d ws x = refl

@@ -26,8 +26,8 @@ pub record Trees-fit (j a count : ℕ) (tables : List ℕ) : Type 0 where
   pub height : j ≤ 22
   pub least : 1 ≤ j → r-in tables ^ j ≤ count
   pub number : a < label-limit
-  pub widths : (k : ℕ) → entry (widths-in tables) k ≤ entry-limit
-  pub lows : (k : ℕ) → k ≤ j → entry (lows-in tables) k ≡ r-in tables ^ k
+  pub widths : (h : ℕ) → entry (widths-in tables) h ≤ entry-limit
+  pub lows : (h : ℕ) → h ≤ j → entry (lows-in tables) h ≡ r-in tables ^ h
 
 -- how many tags the next of so many parts takes: the last takes all that remain
 pub record Part-size (parts each left size : ℕ) : Type 0 where
@@ -36,7 +36,7 @@ pub record Part-size (parts each left size : ℕ) : Type 0 where
 
 -- labels for so many tags along next from x on, by numbers from a on: of leaves a width apart, and of trees of height j
 unfoldable pub leaves-numbered : (ws : List ℕ) → (width a x count : ℕ) → Relabelled
-leaves-numbered ws v a x count = let xs = follow count ws x in relabel xs (map cut (labels (leaf-row xs) (λ k. v) 0 a)) ws
+leaves-numbered ws width a x count = let xs = follow count ws x in relabel xs (map cut (labels (leaf-row xs) (λ h. width) 0 a)) ws
 
 unfoldable pub trees-numbered : (ws widths : List ℕ) → (r j a x count : ℕ) → Relabelled
 trees-numbered ws w r j a x count = let xs = follow count ws x in relabel xs (map cut (labels (spread j r xs) (entry w) j a)) ws

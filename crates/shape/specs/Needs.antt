@@ -30,10 +30,10 @@ pub record Widths-fit (ws : List ℕ) : Type 0 where
   pub r-most : word-at ws at-r ≤ 16
   pub table : Table-fits 1 (word-at ws at-s * word-at ws at-r - 1) (word-at ws at-height)
 
-pub record Root-fits (h : ℕ) (l : List ℕ) : Type 0 where
+pub record Root-fits (h : ℕ) (lo : List ℕ) : Type 0 where
   pub low : 1 ≤ h
   pub high : h < table-length
-  pub lows : (k : ℕ) → getD l k 0 ≤ entry-limit
+  pub lows : (j : ℕ) → getD lo j 0 ≤ entry-limit
 
 unfoldable pub root-passes : (n h : ℕ) → (lows highs : List ℕ) → Bool
-root-passes n h l u = ltb n (entry u h) && (eqb h 1 || leb (2 * entry l (pred h)) n)
+root-passes n h lo hi = ltb n (entry hi h) && (eqb h 1 || leb (2 * entry lo (pred h)) n)

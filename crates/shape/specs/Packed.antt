@@ -6,8 +6,8 @@ use Prim.Native.Nat.{ℕ, _*_, _<_}
 use lib.ListN.{take, drop}
 use Rattle.shape.specs.Tables.{entry, table-length}
 
-unfoldable pub part : (k : ℕ) → List ℕ → List ℕ
-part k t = take table-length (drop (table-length * k) t)
+unfoldable pub part : (which : ℕ) → List ℕ → List ℕ
+part which t = take table-length (drop (table-length * which) t)
 
 abbrev pub widths-in : List ℕ → List ℕ
 widths-in t = part 0 t
@@ -28,13 +28,13 @@ s-in t = entry (highs-in t) 0
 abbrev pub r-in : List ℕ → ℕ
 r-in t = entry (lows-in t) 1
 
--- u is t with one part replaced
-pub record With-part (t : List ℕ) (k : ℕ) (from u : List ℕ) : Type 0 where
-  pub new : part k u ≡ from
-  pub kept : (j : ℕ) → j < 4 → (j ≡ k → ⊥) → part j u ≡ part j t
+-- one part is replaced
+pub record With-part (before : List ℕ) (which : ℕ) (new-part after : List ℕ) : Type 0 where
+  pub new : part which after ≡ new-part
+  pub kept : (other : ℕ) → other < 4 → (other ≡ which → ⊥) → part other after ≡ part other before
 
-abbrev pub With-numbers : (t numbers u : List ℕ) → Type 0
-With-numbers t ns u = With-part t 3 ns u
+abbrev pub With-numbers : (before numbers after : List ℕ) → Type 0
+With-numbers before ns after = With-part before 3 ns after
 
 -- the three that a header gives
 pub record Packed (t widths lows highs : List ℕ) : Type 0 where

@@ -66,7 +66,7 @@ records-at ws = header-words
 
 -- how many words a header and the records of n tags have
 unfoldable pub words-for : (header n : ℕ) → ℕ
-words-for h n = h + tag-words * n
+words-for header n = header + tag-words * n
 
 -- a field of a tag's record, and its label
 unfoldable pub field : List ℕ → (tag k : ℕ) → ℕ

@@ -25,25 +25,25 @@ pub record Pass-fits (ws : List ℕ) (n under : ℕ) (tables : List ℕ) : Type 
   pub wide : 1 ≤ getD (widths-in tables) 1 0
 
 unfoldable pub shape-with : (widths lows highs : List ℕ) → (under n : ℕ) → Shape
-shape-with w l h u n = record { tables = tables-of w l h; under = u; n = n }
+shape-with w lo hi u n = record { tables = tables-of w lo hi; under = u; n = n }
 
 abbrev pub shape-in : (tables : List ℕ) → (under n : ℕ) → Shape
 shape-in t u n = shape-with (widths-in t) (lows-in t) (highs-in t) u n
 
 -- the label that comes next behind a tag, or at the front
 unfoldable pub label-due : List ℕ → (prior : ℕ) → ℕ
-label-due ws p = cond (eqb p no-tag) 0 (cut (label-at ws p + 1))
+label-due ws prior = cond (eqb prior no-tag) 0 (cut (label-at ws prior + 1))
 
 -- where the code stands, with the levels that it keeps beside it
 unfoldable pub state-with : List ℕ → code.State → (ends firsts : List ℕ) → State
-state-with ws v e f =
+state-with ws v ends firsts =
     record {
       tag = v .tag .0;
       prior = v .prior .0;
       open-begin = v .parent .0;
       marks = v .marks;
       expect = label-due ws (v .prior .0);
-      levels = levels-of e f;
+      levels = levels-of ends firsts;
     }
 
 -- what it carries is right: where the tag's record stands, the label that is waited for, the begins that are open
@@ -55,7 +55,7 @@ pub record Standing (ws : List ℕ) (n : ℕ) (ends : List ℕ) (v : code.State)
 
 -- a tag's number and label
 unfoldable pub label-passes : List ℕ → Shape → (i : ℕ) → State → Bool
-label-passes ws k i v = ltb (v .tag) (k .n) && placed ws k i v .ok
+label-passes ws shape i v = ltb (v .tag) (shape .n) && placed ws shape i v .ok
 
 -- and where it stands behind that tag: end is where the open node of height 1 ends
 pub record Behind (ws : List ℕ) (end : ℕ) (v q : code.State) : Type 0 where
@@ -79,5 +79,5 @@ pub record Ends-fit (ws : List ℕ) (n under marks : ℕ) (tables : List ℕ) : 
   pub tables-fit : Tables-fit under tables
 
 unfoldable pub ends-from : (words : List ℕ) → (n under : ℕ) → (lows highs firsts : List ℕ) → (tag open-begin marks : ℕ) → Bool
-ends-from ws n u l h f x o m =
-    (eqb x no-tag && eqb o no-tag) && (close-from l h u n f && leb (word-at ws at-stamp) (n + m))
+ends-from ws n u lo hi firsts x o marks =
+    (eqb x no-tag && eqb o no-tag) && (close-from lo hi u n firsts && leb (word-at ws at-stamp) (n + marks))

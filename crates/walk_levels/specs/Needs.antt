@@ -11,20 +11,20 @@ use Rattle.shape.specs.Packed.{widths-in, lows-in, highs-in, numbers-in}
 use Rattle.walk_model.specs.Levels.{Tables, Levels, Settled, closes, settle, place-label, all-close}
 
 unfoldable pub tables-of : (widths lows highs : List ℕ) → Tables
-tables-of w l h = record { widths = w; lows = l; highs = h }
+tables-of w lo hi = record { widths = w; lows = lo; highs = hi }
 
 unfoldable pub levels-of : (ends firsts : List ℕ) → Levels
-levels-of e f = record { ends = e; firsts = f }
+levels-of ends firsts = record { ends = ends; firsts = firsts }
 
-pub record Levels-fit (under : ℕ) (w l h : List ℕ) : Type 0 where
+pub record Levels-fit (under : ℕ) (w lo hi : List ℕ) : Type 0 where
   pub height : under ≤ 22
-  pub widths : (k : ℕ) → getD w k 0 ≤ entry-limit
-  pub lows : (k : ℕ) → getD l k 0 ≤ entry-limit
-  pub highs : (k : ℕ) → getD h k 0 ≤ entry-limit
+  pub widths : (h : ℕ) → getD w h 0 ≤ entry-limit
+  pub lows : (h : ℕ) → getD lo h 0 ≤ entry-limit
+  pub highs : (h : ℕ) → getD hi h 0 ≤ entry-limit
 
 -- the numbers of the watched nodes by height
 abbrev pub Numbers-small : List ℕ → Type 0
-Numbers-small ns = (k : ℕ) → getD ns k 0 ≤ entry-limit
+Numbers-small ns = (h : ℕ) → getD ns h 0 ≤ entry-limit
 
 abbrev pub Tables-fit : (under : ℕ) → List ℕ → Type 0
 Tables-fit u t = Levels-fit u (widths-in t) (lows-in t) (highs-in t) × Numbers-small (numbers-in t)
@@ -32,23 +32,23 @@ Tables-fit u t = Levels-fit u (widths-in t) (lows-in t) (highs-in t) × Numbers-
 -- the ancestors below the root: each has a width
 pub record Ancestors-fit (under : ℕ) (w : List ℕ) : Type 0 where
   pub height : under ≤ 22
-  pub widths : (k : ℕ) → 1 ≤ k → k ≤ under → 1 ≤ entry w k
+  pub widths : (h : ℕ) → 1 ≤ h → h ≤ under → 1 ≤ entry w h
 
 -- one node's limits: its widths do not matter
-unfoldable pub closes-from : (lows highs : List ℕ) → (h first place : ℕ) → Bool
-closes-from l u h f i = closes (tables-of l l u) h f i
+unfoldable pub closes-from : (lows highs : List ℕ) → (h from i : ℕ) → Bool
+closes-from lo hi h from i = closes (tables-of lo lo hi) h from i
 
 -- one label at a place, closing nodes from height 1 on
-unfoldable pub settle-from : (tables : List ℕ) → (under label place : ℕ) → (ends firsts : List ℕ) → Settled
-settle-from t u x i e f = settle (tables-of (widths-in t) (lows-in t) (highs-in t)) u 1 false x i (levels-of e f)
+unfoldable pub settle-from : (tables : List ℕ) → (under label i : ℕ) → (ends firsts : List ℕ) → Settled
+settle-from t u l i ends firsts = settle (tables-of (widths-in t) (lows-in t) (highs-in t)) u 1 false l i (levels-of ends firsts)
 
-unfoldable pub place-from : (tables : List ℕ) → (under expect label place : ℕ) → (ends firsts : List ℕ) → Settled
-place-from t u q x i e f = place-label (tables-of (widths-in t) (lows-in t) (highs-in t)) u q x i (levels-of e f)
+unfoldable pub place-from : (tables : List ℕ) → (under expect label i : ℕ) → (ends firsts : List ℕ) → Settled
+place-from t u expect l i ends firsts = place-label (tables-of (widths-in t) (lows-in t) (highs-in t)) u expect l i (levels-of ends firsts)
 
--- the label that is waited for where e comes next: none where the open node of height 1 ends before it
-unfoldable pub expected-label : (e end : ℕ) → ℕ
-expected-label e end = cond (ltb e end) e label-limit
+-- the label that is waited for where `next` comes next: none where the open node of height 1 ends before it
+unfoldable pub expected-label : (next end : ℕ) → ℕ
+expected-label next end = cond (ltb next end) next label-limit
 
 -- neither the widths nor the ends matter where all open nodes close
-unfoldable pub close-from : (lows highs : List ℕ) → (under place : ℕ) → (firsts : List ℕ) → Bool
-close-from l h u i f = all-close (tables-of l l h) u 1 i (levels-of f f)
+unfoldable pub close-from : (lows highs : List ℕ) → (under i : ℕ) → (firsts : List ℕ) → Bool
+close-from lo hi u i firsts = all-close (tables-of lo lo hi) u 1 i (levels-of firsts firsts)

@@ -115,5 +115,9 @@ pub fn expected(label: Label, end: u64) -> u64
     ensures { λ e. ⌜ e ≡ expected-label (cut (label .0 + 1)) end ⌝ }
 {
     let next = shape::sum(label.0 as u64, 1);
-    if next < end { next } else { store_types::LABEL_LIMIT }
+    if next < end {
+        next
+    } else {
+        store_types::LABEL_LIMIT
+    }
 }

@@ -22,7 +22,7 @@ use Rattle.tree.specs.Book.{labels-of}
 use Rattle.tree.specs.Reach.{size-in}
 use Rattle.tree.specs.Promise.{Widths}
 use Rattle.tree_laws.proofs.Spread.{some-power}
-use Rattle.tree_laws.proofs.Labels.{trees, Rising, rising-lower, rising-order, children-fit, node-rising, width-least}
+use Rattle.tree_laws.proofs.Labels.{Rising, rising-lower, rising-order, children-fit, node-rising, width-least}
 use Rattle.tree_laws.proofs.Ancestors.{count-in, count-above, number-in, number-top, number-next, found, size-count}
 use Rattle.calls.specs.Store.{Store, count, row, width}
 use Rattle.calls.specs.Words.{Says, follow, header-width}

@@ -53,15 +53,15 @@ pub record Shape : Type 0 where
   pub n : ℕ
 
 unfoldable pub placed : List ℕ → Shape → (i : ℕ) → State → Settled
-placed ws k i v = place-label (k .tables) (k .under) (v .expect) (label-at ws (v .tag)) i (v .levels)
+placed ws shape i v = place-label (shape .tables) (shape .under) (v .expect) (label-at ws (v .tag)) i (v .levels)
 
 unfoldable pub tag-passes : List ℕ → Shape → (i : ℕ) → State → Bool
-tag-passes ws k i v =
-    (ltb (v .tag) (k .n) && placed ws k i v .ok)
-    && (eqb (field ws (v .tag) at-prior) (v .prior) && kind-fits ws (k .n) (v .open-begin) (v .tag) (field ws (v .tag) at-kind))
+tag-passes ws shape i v =
+    (ltb (v .tag) (shape .n) && placed ws shape i v .ok)
+    && (eqb (field ws (v .tag) at-prior) (v .prior) && kind-fits ws (shape .n) (v .open-begin) (v .tag) (field ws (v .tag) at-kind))
 
 unfoldable pub passed : List ℕ → Shape → (i : ℕ) → State → State
-passed ws k i v =
+passed ws shape i v =
     let x = v .tag in
     let c = field ws x at-kind in
     record {
@@ -69,19 +69,19 @@ passed ws k i v =
       prior = x;
       open-begin = open-after ws (v .open-begin) x c;
       marks = v .marks + cond (leb 16 c) 1 0;
-      expect = cut (label-at ws x + entry (k .tables .widths) 0);
-      levels = placed ws k i v .levels;
+      expect = cut (label-at ws x + entry (shape .tables .widths) 0);
+      levels = placed ws shape i v .levels;
     }
 
 -- at the end: no tag follows, none is open, every node is within its limits, and the stamp is
 unfoldable pub ends-well : List ℕ → Shape → State → Bool
-ends-well ws k v =
+ends-well ws shape v =
     (eqb (v .tag) no-tag && eqb (v .open-begin) no-tag)
-    && (all-close (k .tables) (k .under) 1 (k .n) (v .levels) && leb (word-at ws at-stamp) (k .n + v .marks))
+    && (all-close (shape .tables) (shape .under) 1 (shape .n) (v .levels) && leb (word-at ws at-stamp) (shape .n + v .marks))
 
 unfoldable pub walk : List ℕ → Shape → (left i : ℕ) → State → Bool
-walk ws k zero i v = ends-well ws k v
-walk ws k (suc m) i v = let rest = walk ws k m (suc i) (passed ws k i v) in tag-passes ws k i v && rest
+walk ws shape zero i v = ends-well ws shape v
+walk ws shape (suc m) i v = let rest = walk ws shape m (suc i) (passed ws shape i v) in tag-passes ws shape i v && rest
 
 -- THE HEADER, before any tag is read
 unfoldable pub header-passes : List ℕ → Bool

@@ -19,7 +19,7 @@ use Rattle.walk_model.specs.Walk.{Shape, State, passed, shape-of, start}
 unfoldable pub ancestor-numbers : (widths : List ℕ) → (left label above : ℕ) → (numbers : List ℕ) → List ℕ
 ancestor-numbers w zero l a ns = ns
 ancestor-numbers w (suc h) l a ns =
-    let b = a + (l - a) / entry w (suc h) * entry w (suc h) in ancestor-numbers w h l b (set ns (suc h) b)
+    let inner = a + (l - a) / entry w (suc h) * entry w (suc h) in ancestor-numbers w h l inner (set ns (suc h) inner)
 
 -- the node of height h closes before place i: if it is the watched one, its size is taken
 unfoldable pub taken : (widths numbers : List ℕ) → (h i : ℕ) → Levels → (sizes : List ℕ) → List ℕ
@@ -29,24 +29,24 @@ taken w ns h i v sz =
 -- the sizes beside settle, place-label and all-close, where these pass
 unfoldable pub settle-sizes : (widths numbers : List ℕ) → (left h label i : ℕ) → Levels → (sizes : List ℕ) → List ℕ
 settle-sizes w ns zero h l i v sz = sz
-settle-sizes w ns (suc k) h l i v sz =
+settle-sizes w ns (suc m) h l i v sz =
     let opened : Levels = record { ends = set (v .ends) h (cut (l + entry w h)); firsts = set (v .firsts) h i } in
-    let higher = settle-sizes w ns k (suc h) l i opened (taken w ns h i v sz) in
+    let higher = settle-sizes w ns m (suc h) l i opened (taken w ns h i v sz) in
     cond (ltb l (entry (v .ends) h)) sz higher
 
 unfoldable pub place-sizes : (widths numbers : List ℕ) → (under expect label i : ℕ) → Levels → (sizes : List ℕ) → List ℕ
-place-sizes w ns u e l i v sz =
-    let closing = settle-sizes w ns u 1 l i v sz in cond (eqb l e && ltb l (entry (v .ends) 1)) sz closing
+place-sizes w ns u expect l i v sz =
+    let closing = settle-sizes w ns u 1 l i v sz in cond (eqb l expect && ltb l (entry (v .ends) 1)) sz closing
 
 unfoldable pub close-sizes : (widths numbers : List ℕ) → (left h i : ℕ) → Levels → (sizes : List ℕ) → List ℕ
 close-sizes w ns zero h i v sz = sz
-close-sizes w ns (suc k) h i v sz = close-sizes w ns k (suc h) i v (taken w ns h i v sz)
+close-sizes w ns (suc m) h i v sz = close-sizes w ns m (suc h) i v (taken w ns h i v sz)
 
 unfoldable pub walk-sizes : List ℕ → Shape → (numbers : List ℕ) → (left i : ℕ) → State → (sizes : List ℕ) → List ℕ
-walk-sizes ws k ns zero i v sz = close-sizes (k .tables .widths) ns (k .under) 1 (k .n) (v .levels) sz
-walk-sizes ws k ns (suc m) i v sz =
-    let placed = place-sizes (k .tables .widths) ns (k .under) (v .expect) (label-at ws (v .tag)) i (v .levels) sz in
-    walk-sizes ws k ns m (suc i) (passed ws k i v) placed
+walk-sizes ws shape ns zero i v sz = close-sizes (shape .tables .widths) ns (shape .under) 1 (shape .n) (v .levels) sz
+walk-sizes ws shape ns (suc m) i v sz =
+    let placed = place-sizes (shape .tables .widths) ns (shape .under) (v .expect) (label-at ws (v .tag)) i (v .levels) sz in
+    walk-sizes ws shape ns m (suc i) (passed ws shape i v) placed
 
 unfoldable pub watched-numbers : List ℕ → (place : ℕ) → List ℕ
 watched-numbers ws y = ancestor-numbers (shape-of ws .tables .widths) (pred (word-at ws at-height)) (watched-label ws y) 0 (replicate table-length 0)

@@ -27,11 +27,11 @@ pub record Tag-reads (ws : List ℕ) (n x at o : ℕ) : Type 0 where
   pub there : at ≡ offset-of x
   pub around : Open ws n o
 
--- x and the tag beside it are both there
-pub record Beside (ws : List ℕ) (x at q : ℕ) : Type 0 where
+-- x and the tag d beside it are both there
+pub record Beside (ws : List ℕ) (x at d : ℕ) : Type 0 where
   pub room : Room ws x
   pub there : at ≡ offset-of x
-  pub beside : Room ws q
+  pub beside : Room ws d
 
 pub record Mark-reads (ws : List ℕ) (x at marks : ℕ) : Type 0 where
   pub room : Room ws x
@@ -45,27 +45,27 @@ pair-table =
     0 ∷ 2 ∷ 2 ∷ 10 ∷ replicate 13 0 ++ 131074 ∷ 131072 ∷ 655362 ∷ replicate 12 0
 
 -- and its rule: c is a kind word; an end's is one more than the open begin's, so that both have the mark or none; and a tag
--- in a marked section is marked. k is the kind word of the open begin, or c itself where none is open
+-- in a marked section is marked. `around` is the kind word of the open begin, or c itself where none is open
 unfoldable pub is-kind-word : (c : ℕ) → Bool
 is-kind-word c = ltb c 32 && (leb 1 (c % 16) && leb (c % 16) 3)
 
-unfoldable pub pair-fits : (c k : ℕ) → Bool
-pair-fits c k = is-kind-word c && (eqb (cond (eqb (c % 16) 2) k (c - 1)) (c - 1) && (leb 16 c || ltb k 16))
+unfoldable pub pair-fits : (c around : ℕ) → Bool
+pair-fits c around = is-kind-word c && (eqb (cond (eqb (c % 16) 2) around (c - 1)) (c - 1) && (leb 16 c || ltb around 16))
 
--- bit k of m
-unfoldable pub bit-of : (m k : ℕ) → Bool
-bit-of m k = not (eqb (m / 2 ^ (k % 32) % 2) 0)
+-- a bit of a word
+unfoldable pub bit-of : (word bit : ℕ) → Bool
+bit-of word bit = not (eqb (word / 2 ^ (bit % 32) % 2) 0)
 
--- ONE TAG x of kind word c behind its prior b, where o is the open begin or no tag, and q is o, or x where that is no tag
-unfoldable pub links-fit : List ℕ → (b o x q c : ℕ) → Bool
-links-fit ws b o x q c =
-    let p = cond (eqb (c % 16) 2) q x in
+-- ONE TAG x of kind word c behind its prior, where o is the open begin or no tag, and d is o, or x where that is no tag
+unfoldable pub links-fit : List ℕ → (prior o x d c : ℕ) → Bool
+links-fit ws prior o x d c =
+    let beside = cond (eqb (c % 16) 2) d x in
     eqb (field ws x (cond (eqb (c % 16) 2) at-mate at-up)) o
-    && (eqb (field ws x at-up) (field ws p at-up) && eqb (field ws p (cond (eqb (c % 16) 1) at-prior at-mate)) (cond (eqb (c % 16) 1) b x))
+    && (eqb (field ws x at-up) (field ws beside at-up) && eqb (field ws beside (cond (eqb (c % 16) 1) at-prior at-mate)) (cond (eqb (c % 16) 1) prior x))
 
 -- with its prior
 unfoldable pub fits-at : List ℕ → (n o x prior : ℕ) → Bool
-fits-at ws n o x p = eqb (field ws x at-prior) p && kind-fits ws n o x (field ws x at-kind)
+fits-at ws n o x prior = eqb (field ws x at-prior) prior && kind-fits ws n o x (field ws x at-kind)
 
 unfoldable pub marks-at : List ℕ → (x marks : ℕ) → ℕ
-marks-at ws x m = m + cond (leb 16 (field ws x at-kind)) 1 0
+marks-at ws x marks = marks + cond (leb 16 (field ws x at-kind)) 1 0

@@ -16,7 +16,7 @@ abbrev pub offset-of : (tag : ℕ) → ℕ
 offset-of x = record-steps * x
 
 -- a record stands there, and the whole of it
-pub record Record-at (ws : List ℕ) (p : ℕ) : Type 0 where
+pub record Record-at (ws : List ℕ) (at : ℕ) : Type 0 where
   pub tag : ℕ
-  pub there : p ≡ offset-of tag
+  pub there : at ≡ offset-of tag
   pub room : Room ws tag
