@@ -8,6 +8,7 @@ use native.Mathlib.Nat.{pow-zero}
 use native.Mathlib.Numerals.{add-one}
 use native.Mathlib.Omega.{arith}
 use lib.ListN.{length, drop}
+use Rattle.shape.specs.Tables.{table-under}
 use Rattle.store_types.specs.Limits.{most-tags}
 use Rattle.store_types.specs.Layout.{at-r, at-height, at-count, header-words, word-at, words-for, Records}
 use Rattle.shape.specs.Packed.{widths-in, r-in}
@@ -62,7 +63,7 @@ module _ {k : ℕ} {ws t : List ℕ} {n y u : ℕ} {p : Plan} (h : Ready 1 k ws 
       let two : count (said ws) + 2 ≡ suc (suc n) = omega (arith, tags-said) in
       record { few = omega (arith, tags-said, both-row .few); long = rw two at (both-row .room) }
 
-  low-there : word-at ws at-height ≤ 22
+  low-there : word-at ws at-height ≤ table-under
   low-there = omega (arith, ranges ws said-now .high)
 
   -- the words with the begin
@@ -70,7 +71,7 @@ module _ {k : ℕ} {ws t : List ℕ} {n y u : ℕ} {p : Plan} (h : Ready 1 k ws 
     with-begin : vs ≡ added ws (word-at ws at-count) y (suc (word-at ws at-count)) u 1
     with-begin = put ∙ rw (add-one, h .tags)
 
-    levels-kept : word-at vs at-height ≤ 22
+    levels-kept : word-at vs at-height ≤ table-under
     levels-kept =
         rw (with-begin, added-header 3 (omega arith) ws (word-at ws at-count) y (suc (word-at ws at-count)) u 1 (λ e. omega arith) (λ e. omega arith)) low-there
 
@@ -101,7 +102,7 @@ module _ {ws t : List ℕ} {n y u : ℕ} {p : Plan} (h : Ready 1 2 ws n y u p t)
   pub both-put : Put-fits us p t
   both-put =
       let few : suc (suc (word-at ws at-count)) ≤ most-tags = rw (h .tags) at (room-for-two h .few) in
-      let levels : word-at us at-height ≤ 22 = rw (end-put, added-header 3 (omega arith) vs (n + 1) n n u 2 (λ e. omega arith) (λ e. omega arith)) (levels-kept h put) in
+      let levels : word-at us at-height ≤ table-under = rw (end-put, added-header 3 (omega arith) vs (n + 1) n n u 2 (λ e. omega arith) (λ e. omega arith)) (levels-kept h put) in
       record {
         plan = rw (both-are, h .plan) (applicable ws (said-now h) (h .packed) 2 y (suc (suc (word-at ws at-count))) with-both few (row-both (plan-of ws 2 y .height) refl lower));
         levels = levels;
@@ -170,7 +171,7 @@ module _ {ws t : List ℕ} {n y u : ℕ} {p : Plan} (h : Ready 1 1 ws n y u p t)
         go true = omega arith
         go false = omega arith
 
-    low-begun : book-with at (said ws) .under ≤ 22
+    low-begun : book-with at (said ws) .under ≤ table-under
     low-begun = omega (arith, under-begun, ranges ws (said-now h) .high)
 
     pub end-ready : length us ≡ length ws → End-fits us n t

@@ -4,7 +4,7 @@ use mathlib.Core.List.{List}
 use Prim.Native.Nat.{ℕ, suc, pred, _≤_, _<_}
 use Rattle.store_types.specs.Layout.{at-r, at-height, at-count, word-at, Records}
 use Rattle.words.specs.Places.{up-word}
-use Rattle.shape.specs.Tables.{entry, entry-limit, widths-of, lows-of, highs-of}
+use Rattle.shape.specs.Tables.{entry, entry-limit, widths-of, lows-of, highs-of, table-under}
 use Rattle.shape.specs.Packed.{Packed, widths-in, lows-in, r-in}
 use Rattle.calls.specs.Replies.{insert-refused}
 use Rattle.edit_model.specs.Insert.{Plan, Edited, numbers-at, plan-of}
@@ -22,7 +22,7 @@ pub record Edits (after : List ℕ) (moved split : ℕ) (e : Edited) : Type 0 wh
 -- a plan, and H, which may be raised
 pub record Put-fits (ws : List ℕ) (p : Plan) (tables : List ℕ) : Type 0 where
   pub plan : Applicable ws p tables
-  pub levels : word-at ws at-height ≤ 22
+  pub levels : word-at ws at-height ≤ table-under
 
 -- an accepted insertion of kind c, as the code has read it, with its plan of k tags
 pub record Ready (c k : ℕ) (ws : List ℕ) (n y up : ℕ) (p : Plan) (tables : List ℕ) : Type 0 where

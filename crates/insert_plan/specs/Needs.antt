@@ -4,7 +4,7 @@ use mathlib.Core.List.{List}
 use Prim.Native.Nat.{ℕ, pred, _≤_}
 use Rattle.store_types.specs.Layout.{at-height, word-at, Records}
 use Rattle.words.specs.Places.{Tag-or-none, Place-there, behind}
-use Rattle.shape.specs.Tables.{entry, entry-limit}
+use Rattle.shape.specs.Tables.{entry, entry-limit, table-top, table-under}
 use Rattle.shape.specs.Packed.{widths-in, numbers-in, s-in}
 use Rattle.shape.specs.Sums.{cut}
 use Rattle.edit_model.specs.Insert.{Plan, numbers-at}
@@ -21,7 +21,7 @@ pub record Plain-reads (ws : List ℕ) (y parent : ℕ) (tables : List ℕ) : Ty
 pub record Split-fits (h : ℕ) (tables : List ℕ) : Type 0 where
   pub least : 1 ≤ s-in tables
   pub most : s-in tables ≤ 16
-  pub height : h ≤ 22
+  pub height : h ≤ table-under
   pub widths : (j : ℕ) → entry (widths-in tables) j ≤ entry-limit
   pub numbers : (j : ℕ) → entry (numbers-in tables) j ≤ entry-limit
 
@@ -30,7 +30,7 @@ pub record Plan-reads (ws : List ℕ) (y : ℕ) (tables : List ℕ) : Type 0 whe
   pub records : Records ws (issued ws)
   pub place : Tag-or-none (issued ws) y
   pub low : 1 ≤ word-at ws at-height
-  pub high : word-at ws at-height ≤ 23
+  pub high : word-at ws at-height ≤ table-top
   pub least : 1 ≤ s-in tables
   pub most : s-in tables ≤ 16
   pub widths : (h : ℕ) → entry (widths-in tables) h ≤ entry-limit

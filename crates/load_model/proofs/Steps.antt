@@ -10,7 +10,7 @@ use lib.Dec.{leb, eqb, ltb}
 use lib.ListN.{length, getD, set, length-set}
 use lib.Seq.{getD-set-same, getD-set-other}
 use Rattle.lists.proofs.Tests.{by-test}
-use Rattle.shape.specs.Tables.{entry, table-length}
+use Rattle.shape.specs.Tables.{entry, table-length, table-top}
 use Rattle.tree.specs.Forest.{labels, spread}
 use Rattle.tree_laws.proofs.Spread.{some-power}
 use Rattle.shape.specs.Sums.{cut}
@@ -123,7 +123,7 @@ pub record Tables-say (r u : ℕ) (d : ℕ → ℕ) (gaps lows : List ℕ) : Typ
   pub leaves-are : (h : ℕ) → h < u → entry lows h ≡ r ^ suc h
   pub gaps-are : (h : ℕ) → h < u → entry gaps h ≡ d (suc h)
 
-module _ (r u n : ℕ) (d : ℕ → ℕ) (r-least : 2 ≤ r) (low : u ≤ 23) where
+module _ (r u n : ℕ) (d : ℕ → ℕ) (r-least : 2 ≤ r) (low : u ≤ table-top) where
   -- at first
   pub abreast-first : (gaps lows bs : List ℕ) → Tables-say r u d gaps lows → (1 ≤ u → r ^ u ≤ n) → First-begins n u lows bs → Abreast r u n d 0 0 0 bs
   abreast-first gaps lows bs t least f =

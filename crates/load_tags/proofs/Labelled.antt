@@ -13,7 +13,7 @@ use Rattle.store_types.specs.Limits.{label-limit}
 use Rattle.lists.specs.Lists.{numbers}
 use Rattle.lists.proofs.Tests.{by-test}
 use Rattle.lists.proofs.Numbers.{length-numbers}
-use Rattle.shape.specs.Tables.{entry, table, Table-fits, table-length}
+use Rattle.shape.specs.Tables.{entry, table, Table-fits, table-length, table-top}
 use Rattle.shape.proofs.TableLaws.{noughts, table-at, table-bound}
 use Rattle.shape.proofs.Sums.{cut-small}
 use Rattle.tree.specs.Forest.{labels, leaves, spread}
@@ -52,7 +52,7 @@ gaps-more r u h w gs rise l g =
     }
 
 module _ (r n u : ℕ) (w : List ℕ) (h : Trees-fit r n u w) where
-  low : u ≤ 23
+  low : u ≤ table-top
   low = omega (arith, h .widths .height)
 
   -- THE TABLES

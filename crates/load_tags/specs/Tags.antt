@@ -9,7 +9,7 @@ use lib.ListN.{length, getD, drop}
 use Rattle.store_types.specs.Limits.{no-tag}
 use Rattle.store_types.specs.Layout.{header-words, at-next, at-prior, at-mate, at-up, at-kind, word-at, words-for, field, label-at, with-field, with-label, Records}
 use Rattle.lists.specs.Lists.{numbers}
-use Rattle.shape.specs.Tables.{entry, entry-limit, table-length}
+use Rattle.shape.specs.Tables.{entry, entry-limit, table-length, table-under}
 use Rattle.tree.specs.Forest.{labels, spread}
 use Rattle.shape.specs.Sums.{cut}
 use Rattle.calls.specs.Kind.{kind-of, kind-word}
@@ -115,7 +115,7 @@ pub record Entries-fit (t : List ℕ) : Type 0 where
 
 -- and one of widths: a node of height h + 1 has room for r of height h
 pub record Widths-rise (r u : ℕ) (w : List ℕ) : Type 0 where
-  pub height : u ≤ 22
+  pub height : u ≤ table-under
   pub entries : Entries-fit w
   pub grows : (h : ℕ) → h < u → r * entry w h ≤ entry w (suc h)
 

@@ -6,7 +6,7 @@ ghost use Prim.Native.Nat.{_+_, _<_, _≤_};
 ghost use lib.ListN.{length};
 ghost use Rattle.store_types.specs.Limits.{most-tags, label-limit};
 ghost use Rattle.store_types.specs.Layout.{at-up, field, Room};
-ghost use Rattle.shape.specs.Tables.{entry-limit, table-length};
+ghost use Rattle.shape.specs.Tables.{entry-limit, table-length, table-top};
 ghost use Rattle.load_model.specs.Begins.{next-begin, begun, First-begins};
 ghost use Rattle.load_tags.specs.Tags.{Entries-fit, Widths-rise, Gaps-of, Trees-fit, labels-new, next-number, prior-number, place-written, Kind-number, new-mate, new-up, links-written, tag-written, open-behind, Opened, Around-known, Tag-fits, Tags-fit, Tags-written};
 use shape::TABLE_LENGTH;
@@ -123,7 +123,7 @@ fn next_begin(i: u64, n: u64, each: u64) -> u64
 
 // The same behind the first node of each of so many heights.
 fn first_begins(n: u64, under: usize, lows: &[u64; TABLE_LENGTH]) -> [u64; TABLE_LENGTH]
-    requires { ⌜ (under ≤ 23) × Entries-fit (now lows) ⌝ }
+    requires { ⌜ (under ≤ table-top) × Entries-fit (now lows) ⌝ }
     ensures { λ bs. ⌜ First-begins n under (now (lows .entry)) bs ⌝ }
 {
     let mut begins = [n; TABLE_LENGTH];

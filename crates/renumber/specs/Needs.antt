@@ -4,7 +4,7 @@ use mathlib.Core.List.{List, map}
 use Prim.Native.Nat.{ℕ, _^_, _≤_, _<_}
 use Rattle.store_types.specs.Limits.{most-tags, label-limit}
 use Rattle.store_types.specs.Layout.{at-count, word-at, Room}
-use Rattle.shape.specs.Tables.{entry, entry-limit}
+use Rattle.shape.specs.Tables.{entry, entry-limit, table-under}
 use Rattle.shape.specs.Packed.{widths-in, lows-in, r-in}
 use Rattle.tree.specs.Forest.{labels, leaf-row, spread}
 use Rattle.calls.specs.Words.{follow}
@@ -23,7 +23,7 @@ pub record Row-there (ws : List ℕ) (x count : ℕ) : Type 0 where
 -- numbers for trees of height j over a row: from height 1 on there are leaves for one tree at least
 pub record Trees-fit (j a count : ℕ) (tables : List ℕ) : Type 0 where
   pub degree : 2 ≤ r-in tables
-  pub height : j ≤ 22
+  pub height : j ≤ table-under
   pub least : 1 ≤ j → r-in tables ^ j ≤ count
   pub number : a < label-limit
   pub widths : (h : ℕ) → entry (widths-in tables) h ≤ entry-limit

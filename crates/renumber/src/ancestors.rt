@@ -3,6 +3,7 @@ ghost use mathlib.Core.Path.{_≡_};
 ghost use mathlib.Core.Bool.{cond, not, _||_};
 ghost use Prim.Native.Nat.{_+_, _≤_};
 ghost use lib.Dec.{leb, ltb, eqb};
+ghost use Rattle.shape.specs.Tables.{table-under};
 ghost use Rattle.store_types.specs.Layout.{label-at, Records};
 ghost use Rattle.shape.specs.Packed.{highs-in};
 ghost use Rattle.renumber.specs.Needs.{issued};
@@ -56,7 +57,7 @@ pub fn highest_full(
     tables: &[u64; PACKED_LENGTH],
     sizes: &[u32; TABLE_LENGTH],
 ) -> usize
-    requires { ⌜ under ≤ 22 ⌝ }
+    requires { ⌜ under ≤ table-under ⌝ }
     ensures { λ h. ⌜ h ≡ highest-full (highs-in (now (tables .entry))) (now (sizes .entry)) k under 1 0 ⌝ }
 {
     let mut found: usize = 0;

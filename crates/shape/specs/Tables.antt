@@ -12,6 +12,13 @@ entry t h = getD t h 0
 abbrev pub table-length : ℕ
 table-length = 24
 
+-- so their last entry is of this height, and where it is a root's, its children have the one below
+abbrev pub table-top : ℕ
+table-top = table-length - 1
+
+abbrev pub table-under : ℕ
+table-under = table-length - 2
+
 -- v, v times b, .. : count numbers; and a table, of which the entries up to a height are used
 unfoldable pub powers : (v b count : ℕ) → List ℕ
 powers v b zero = []

@@ -6,7 +6,7 @@ use Prim.Native.Nat.{ℕ, _≤_}
 use lib.Dec.{ltb}
 use lib.ListN.{getD}
 use Rattle.store_types.specs.Limits.{label-limit}
-use Rattle.shape.specs.Tables.{entry-limit, entry}
+use Rattle.shape.specs.Tables.{entry-limit, entry, table-under}
 use Rattle.shape.specs.Packed.{widths-in, lows-in, highs-in, numbers-in}
 use Rattle.walk_model.specs.Levels.{Tables, Levels, Settled, closes, settle, place-label, all-close}
 
@@ -17,7 +17,7 @@ unfoldable pub levels-of : (ends firsts : List ℕ) → Levels
 levels-of ends firsts = record { ends = ends; firsts = firsts }
 
 pub record Levels-fit (under : ℕ) (w lo hi : List ℕ) : Type 0 where
-  pub height : under ≤ 22
+  pub height : under ≤ table-under
   pub widths : (h : ℕ) → getD w h 0 ≤ entry-limit
   pub lows : (h : ℕ) → getD lo h 0 ≤ entry-limit
   pub highs : (h : ℕ) → getD hi h 0 ≤ entry-limit
@@ -31,7 +31,7 @@ Tables-fit u t = Levels-fit u (widths-in t) (lows-in t) (highs-in t) × Numbers-
 
 -- the ancestors below the root: each has a width
 pub record Ancestors-fit (under : ℕ) (w : List ℕ) : Type 0 where
-  pub height : under ≤ 22
+  pub height : under ≤ table-under
   pub widths : (h : ℕ) → 1 ≤ h → h ≤ under → 1 ≤ entry w h
 
 -- one node's limits: its widths do not matter
