@@ -25,7 +25,7 @@ fn write_header(words: &mut [u32], s: u32, r: u32, h: u32, n: u32, book: u32)
     ensures { λ _. ⌜ now (words .exit) ≡ in-front (header-new s r h n book) (now (words .entry)) ⌝ }
 {
     let first = first_tag(n);
-    words[words::AT_VERSION] = 1;
+    words[words::AT_VERSION] = words::VERSION;
     words[words::AT_S] = s;
     words[words::AT_R] = r;
     words[words::AT_HEIGHT] = h;

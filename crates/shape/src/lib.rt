@@ -18,6 +18,11 @@ pub const PACKED_LENGTH: usize = 4 * TABLE_LENGTH;
 // No sound store is higher: its tags would be more than 200,000.
 const MOST_LEVELS: u32 = 17;
 
+// Document 01: s and r are each from 2 to 16.
+const LEAST_DEGREE: u32 = 2;
+
+const MOST_DEGREE: u32 = 16;
+
 // Powers by height, from v on: entries 0 to top.
 pub fn table(v: u64, b: u64, top: usize) -> [u64; TABLE_LENGTH]
     requires { ⌜ Table-fits v b top ⌝ }
@@ -80,7 +85,7 @@ pub fn height_fits(s: u32, r: u32, h: u32) -> bool
 pub fn degree_fits(d: u32) -> bool
     ensures { λ t. ⌜ t ≡ degree-fits d ⌝ }
 {
-    2 <= d && d <= 16
+    LEAST_DEGREE <= d && d <= MOST_DEGREE
 }
 
 // The header by itself: enough words, every number in its range, labels fit.
@@ -90,7 +95,7 @@ pub fn frame_passes(words: &[u32]) -> bool
     if words.len() < words::HEADER_WORDS {
         return false;
     }
-    if words[words::AT_VERSION] != 1 {
+    if words[words::AT_VERSION] != words::VERSION {
         return false;
     }
     let s = words[words::AT_S];

@@ -33,6 +33,9 @@ pub const AT_BOOK: usize = 6;
 
 pub const AT_STAMP: usize = 7;
 
+// What the first word of every store is.
+pub const VERSION: u32 = 1;
+
 // Where the fields of a record stand, behind its label.
 pub const AT_NEXT: usize = 1;
 
