@@ -44,7 +44,7 @@ abbrev pub Good-spine : (s r h : ℕ) {k : ℕ} → Spine k → Type 0
 Good-spine s r h top = Unit {0}
 Good-spine s r h (over f p) = Good s r f h × Good-spine s r (suc h) p
 
--- levels that say the ends of these nodes and the root, and the places where they begin
+-- levels that say where these nodes and the root end, by what a label holds, and the places where they begin
 abbrev pub Agrees : (w : ℕ → ℕ) (v : Levels) (h : ℕ) {k : ℕ} → Spine k → Type 0
 Agrees w v h top = entry (v .ends) h ≡ cut (number w h top + w h)
 Agrees w v h (over f p) =
