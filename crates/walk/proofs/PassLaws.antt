@@ -153,7 +153,7 @@ module _ (ws t : List ℕ) (n u : ℕ) where
   pub standing-start : {p : ℕ} {w : List ℕ} → Pass-fits ws n u t → w ≡ widths-in t → p ≡ offset-of (word-at ws at-first) → Standing ws n w (first-state p)
   unfolding label-due expected-label
   standing-start fits e q =
-      record { there = q; waits = rw (e, lt-ltb 0 (getD (widths-in t) 1 0) (fits .wide)); around = none; marks-few = omega arith }
+      record { there = q; waits = rw (e, ne-eqb 0 (getD (widths-in t) 1 0) (λ z. omega (arith, fits .wide))); around = none; marks-few = omega arith }
 
   -- a first tag whose record would begin behind the words
   pub walk-outside : {p : ℕ} → Pass-fits ws n u t → p ≡ offset-of (word-at ws at-first) → 0 < n → length ws ≤ p → false ≡ walk-whole

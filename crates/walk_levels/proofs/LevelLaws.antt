@@ -1,12 +1,12 @@
 -- Open nodes by height (walk_model's Levels): what each way through the loops that close them says, from what their tests say.
 -- Assumes nothing.
 use mathlib.Core.Path.{_≡_, ap, sym, _∙_}
-use mathlib.Core.Bool.{Bool, true, false, _&&_, not, and-false, and-eq-true-iff}
+use mathlib.Core.Bool.{Bool, true, false, _&&_, not, and-eq-true-iff}
 use mathlib.Core.Logic.{by-cases}
 use mathlib.Core.List.{List}
 use Prim.Native.Nat.{ℕ, suc, _+_, _-_, _≤_, _<_}
 use native.Mathlib.Numerals.{add-one}
-use native.Mathlib.Decide.{ℕ-discrete, decLe}
+use native.Mathlib.Decide.{ℕ-discrete}
 use native.Mathlib.Omega.{arith}
 use borrow.Author.Tests.{lt-ltb, le-ltb, le-leb, lt-leb, leb-true, eq-eqb, ne-eqb, not-true, not-false}
 use lib.Dec.{eqb, ltb, leb}
@@ -103,30 +103,30 @@ settle-start t under l i e f = let q : under + 1 - 1 ≡ under = omega arith in 
 
 -- THE NEXT CHILD, or nodes that close: q is the label that is waited for, where x would come next
 module _ (t : List ℕ) (u x l i : ℕ) (e f : List ℕ) where
-  place-next : l ≡ x → ltb l (getD e 1 0) ≡ true → (true ≡ place-from t u x l i e f .ok) × (levels-of e f ≡ place-from t u x l i e f .levels)
+  place-next : l ≡ x → eqb l (getD e 1 0) ≡ false → (true ≡ place-from t u x l i e f .ok) × (levels-of e f ≡ place-from t u x l i e f .levels)
   unfolding place-from place-label levels-of
   place-next p r = settled (rw (eq-eqb l x p, r))
 
   module _ {o : Bool} {v : Levels} (closing : (o ≡ settle-from t u l i e f .ok) × (v ≡ settle-from t u l i e f .levels)) where
-    place-closing : (eqb l x && ltb l (getD e 1 0)) ≡ false → (o ≡ place-from t u x l i e f .ok) × (v ≡ place-from t u x l i e f .levels)
+    place-closing : (eqb l x && not (eqb l (getD e 1 0))) ≡ false → (o ≡ place-from t u x l i e f .ok) × (v ≡ place-from t u x l i e f .levels)
     unfolding place-from settle-from place-label levels-of
     place-closing p = rw p closing
 
--- a label is the one that is waited for exactly where it comes next and the node does not end before it
+-- a label is the one that is waited for exactly where it comes next and the node does not end there
 module _ {q : ℕ} (x end l : ℕ) (waits : q ≡ expected-label x end) (small : l < label-limit) where
-  pub waited-both : l ≡ q → (l ≡ x) × (ltb l end ≡ true)
+  pub waited-both : l ≡ q → (l ≡ x) × (eqb l end ≡ false)
   unfolding expected-label
   waited-both p =
-      by-cases (decLe end x)
-      (λ r. absurd (omega (arith, rw (le-ltb x end r) at waits)))
-      (λ r. let s : l ≡ x = p ∙ (rw (lt-ltb x end (omega arith)) at waits) in (s, lt-ltb l end (omega arith)))
+      by-cases (ℕ-discrete x end)
+      (λ r. absurd (omega (arith, rw (eq-eqb x end r) at waits)))
+      (λ r. let s : l ≡ x = p ∙ (rw (ne-eqb x end r) at waits) in (s, rw s (ne-eqb x end r)))
 
-  pub waited-not : (l ≡ q → ⊥) → (eqb l x && ltb l end) ≡ false
+  pub waited-not : (l ≡ q → ⊥) → (eqb l x && not (eqb l end)) ≡ false
   unfolding expected-label
   waited-not p =
-      by-cases (decLe end x)
-      (λ r. by-cases (ℕ-discrete l x) (λ s. rw (le-ltb l end (omega arith), and-false (eqb l x))) (λ s. rw (ne-eqb l x s)))
-      (λ r. rw (ne-eqb l x (λ s. p (s ∙ sym (rw (lt-ltb x end (omega arith)) at waits)))))
+      by-cases (ℕ-discrete l x)
+      (λ s. by-cases (ℕ-discrete x end) (λ r. rw (eq-eqb l x s, eq-eqb l end (s ∙ r))) (λ r. absurd (p (s ∙ sym (rw (ne-eqb x end r) at waits)))))
+      (λ s. rw (ne-eqb l x s))
 
 module _ (t : List ℕ) (u x l i : ℕ) (e f : List ℕ) {q : ℕ} (waits : q ≡ expected-label x (getD e 1 0)) (small : l < label-limit) where
   pub place-waited : l ≡ q → (true ≡ place-from t u x l i e f .ok) × (levels-of e f ≡ place-from t u x l i e f .levels)

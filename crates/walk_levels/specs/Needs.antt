@@ -3,7 +3,7 @@
 use mathlib.Core.Bool.{Bool, false, cond}
 use mathlib.Core.List.{List}
 use Prim.Native.Nat.{ℕ, _≤_}
-use lib.Dec.{ltb}
+use lib.Dec.{eqb}
 use lib.ListN.{getD}
 use Rattle.store_types.specs.Limits.{label-limit}
 use Rattle.shape.specs.Tables.{entry-limit, entry, table-under}
@@ -45,9 +45,9 @@ settle-from t u l i ends firsts = settle (tables-of (widths-in t) (lows-in t) (h
 unfoldable pub place-from : (tables : List ℕ) → (under expect label i : ℕ) → (ends firsts : List ℕ) → Settled
 place-from t u expect l i ends firsts = place-label (tables-of (widths-in t) (lows-in t) (highs-in t)) u expect l i (levels-of ends firsts)
 
--- the label that is waited for where `next` comes next: none where the open node of height 1 ends before it
+-- the label that is waited for where `next` comes next: none where the open node of height 1 ends there
 unfoldable pub expected-label : (next end : ℕ) → ℕ
-expected-label next end = cond (ltb next end) next label-limit
+expected-label next end = cond (eqb next end) label-limit next
 
 -- neither the widths nor the ends matter where all open nodes close
 unfoldable pub close-from : (lows highs : List ℕ) → (under i : ℕ) → (firsts : List ℕ) → Bool

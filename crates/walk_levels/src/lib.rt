@@ -109,15 +109,15 @@ pub fn all_close(
     true
 }
 
-// The label to come behind a label, in the open node of height 1: a number that no label is where that node ends before it,
-// so that one test finds the next child.
+// The label to come behind a label, in the open node of height 1: a number that no label is where that node ends there, so that
+// one test finds the next child.
 pub fn expected(label: Label, end: u64) -> u64
     ensures { λ e. ⌜ e ≡ expected-label (cut (label .0 + 1)) end ⌝ }
 {
     let next = shape::sum(label.0 as u64, 1);
-    if next < end {
-        next
-    } else {
+    if next == end {
         store_types::LABEL_LIMIT
+    } else {
+        next
     }
 }

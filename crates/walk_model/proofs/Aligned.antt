@@ -2,12 +2,12 @@
 -- numbered by multiples of their widths, and a label within such a node leaves it open, with its size not taken yet; any
 -- other closes it and opens one that is numbered by the label. Assumes nothing.
 use mathlib.Core.Path.{_≡_, refl, ap, sym, _∙_}
-use mathlib.Core.Bool.{Bool, true, false, _&&_, cond, false≢true}
+use mathlib.Core.Bool.{Bool, true, false, _&&_, not, cond, false≢true}
 use mathlib.Core.List.{List}
 use Prim.Native.Nat.{ℕ, zero, suc, _+_, _-_, _≤_, _<_, _∣_}
 use native.Mathlib.Nat.{dvd-refl, dvd-trans, dvd-add, dvd-sub, le-of-dvd, zero-add, suc-add, one-dvd}
 use native.Mathlib.Omega.{arith}
-use borrow.Author.Tests.{ltb-true, ltb-false, eqb-true, eqb-false}
+use borrow.Author.Tests.{ltb-true, ltb-false, eqb-true, eqb-false, not-true}
 use lib.Dec.{ltb, eqb}
 use lib.ListN.{length, length-set}
 use lib.Seq.{getD-set-same, getD-set-other}
@@ -199,13 +199,16 @@ module _ {w : ℕ → ℕ} {u : ℕ} {t : Tables} (tables : Divided w u t) (ns :
       (λ fails. absurd (false≢true (ap (λ z. z .ok) (sym (settle-fails t k (suc c) exact l i v above fails) ∙ e) ∙ o))))
 
   -- A LABEL that is accepted, with or without closing
-  pub place-steps : (e l i last : ℕ) (v : Levels) (sz : List ℕ) → l < w (suc u) → Long v sz → ((g : ℕ) → 1 ≤ g → g ≤ u → Open-at w v g last) →
+  pub place-steps : (e l i last : ℕ) (v : Levels) (sz : List ℕ) → e ≤ entry (v .ends) 1 → l < w (suc u) → Long v sz → ((g : ℕ) → 1 ≤ g → g ≤ u → Open-at w v g last) →
       place-label t u e l i v .ok ≡ true → Stepped w ns v (place-label t u e l i v .levels) sz (place-sizes (t .widths) ns u e l i v sz) l i 0 u
   unfolding place-label place-sizes
-  place-steps e l i last v sz inside long nodes o =
+  place-steps e l i last v sz due inside long nodes o =
       let end = entry (v .ends) 1 in
-      by-test (eqb l e && ltb l end)
-      (λ next. rw next (still long nodes (ltb-true l end (and-right (eqb l e) (ltb l end) next)) (rw (tables .first) (one-dvd l))))
+      by-test (eqb l e && not (eqb l end))
+      (λ next.
+      let same = eqb-true l e (and-left (eqb l e) (not (eqb l end)) next) in
+      let other = eqb-false l end (not-true _ (and-right (eqb l e) (not (eqb l end)) next)) in
+      rw next (still long nodes (omega arith) (rw (tables .first) (one-dvd l))))
       (λ later. rw later (settle-steps u 0 false l i last v sz _ _ refl refl (zero-add u) inside long nodes (λ x. absurd (false≢true x)) (rw later at o)))
 
   -- and the open nodes then

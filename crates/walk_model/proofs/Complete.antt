@@ -1,15 +1,15 @@
 -- The labels of a tree within its limits pass (specs/Levels.antt): at each place the tree is the closed trees left of the
 -- open nodes and the trees right of them. Assumes nothing.
 use mathlib.Core.Path.{_≡_, refl, ap, sym, _∙_}
-use mathlib.Core.Bool.{Bool, true, false, and-false}
+use mathlib.Core.Bool.{Bool, true, false}
 use mathlib.Core.List.{List, [], _∷_, _++_, append-assoc}
 use Prim.Native.Nat.{ℕ, zero, suc, _+_, _*_, _^_, _≤_, _<_}
 use native.Mathlib.Nat.{zero-add, add-mul, mul-le-mul}
 use native.Mathlib.Omega.{arith}
-use borrow.Author.Tests.{lt-ltb, le-ltb, eq-eqb}
+use borrow.Author.Tests.{lt-ltb, le-ltb, eq-eqb, ne-eqb, eqb-true}
 use lib.Dec.{eqb}
 use lib.ListN.{length, length-append}
-use Rattle.lists.proofs.Tests.{and-both}
+use Rattle.lists.proofs.Tests.{and-both, by-test}
 use Rattle.store_types.specs.Limits.{label-limit}
 use Rattle.shape.specs.Tables.{entry, table-length}
 use Rattle.shape.specs.Sums.{cut}
@@ -87,11 +87,12 @@ settle-here t (suc k) h l i v b = rw (lt-ltb l (entry (v .ends) h) b)
 
 place-next : (t : Tables) (k e l i : ℕ) (v : Levels) → l ≡ e → l < entry (v .ends) 1 → place-label t k e l i v ≡ record { ok = true; levels = v }
 unfolding place-label
-place-next t k e l i v n b = rw (eq-eqb l e n, lt-ltb l (entry (v .ends) 1) b)
+place-next t k e l i v n b = rw (eq-eqb l e n, ne-eqb l (entry (v .ends) 1) (λ z. omega arith))
 
-place-closing : (t : Tables) (k e l i : ℕ) (v : Levels) → entry (v .ends) 1 ≤ l → place-label t k e l i v ≡ settle t k 1 false l i v
+place-closing : (t : Tables) (k e l i : ℕ) (v : Levels) → (l ≡ e → l ≡ entry (v .ends) 1) → place-label t k e l i v ≡ settle t k 1 false l i v
 unfolding place-label
-place-closing t k e l i v b = rw (le-ltb l (entry (v .ends) 1) b, and-false (eqb l e))
+place-closing t k e l i v b =
+    by-test (eqb l e) (λ same. rw (same, eq-eqb l (entry (v .ends) 1) (b (eqb-true l e same)))) (λ other. rw other)
 
 -- what stands after nodes were closed and opened for the label l of the next leaf: a tree comes next
 record Ready (s r : ℕ) (w : ℕ → ℕ) (before after : Levels) (j k l i : ℕ) (ls : List ℕ) : Type 0 where
@@ -304,6 +305,14 @@ module _ {s r : ℕ} {w : ℕ → ℕ} {t : Tables} {u : ℕ} (s-least : 2 ≤ s
       (at-opened t l (at-up a b′)) (rest-closed b′) d (exact-end j k f left right p q l i ls v (omega arith) a (at-up a b′) (rest-closed b′) d)))
       (λ n. settle-next m a b n e (x n))
 
+  -- where no tree comes next in the open node of height 1, the child that would come next is no further than its end
+  at-end : {v : Levels} {e l i : ℕ} {f : Forest} {p q : Spine u} → At s r w v 0 f p i → Rest s r 0 f nil p q → e ≡ cut (number w 1 p + trees f * w 0) →
+      entry (v .ends) 1 ≤ l → l ≡ e → l ≡ entry (v .ends) 1
+  at-end {v} {e} {l} {f = f} {p} {q} a b n passed same =
+      let end = number w 1 p + w 1 in
+      let whole : entry (v .ends) 1 ≡ end = end-is w v 1 p (a .agrees) ∙ cut-below end (end-within 0 f nil p q (zero-add u) (a .good) (a .good-above) b) in
+      omega (arith, both-fit (a .good) b, cut-most (number w 1 p + trees f * w 0))
+
   -- the next label is accepted, with or without closing
   place-ready : (f g : Forest) (p q : Spine u) (e l i : ℕ) (ls : List ℕ) (v : Levels) → At s r w v 0 f p i → Rest s r 0 f g p q →
       rest-labels w 0 f g p q ≡ l ∷ ls → e ≡ cut (number w 1 p + trees f * w 0) →
@@ -313,7 +322,7 @@ module _ {s r : ℕ} {w : ℕ → ℕ} {t : Tables} {u : ℕ} (s-least : 2 ≤ s
       (λ x.
       let b′ : Rest s r 0 f nil p q = rw x at b in
       let d′ : rest-labels w 0 f nil p q ≡ l ∷ ls = rw x at d in
-      rw (place-closing t u e l i v (end-passed 0 f p q l i ls a b′ d′))
+      rw (place-closing t u e l i v (λ same. at-end a b′ n (end-passed 0 f p q l i ls a b′ d′) same))
       (settle-ready 0 f nil p q false l i ls v (zero-add u) a b′ d′ (λ y. absurd (omega arith))))
       (λ x.
       let here = next-label b x d in

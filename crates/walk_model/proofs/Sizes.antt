@@ -15,7 +15,7 @@ use Rattle.store_types.specs.Limits.{label-limit}
 use Rattle.store_types.specs.Layout.{at-height, at-count, at-first, word-at, label-at}
 use Rattle.shape.specs.Tables.{entry, table-length}
 use Rattle.shape.specs.Sums.{cut}
-use Rattle.shape.proofs.Sums.{cut-below}
+use Rattle.shape.proofs.Sums.{cut-below, cut-most}
 use Rattle.tree.specs.Good.{Good}
 use Rattle.tree.specs.Forest.{Forest, size, labels}
 use Rattle.tree.specs.Book.{labels-of}
@@ -157,18 +157,22 @@ module _ {w : ℕ → ℕ} {u : ℕ} {t : Tables} (tables : Divided w u t) (ns :
 
   -- ALONG LABELS THAT PASS
   labels-due : (ls : List ℕ) (e i last b : ℕ) (v : Levels) (sz : List ℕ) → Long v sz → ((g : ℕ) → 1 ≤ g → g ≤ u → Open-at w v g last) →
-      entry (v .firsts) h ≤ i → b ≤ w (suc u) → Rising last b ls → labels-pass t u e i v ls ≡ true → Due-at i v sz ls (entry (labels-sizes t ns u e i v ls sz) h)
+      entry (v .firsts) h ≤ i → e ≤ entry (v .ends) 1 → b ≤ w (suc u) → Rising last b ls → labels-pass t u e i v ls ≡ true → Due-at i v sz ls (entry (labels-sizes t ns u e i v ls sz) h)
   unfolding labels-pass
-  labels-due [] e i last b v sz long nodes begun bound rising pass = due-end i v sz _ (close-at u 1 i v sz least (omega arith) (long .sizes))
-  labels-due (l ∷ ls) e i last b v sz long nodes begun bound rising pass =
+  labels-due [] e i last b v sz long nodes begun waits bound rising pass = due-end i v sz _ (close-at u 1 i v sz least (omega arith) (long .sizes))
+  labels-due (l ∷ ls) e i last b v sz long nodes begun waits bound rising pass =
       let q = place-label t u e l i v in
       let rest = labels-pass t u (cut (l + entry (t .widths) 0)) (suc i) (q .levels) ls in
       let inside : l < w (suc u) = omega (arith, rising-order (suc l) b ls (rising .1)) in
-      let s = place-steps tables ns e l i last v sz inside long nodes (and-left (q .ok) rest pass) in
+      let s = place-steps tables ns e l i last v sz waits inside long nodes (and-left (q .ok) rest pass) in
       let up = rising .0 in
+      let after : (g : ℕ) → 1 ≤ g → g ≤ u → Open-at w (q .levels) g l = λ g y z. nodes-after tables ns up (nodes g y z) (s .steps g y z) in
+      let own = after 1 (omega arith) (omega arith) in
+      let next : cut (l + entry (t .widths) 0) ≤ entry (q .levels .ends) 1 =
+      omega (arith, cut-most (l + entry (t .widths) 0), tables .wide 0 (omega arith), tables .first, own .end-is, own .high) in
       due-before b ls (nodes h least most) up begun (rising .1) (s .steps h least most) (
-      labels-due ls (cut (l + entry (t .widths) 0)) (suc i) l b (q .levels) _ (s .long) (λ g y z. nodes-after tables ns up (nodes g y z) (s .steps g y z))
-      (first-after begun (s .steps h least most)) bound (rising-lower (suc l) l b ls (omega arith) (rising .1)) (and-right (q .ok) rest pass))
+      labels-due ls (cut (l + entry (t .widths) 0)) (suc i) l b (q .levels) _ (s .long) after
+      (first-after begun (s .steps h least most)) next bound (rising-lower (suc l) l b ls (omega arith) (rising .1)) (and-right (q .ok) rest pass))
 
 -- IN A GOOD FOREST: the numbers of ancestors are multiples of their widths
 number-aligned : (w : ℕ → ℕ) → ((g : ℕ) → w g ∣ w (suc g)) → (f : Forest) (u p d h : ℕ) → d + h ≡ u → w h ∣ number-in f w u h p 0
@@ -199,7 +203,7 @@ forest-sizes {s} {r} {w} {u} {t} s-least r-least widths tables long f good most 
     λ j l m. record { number = 0; aligned = dvd-zero (w j); end-is = omega (arith, tables .wide j m); low = omega arith; high = omega (arith, tables .least j) } in
     let due = labels-due tables ns h n (omega arith) below watched (number-aligned w (tables .divides) f u p (u - h) h e) ends
     (labels f w u 0) 0 0 0 (w (suc u)) (start-levels t) sz (record { ends = long; firsts = length-replicate {A = ℕ} table-length 0; sizes = sizes }) nodes
-    (omega arith) (le-refl (w (suc u))) (rw zero-add at (node-rising s-least r-least widths f u 0 good most)) pass in
+    (omega arith) (omega arith) (le-refl (w (suc u))) (rw zero-add at (node-rising s-least r-least widths f u 0 good most)) pass in
     let counted = size-count s-least r-least widths d in
     by-test (eqb n 0)
     (λ y. let zeroth = eqb-true n 0 y in omega (arith, due .here (omega arith), counted))

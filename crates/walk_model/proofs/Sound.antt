@@ -1,7 +1,7 @@
 -- Labels that pass are what labels hold of those of a tree within its limits (specs/Levels.antt): the trees closed so far are
 -- built up on the way. Assumes nothing.
 use mathlib.Core.Path.{_≡_, refl, ap, sym, _∙_}
-use mathlib.Core.Bool.{Bool, true, false, _&&_, false≢true}
+use mathlib.Core.Bool.{Bool, true, false, _&&_, not, false≢true}
 use mathlib.Core.List.{List, [], _∷_, _++_, map, map-append, append-nil, append-assoc}
 use Prim.Native.Nat.{ℕ, suc, _+_, _*_, _≤_}
 use native.Mathlib.Nat.{zero-add}
@@ -100,9 +100,9 @@ module _ {s r : ℕ} {w : ℕ → ℕ} {t : Tables} {u : ℕ} (tables : Tables-r
   place-kept : (f : Forest) (p : Spine u) (e l i : ℕ) (v : Levels) (q : Settled) → place-label t u e l i v ≡ q → At s r w v 0 f p i →
       e ≡ cut (number w 1 p + trees f * w 0) → q .ok ≡ true → Kept s r w v (q .levels) 0 u l i (read-tags f p) (read-marks w 0 f p)
   unfolding place-label
-  place-kept f p e l i v q d a n o = by-test (eqb l e && ltb l (entry (v .ends) 1))
+  place-kept f p e l i v q d a n o = by-test (eqb l e && not (eqb l (entry (v .ends) 1)))
       (λ next.
-      let same = eqb-true l e (and-left (eqb l e) (ltb l (entry (v .ends) 1)) next) in
+      let same = eqb-true l e (and-left (eqb l e) (not (eqb l (entry (v .ends) 1))) next) in
       rw (sym (ap (λ z. z .levels) (rw next at d))) (kept-still a (same ∙ n)))
       (λ later. settle-kept 0 f p false l i v q (rw later at d) (zero-add u) a (λ x. absurd (false≢true x)) o)
 

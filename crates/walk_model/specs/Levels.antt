@@ -1,6 +1,6 @@
 -- Labels in one pass: for each height the open node's end and the place where it began. Follows the code of crate walk_levels.
 -- Assumes nothing: these are definitions.
-use mathlib.Core.Bool.{Bool, true, false, _&&_, cond}
+use mathlib.Core.Bool.{Bool, true, false, _&&_, not, cond}
 use mathlib.Core.List.{List, [], _∷_}
 use Prim.Native.Nat.{ℕ, zero, suc, _+_}
 use lib.Dec.{ltb, leb, eqb}
@@ -42,12 +42,12 @@ settle t (suc m) h exact l i v =
     let fails : Settled = record { ok = false; levels = v } in
     cond (ltb l (entry (v .ends) h)) stays (cond (closes t h (entry (v .firsts) h) i) higher fails)
 
--- a leaf is the next child of the open node of height 1, or nodes are closed before it
+-- a leaf is the next child of the open node of height 1, unless that ends there, or nodes are closed before it
 unfoldable pub place-label : Tables → (under expect label i : ℕ) → Levels → Settled
 place-label t u expect l i v =
     let closing = settle t u 1 false l i v in
     let stays : Settled = record { ok = true; levels = v } in
-    cond (eqb l expect && ltb l (entry (v .ends) 1)) stays closing
+    cond (eqb l expect && not (eqb l (entry (v .ends) 1))) stays closing
 
 -- at the end, place i, every open node below the root is within its limits
 unfoldable pub all-close : Tables → (left h i : ℕ) → Levels → Bool

@@ -2,7 +2,7 @@
 -- the node of a given number is watched, and its size is taken where it closes. Follows the code of crate walk_levels.
 -- Assumes nothing: these are definitions.
 use mathlib.Core.Path.{_≡_}
-use mathlib.Core.Bool.{_&&_, cond}
+use mathlib.Core.Bool.{_&&_, not, cond}
 use mathlib.Core.List.{List}
 use Prim.Native.Nat.{ℕ, zero, suc, pred, _+_, _*_, _-_, _/_, _≤_}
 use lib.Dec.{ltb, eqb}
@@ -36,7 +36,7 @@ settle-sizes w ns (suc m) h l i v sz =
 
 unfoldable pub place-sizes : (widths numbers : List ℕ) → (under expect label i : ℕ) → Levels → (sizes : List ℕ) → List ℕ
 place-sizes w ns u expect l i v sz =
-    let closing = settle-sizes w ns u 1 l i v sz in cond (eqb l expect && ltb l (entry (v .ends) 1)) sz closing
+    let closing = settle-sizes w ns u 1 l i v sz in cond (eqb l expect && not (eqb l (entry (v .ends) 1))) sz closing
 
 unfoldable pub close-sizes : (widths numbers : List ℕ) → (left h i : ℕ) → Levels → (sizes : List ℕ) → List ℕ
 close-sizes w ns zero h i v sz = sz

@@ -1,6 +1,6 @@
 -- `walk_levels::expected` meets its contract. Assumes nothing.
 use borrow.Author.Needs.{needs}
-use borrow.Author.Tests.{lt-ltb, le-ltb}
+use borrow.Author.Tests.{eq-eqb, ne-eqb}
 use Rattle.walk_levels.specs.Needs.{expected-label}
 use Rattle.walk_levels.proofs.expected.Statement.{statement}
 use Rattle.walk_levels.proofs.expected.Tie as tie
@@ -13,11 +13,11 @@ sum-requires c κs = search needs
 
 returns : tie.Need-returns
 unfolding expected-label
-returns c = rw (← c .before .sum .ensures, lt-ltb _ _ (c .if1 .taken))
+returns c = rw (← c .before .sum .ensures, eq-eqb _ _ (c .if1 .taken))
 
 returns-2 : tie.Need-returns-2
 unfolding expected-label
-returns-2 c = rw (← c .before .sum .ensures, le-ltb _ _ (c .if1 .left))
+returns-2 c = rw (← c .before .sum .ensures, ne-eqb _ _ (c .if1 .left))
 
 pub expected-spec : {M : Type 1} → statement M
 expected-spec = tie.close (tie.spec cast-sum sum-requires returns returns-2)
