@@ -8,7 +8,7 @@ use Prim.Native.Nat.{ℕ, zero, suc, pred, _+_, _-_}
 use lib.Dec.{leb, eqb}
 use lib.ListN.{length, getD, drop}
 use Rattle.store_types.specs.Limits.{no-tag, most-levels, most-tags}
-use Rattle.store_types.specs.Layout.{at-s, at-r, at-height, at-count, at-first, at-book, at-stamp, header-words, at-next, at-mate, at-up, at-kind, word-at, words-for, field, label-at}
+use Rattle.store_types.specs.Layout.{at-s, at-r, at-height, at-count, at-first, at-book, at-stamp, header-words, at-next, at-mate, at-up, at-kind, header-list, record-list, word-at, words-for, field, label-at}
 use Rattle.lists.specs.Lists.{numbers}
 use Rattle.tree.specs.Book.{Book, height, power-width}
 use Rattle.tree.specs.Spelling.{spelled}
@@ -16,15 +16,15 @@ use Rattle.calls.specs.Kind.{kind-of, kind-word}
 use Rattle.calls.specs.Store.{Store, Fact, new-fact, fact, count, row, label, next-in, prior-in}
 use Rattle.calls.specs.Sound.{degrees-fit, sound}
 
--- THE WORDS OF A STORE. The header: the value 1; s; r; height H; tags issued n; first tag or no tag; book number; stamp
+-- THE WORDS OF A STORE: the header
 unfoldable pub header : Store → List ℕ
 header st =
-    1 ∷ st .book .s ∷ st .book .r ∷ height (st .book) ∷ count st ∷ getD (row st) 0 no-tag ∷ st .number ∷ st .stamp ∷ []
+    header-list (st .book .s) (st .book .r) (height (st .book)) (count st) (getD (row st) 0 no-tag) (st .number) (st .stamp)
 
--- six words a tag: label; next; prior; mate; up; kind
+-- a tag's record
 unfoldable pub tag-record : Store → (tag : ℕ) → List ℕ
 tag-record st x =
-    label st x ∷ next-in (row st) x ∷ prior-in (row st) x ∷ fact st x .mate ∷ fact st x .up ∷ kind-word (fact st x .kind) (fact st x .marked) ∷ []
+    record-list (label st x) (next-in (row st) x) (prior-in (row st) x) (fact st x .mate) (fact st x .up) (kind-word (fact st x .kind) (fact st x .marked))
 
 -- the header, then the tags by number from 0
 unfoldable pub words-of : Store → List ℕ

@@ -5,8 +5,8 @@ use Prim.Native.Nat.{ℕ, _<_}
 use native.Mathlib.Omega.{arith}
 use lib.ListN.{length, getD}
 use Rattle.store_types.specs.Limits.{no-tag}
-use Rattle.store_types.specs.Layout.{at-version, at-s, at-r, at-height, at-count, at-first, at-book, at-stamp, header-words, at-next, at-prior, at-mate, at-up, at-kind, tag-words, word-at, words-for, field, label-at}
-use Rattle.words.proofs.Records.{length-joined, field-joined, label-joined}
+use Rattle.store_types.specs.Layout.{at-version, at-s, at-r, at-height, at-count, at-first, at-book, at-stamp, header-words, tag-words, label-in, word-at, words-for, field, label-at}
+use Rattle.words.proofs.Records.{Record-holds, length-joined, field-joined, label-joined, holds-joined}
 use Rattle.tree.specs.Book.{height}
 use Rattle.calls.specs.Kind.{kind-word}
 use Rattle.calls.specs.Store.{Store, fact, count, row, label, next-in, prior-in}
@@ -32,30 +32,18 @@ module _ (st : Store) (rest : List ℕ) (x : ℕ) (l : x < count st) where
   unfolding words-of
   field-word k small = field-joined (header st) (tag-record st) (count st) (length-header st) (length-record st) rest x l k small
 
-  pub first-word : label-at (words-of st ++ rest) x ≡ getD (tag-record st x) 0 0
+  pub label-word : label-at (words-of st ++ rest) x ≡ label-in (tag-record st x)
   unfolding words-of
-  first-word = label-joined (header st) (tag-record st) (count st) (length-header st) (length-record st) rest x l
+  label-word = label-joined (header st) (tag-record st) (count st) (length-header st) (length-record st) rest x l
 
 -- each by its name
-pub record Tag-says (ws : List ℕ) (st : Store) (x : ℕ) : Type 0 where
-  pub label-word : label-at ws x ≡ label st x
-  pub next-word : field ws x at-next ≡ next-in (row st) x
-  pub prior-word : field ws x at-prior ≡ prior-in (row st) x
-  pub mate-word : field ws x at-mate ≡ fact st x .mate
-  pub up-word : field ws x at-up ≡ fact st x .up
-  pub kind-is : field ws x at-kind ≡ kind-word (fact st x .kind) (fact st x .marked)
+abbrev pub Tag-says : (ws : List ℕ) (st : Store) (x : ℕ) → Type 0
+Tag-says ws st x =
+    Record-holds ws x (label st x) (next-in (row st) x) (prior-in (row st) x) (fact st x .mate) (fact st x .up) (kind-word (fact st x .kind) (fact st x .marked))
 
 pub tag-says : (st : Store) (rest : List ℕ) (x : ℕ) → x < count st → Tag-says (words-of st ++ rest) st x
-unfolding tag-record
-tag-says st rest x l =
-    record {
-      label-word = first-word st rest x l;
-      next-word = field-word st rest x l at-next (omega arith);
-      prior-word = field-word st rest x l at-prior (omega arith);
-      mate-word = field-word st rest x l at-mate (omega arith);
-      up-word = field-word st rest x l at-up (omega arith);
-      kind-is = field-word st rest x l at-kind (omega arith);
-    }
+unfolding words-of tag-record
+tag-says st rest x l = holds-joined (header st) (tag-record st) (count st) (length-header st) (length-record st) rest x l refl
 
 -- THE HEADER, word by word
 pub record Header-says (ws : List ℕ) (st : Store) : Type 0 where

@@ -10,7 +10,7 @@ use lib.Dec.{ltb, eqb}
 use lib.ListN.{length, getD, drop, set, length-set, length-append, List·getD-append, List·getD-eq-default}
 use lib.Seq.{getD-set-same, getD-set-other, getD-at, set-append-left, sets-eq}
 use Rattle.store_types.specs.Limits.{no-tag, most-tags}
-use Rattle.store_types.specs.Layout.{at-height, at-count, at-first, at-stamp, header-words, label-words, at-next, at-prior, at-mate, at-up, at-kind, tag-words, word-at, words-for, field, label-at, with-field, Room}
+use Rattle.store_types.specs.Layout.{at-height, at-count, at-first, at-stamp, header-words, label-words, at-next, at-prior, at-mate, at-up, at-kind, tag-words, record-list, word-at, words-for, field, label-at, with-field, Room}
 use Rattle.lists.proofs.Tests.{by-test, fails}
 use Rattle.lists.specs.Lists.{numbers}
 use Rattle.words.proofs.Fields.{words-next, header-fits, record-room, field-same, field-other-tag, field-other-word, label-past-field, header-kept, length-with-field, field-past-header, label-past-header, with-field-front, fields-tell, by-field}
@@ -102,7 +102,7 @@ module _ (n p : ℕ) (xs : List ℕ) (fits : p ≤ length xs) where
 
 -- a whole record there
 with-record-behind : (n : ℕ) (ws ys : List ℕ) → length ws ≡ words-for header-words n → tag-words ≤ length ys → (next prior mate up kind : ℕ) →
-    with-record (ws ++ ys) n next prior mate up kind ≡ ws ++ ((no-tag ∷ next ∷ prior ∷ mate ∷ up ∷ kind ∷ []) ++ drop tag-words ys)
+    with-record (ws ++ ys) n next prior mate up kind ≡ ws ++ (record-list no-tag next prior mate up kind ++ drop tag-words ys)
 unfolding with-record
 with-record-behind n ws ys many room next prior mate up kind =
     rw (
@@ -112,7 +112,7 @@ with-record-behind n ws ys many room next prior mate up kind =
       with-field-behind n ws _ many at-mate mate,
       with-field-behind n ws _ many at-up up,
       with-field-behind n ws _ many at-kind kind,
-    ) (ap (λ (zs : List ℕ). ws ++ zs) (sets-eq (no-tag ∷ next ∷ prior ∷ mate ∷ up ∷ kind ∷ []) ys 0 room))
+    ) (ap (λ (zs : List ℕ). ws ++ zs) (sets-eq (record-list no-tag next prior mate up kind) ys 0 room))
 
 -- the same header
 abbrev Heads : (ws vs : List ℕ) → Type 0
@@ -271,7 +271,7 @@ module _ {v : Image} (h : Proper v) where
 
 -- ALL OF IT: the new record behind the image's words, and the links
 abbrev new-record : Image → (p : ℕ) → Fact → List ℕ
-new-record v p t = no-tag ∷ tag-behind v p ∷ tag-before v p ∷ t .mate ∷ t .up ∷ kind-word (t .kind) (t .marked) ∷ []
+new-record v p t = record-list no-tag (tag-behind v p) (tag-before v p) (t .mate) (t .up) (kind-word (t .kind) (t .marked))
 
 abbrev with-new : Image → (p : ℕ) → Fact → List ℕ
 with-new v p t = image-words v ++ new-record v p t

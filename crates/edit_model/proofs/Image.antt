@@ -13,7 +13,7 @@ use Rattle.store_types.specs.Layout.{header-words, label-words, at-next, at-pri
 use Rattle.lists.proofs.Tests.{by-test}
 use Rattle.lists.specs.Lists.{numbers}
 use Rattle.words.proofs.Fields.{header-fits, record-room, label-same, label-other-tag, field-past-label, header-kept-label, length-with-label, with-label-front, field-front, label-front, fields-tell}
-use Rattle.words.proofs.Records.{length-joined, field-joined, label-joined}
+use Rattle.words.proofs.Records.{Record-holds, length-joined, field-joined, label-joined, holds-joined}
 use Rattle.tree.specs.Row.{member, place, all-below}
 use Rattle.tree.specs.Book.{label-of}
 use Rattle.tree_laws.proofs.Rows.{Distinct, member-getD, member-all-below, place-getD, getD-place, distinct-all-below}
@@ -60,25 +60,15 @@ pub own-label : (v : Image) (x : ℕ) → x < length (v .facts) → label-at (im
 own-label v x l = sym (label-front (image-words v) [] x (image-room v x l)) ∙ image-label v [] x l
 
 -- each by its name
-pub record Record-says (ws : List ℕ) (v : Image) (x : ℕ) : Type 0 where
-  pub label-word : label-at ws x ≡ getD (v .labels) (place x (v .tags)) 0
-  pub next-word : field ws x at-next ≡ next-in (v .tags) x
-  pub prior-word : field ws x at-prior ≡ prior-in (v .tags) x
-  pub mate-word : field ws x at-mate ≡ fact-in (v .facts) x .mate
-  pub up-word : field ws x at-up ≡ fact-in (v .facts) x .up
-  pub kind-is : field ws x at-kind ≡ kind-word (fact-in (v .facts) x .kind) (fact-in (v .facts) x .marked)
+abbrev pub Record-says : (ws : List ℕ) (v : Image) (x : ℕ) → Type 0
+Record-says ws v x =
+    let t = fact-in (v .facts) x in
+    Record-holds ws x (getD (v .labels) (place x (v .tags)) 0) (next-in (v .tags) x) (prior-in (v .tags) x) (t .mate) (t .up) (kind-word (t .kind) (t .marked))
 
 pub record-says : (v : Image) (rest : List ℕ) (x : ℕ) → x < length (v .facts) → Record-says (image-words v ++ rest) v x
-unfolding image-record
+unfolding image-words image-record
 record-says v rest x l =
-    record {
-      label-word = image-label v rest x l;
-      next-word = image-field v rest x l at-next (omega arith);
-      prior-word = image-field v rest x l at-prior (omega arith);
-      mate-word = image-field v rest x l at-mate (omega arith);
-      up-word = image-field v rest x l at-up (omega arith);
-      kind-is = image-field v rest x l at-kind (omega arith);
-    }
+    holds-joined (image-header v) (image-record v) (length (v .facts)) (length-image-header v) (length-image-record v) rest x l refl
 
 -- the words of the header
 pub own-header : (v : Image) (i : ℕ) → i < header-words → word-at (image-words v) i ≡ word-at (image-header v) i

@@ -4,6 +4,7 @@ use mathlib.Core.List.{List, [], _∷_, _++_, flatMap}
 use Prim.Native.Nat.{ℕ}
 use lib.ListN.{length, getD}
 use Rattle.store_types.specs.Limits.{no-tag}
+use Rattle.store_types.specs.Layout.{header-list, record-list}
 use Rattle.lists.specs.Lists.{numbers}
 use Rattle.tree.specs.Row.{place}
 use Rattle.tree.specs.Book.{height, labels-of}
@@ -23,12 +24,12 @@ pub record Image : Type 0 where
 
 unfoldable pub image-header : Image → List ℕ
 image-header image =
-    1 ∷ image .s ∷ image .r ∷ image .levels ∷ length (image .facts) ∷ getD (image .tags) 0 no-tag ∷ image .number ∷ image .stamp ∷ []
+    header-list (image .s) (image .r) (image .levels) (length (image .facts)) (getD (image .tags) 0 no-tag) (image .number) (image .stamp)
 
 unfoldable pub image-record : Image → (tag : ℕ) → List ℕ
 image-record image x =
     let t = fact-in (image .facts) x in
-    getD (image .labels) (place x (image .tags)) 0 ∷ next-in (image .tags) x ∷ prior-in (image .tags) x ∷ t .mate ∷ t .up ∷ kind-word (t .kind) (t .marked) ∷ []
+    record-list (getD (image .labels) (place x (image .tags)) 0) (next-in (image .tags) x) (prior-in (image .tags) x) (t .mate) (t .up) (kind-word (t .kind) (t .marked))
 
 unfoldable pub image-words : Image → List ℕ
 image-words image = image-header image ++ flatMap (image-record image) (numbers 0 (length (image .facts)))

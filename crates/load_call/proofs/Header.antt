@@ -1,15 +1,15 @@
 -- The header, written over the front of other words one word after the other. Assumes nothing.
 use mathlib.Core.Path.{_≡_}
-use mathlib.Core.List.{List, [], _∷_}
+use mathlib.Core.List.{List}
 use Prim.Native.Nat.{ℕ, _≤_}
 use lib.ListN.{length}
 use lib.Seq.{sets}
-use Rattle.store_types.specs.Layout.{header-words}
+use Rattle.store_types.specs.Layout.{header-words, header-list}
 use Rattle.calls.specs.Words.{in-front}
 use Rattle.calls_laws.proofs.WordSteps.{sets-front}
 use Rattle.load_call.specs.Header.{first-number, header-new}
 
 pub header-written : (s r h n b first : ℕ) (ws : List ℕ) → header-words ≤ length ws → first ≡ first-number n →
-    sets ws 0 (1 ∷ s ∷ r ∷ h ∷ n ∷ first ∷ b ∷ 0 ∷ []) ≡ in-front (header-new s r h n b) ws
+    sets ws 0 (header-list s r h n first b 0) ≡ in-front (header-new s r h n b) ws
 unfolding header-new
-header-written s r h n b first ws l e = rw (← e) (sets-front (1 ∷ s ∷ r ∷ h ∷ n ∷ first ∷ b ∷ 0 ∷ []) ws l)
+header-written s r h n b first ws l e = rw (← e) (sets-front (header-list s r h n first b 0) ws l)

@@ -61,7 +61,7 @@ module _ (n : ℕ) (fs : List Fact) (ls before : List ℕ) (few : n ≤ most-tag
   places-more : (mate up begun : ℕ) (vs : List ℕ) → One-more n x c a mate up begun ws vs → up ≡ fact-in fs x .up → (y : ℕ) → y < suc x →
       Placed vs n y (getD ls y 0) (fact-in fs y)
   places-more mate up begun vs t is-up = up-to x
-      (record { label-word = t .label-word ∙ labelled; next-word = t .next-word; prior-word = t .prior-word; up-word = t .up-word ∙ is-up; kind-is = t .kind-is ∙ is-word })
+      (record { label-word = t .here .label-word ∙ labelled; next-word = t .here .next-word; prior-word = t .here .prior-word; up-word = t .here .up-word ∙ is-up; kind-is = t .here .kind-is ∙ is-word })
       (λ y other l.
       let p = f .places y l in
       record {
@@ -98,7 +98,7 @@ module _ (n : ℕ) (fs : List Fact) (ls before : List ℕ) (few : n ≤ most-tag
           around = around-both before ws vs n (f .around) (t .around);
           below = λ y o. omega (arith, f .below y o);
           places = places-more x u x vs t is-up;
-          mates = up-to x (inl (t .mate-word ∙ is-mate)) (inner-mates (λ y o. o));
+          mates = up-to x (inl (t .here .mate-word ∙ is-mate)) (inner-mates (λ y o. o));
         }
 
   -- an end of u, whose mate is right now
@@ -110,7 +110,7 @@ module _ (n : ℕ) (fs : List Fact) (ls before : List ℕ) (few : n ≤ most-tag
         around = around-both before ws vs n (f .around) (t .around);
         below = λ y o. omega (arith, f .below y (out shut o));
         places = places-more u (field ws u at-up) u vs t (up-is ∙ sym (h .up));
-        mates = up-to x (inl (t .mate-word ∙ sym (h .mate)))
+        mates = up-to x (inl (t .here .mate-word ∙ sym (h .mate)))
             (λ y other l. by-test (eqb y u)
             (λ e. inl (rw (eqb-true y u e) (back ∙ sym (h .back))))
             (λ e. let apart = eqb-false y u e in

@@ -79,7 +79,7 @@ module _ (ws : List ℕ) (x n c a : ℕ) (v : code.Open) (t : Tag-fits ws n x c 
         begun : c ≡ 1 → q .around .0 ≡ field (tag-written x n c a (v .begin .0) ws) (q .begin .0) at-up
         begun e =
             let inner : c ≡ 2 → ⊥ = λ f. omega arith in
-            rw (begun-is e) (o .around-is ∙ rw (eq-eqb c 1 e) (stays-up inner ∙ sym (more inner .up-word)))
+            rw (begun-is e) (o .around-is ∙ rw (eq-eqb c 1 e) (stays-up inner ∙ sym (more inner .here .up-word)))
 
         stays : (c ≡ 3) × (v .known ≡ true) → q .around .0 ≡ field (tag-written x n c a (v .begin .0) ws) (q .begin .0) at-up
         stays e =

@@ -10,6 +10,7 @@ use lib.ListN.{length}
 use Rattle.store_types.specs.Layout.{header-words, label-words, at-next, at-prior, at-mate, at-up, at-kind, tag-words, words-for, field, label-at, with-field, with-label}
 use Rattle.lists.proofs.Tests.{by-test}
 use Rattle.words.proofs.Fields.{record-room, field-same, field-other-tag, field-other-word, label-same, label-other-tag, field-past-label, label-past-field, header-kept, header-kept-label, length-with-field, length-with-label, rest-with-field, rest-with-label}
+use Rattle.words.proofs.Records.{Record-holds, record-by}
 use Rattle.load_tags.specs.Tags.{next-number, prior-number, place-written, new-mate, new-up, links-written, tag-written, open-behind, Around}
 
 -- OUTSIDE THE RECORDS nothing changes
@@ -77,12 +78,7 @@ module _ (x n : ℕ) (below : x < n) where
 -- TAG x of kind number c with label a behind the tags before it; `begun` gets its mate too
 pub record One-more (n x c a mate up begun : ℕ) (ws vs : List ℕ) : Type 0 where
   pub around : Around ws vs n
-  pub label-word : label-at vs x ≡ a
-  pub next-word : field vs x at-next ≡ next-number x n
-  pub prior-word : field vs x at-prior ≡ prior-number x
-  pub mate-word : field vs x at-mate ≡ mate
-  pub up-word : field vs x at-up ≡ up
-  pub kind-is : field vs x at-kind ≡ c
+  pub here : Record-holds vs x a (next-number x n) (prior-number x) mate up c
   pub kept : (y j : ℕ) → label-words ≤ j → j < tag-words → (y ≡ x → ⊥) → (y ≡ begun → j ≡ at-mate → ⊥) → field vs y j ≡ field ws y j
   pub label-kept : (y : ℕ) → (y ≡ x → ⊥) → label-at vs y ≡ label-at ws y
 
@@ -109,12 +105,7 @@ module _ (ws : List ℕ) (x n c a o : ℕ) (below : x < n) (long : words-for hea
       let own = puts-own x n below ps labelled all labelled-long in
       rw (ne-eqb c 2 inner) (record {
         around = around-both ws labelled _ n (around-label ws x a n below) (puts-around x n below ps labelled all);
-        label-word = puts-label x n below ps labelled all x ∙ own-label;
-        next-word = own at-next (omega arith);
-        prior-word = own at-prior (omega arith);
-        mate-word = own at-mate (omega arith);
-        up-word = own at-up (omega arith);
-        kind-is = own at-kind (omega arith);
+        here = record-by _ own (puts-label x n below ps labelled all x ∙ own-label);
         kept = λ y j past f other back. puts-other x n below ps labelled all y j f other ∙ field-past-label ws x y a j past f;
         label-kept = λ y other. puts-label x n below ps labelled all y ∙ label-other-tag ws x y a other;
       })
@@ -154,12 +145,7 @@ module _ (ws : List ℕ) (x n c a o : ℕ) (below : x < n) (long : words-for hea
           around = around-both ws labelled _ n (around-label ws x a n below) (
               around-both labelled first _ n (puts-around x n below front labelled all-front) (
               around-both first second _ n (around-one first o at-mate x n begun (omega arith)) (around-one second x at-up up n below (omega arith))));
-          label-word = labels-stay x ∙ own-label;
-          next-word = own at-next (omega arith);
-          prior-word = own at-prior (omega arith);
-          mate-word = own at-mate (omega arith);
-          up-word = own at-up (omega arith);
-          kind-is = own at-kind (omega arith);
+          here = record-by _ own (labels-stay x ∙ own-label);
           kept = λ y j past f other back.
               field-other-tag second x y at-up j up (omega arith) f other
               ∙ by-test (eqb y o)

@@ -10,7 +10,7 @@ use borrow.Author.Tests.{eqb-true, eqb-false}
 use lib.Dec.{eqb}
 use lib.ListN.{length, getD, set, length-set, List·getD-append}
 use lib.Seq.{getD-set-same, getD-set-other, set-append-left, drop-at}
-use Rattle.store_types.specs.Layout.{at-stamp, header-words, at-kind, tag-words, word-at, words-for, field, label-at, Room}
+use Rattle.store_types.specs.Layout.{at-stamp, header-words, at-kind, tag-words, label-in, word-at, words-for, field, label-at, Room}
 use Rattle.lists.proofs.Tests.{by-test}
 use Rattle.lists.specs.Lists.{numbers}
 use Rattle.words.proofs.Fields.{header-fits, record-room, field-front, label-front, field-past-header, label-past-header, fields-tell}
@@ -19,7 +19,7 @@ use Rattle.calls.specs.Store.{Store, fact, count}
 use Rattle.calls.specs.Mark.{within, mark-store}
 use Rattle.calls.specs.Words.{header, tag-record, words-of, in-front}
 use Rattle.calls_laws.proofs.Tests.{Sound}
-use Rattle.calls_laws.proofs.Fields.{length-words, first-word, field-word, header-says}
+use Rattle.calls_laws.proofs.Fields.{length-words, label-word, field-word, header-says}
 use Rattle.calls_laws.proofs.Sections.{Section}
 use Rattle.calls_laws.proofs.Marks.{length-marked, alike-marked, mark-of, own-below, within-own}
 use Rattle.mark_call.specs.Run.{with-mark, mark-each}
@@ -70,8 +70,8 @@ module _ (st : Store) where
   word-room : (y : ℕ) → y < count st → Room (words-of st) y
   word-room y l = record-room (count st) y (words-of st) (omega (arith, length-words st)) l
 
-  own-label : (y : ℕ) → y < count st → label-at (words-of st) y ≡ getD (tag-record st y) 0 0
-  own-label y l = sym (label-front (words-of st) [] y (word-room y l)) ∙ first-word st [] y l
+  own-label : (y : ℕ) → y < count st → label-at (words-of st) y ≡ label-in (tag-record st y)
+  own-label y l = sym (label-front (words-of st) [] y (word-room y l)) ∙ label-word st [] y l
 
   own-word : (y k : ℕ) → y < count st → k < tag-words → field (words-of st) y k ≡ getD (tag-record st y) k 0
   own-word y k l small = sym (field-front (words-of st) [] y k (word-room y l) small) ∙ field-word st [] y l k small

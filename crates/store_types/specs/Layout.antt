@@ -1,7 +1,7 @@
 -- Where everything stands in the words of a store (document 01, "The book in words"): the header's words by name, and behind
 -- the header a record for each tag, its label in front and its fields by name. Only the laws of crate words see through
 -- `records-at`, `words-for`, `field`, `label-at`, `with-field` and `with-label`. Assumes nothing: these are definitions.
-use mathlib.Core.List.{List}
+use mathlib.Core.List.{List, [], _∷_}
 use Prim.Native.Nat.{ℕ, _+_, _*_, _≤_}
 use lib.ListN.{length, getD, set}
 use Rattle.store_types.specs.Limits.{most-tags}
@@ -55,6 +55,17 @@ at-kind = 5
 
 abbrev pub tag-words : ℕ
 tag-words = 6
+
+-- THE WORDS one after the other: of a header, and of a record
+abbrev pub header-list : (s r height n first number stamp : ℕ) → List ℕ
+header-list s r h n first number stamp = 1 ∷ s ∷ r ∷ h ∷ n ∷ first ∷ number ∷ stamp ∷ []
+
+abbrev pub record-list : (label next prior mate up kind : ℕ) → List ℕ
+record-list l next prior mate up kind = l ∷ next ∷ prior ∷ mate ∷ up ∷ kind ∷ []
+
+-- the label of such a record
+abbrev pub label-in : List ℕ → ℕ
+label-in ws = getD ws 0 0
 
 -- a word of the header
 abbrev pub word-at : List ℕ → (i : ℕ) → ℕ
