@@ -9,7 +9,7 @@ use borrow.Author.Tests.{eqb-true, eqb-false}
 use lib.Dec.{eqb}
 use lib.ListN.{length, getD, set, List·getD-append}
 use lib.Seq.{getD-set-same, getD-set-other}
-use Rattle.store_types.specs.Layout.{header-words, label-words, at-next, at-prior, at-mate, at-up, at-kind, tag-words, word-at, words-for, field, label-at, with-label, Room}
+use Rattle.store_types.specs.Layout.{header-words, label-words, tag-words, word-at, words-for, field, label-at, with-label, Room}
 use Rattle.lists.proofs.Tests.{by-test}
 use Rattle.lists.specs.Lists.{numbers}
 use Rattle.words.proofs.Fields.{header-fits, record-room, label-same, label-other-tag, field-past-label, header-kept-label, length-with-label, with-label-front, field-front, label-front, fields-tell}

@@ -1,6 +1,6 @@
 -- Words while a store is being changed: like words-of (crate calls), with any labels along the row. The words of a store are
 -- the image of its row, labels and facts. Assumes nothing: these are definitions.
-use mathlib.Core.List.{List, [], _∷_, _++_, flatMap}
+use mathlib.Core.List.{List, _++_, flatMap}
 use Prim.Native.Nat.{ℕ}
 use lib.ListN.{length, getD}
 use Rattle.store_types.specs.Limits.{no-tag}
