@@ -101,8 +101,8 @@ end-aligned {w} {v} {g} o = rw (o .end-is) (dvd-add _ (o .aligned) (dvd-refl (w 
 
 module _ {w : ℕ → ℕ} {u : ℕ} {t : Tables} (tables : Divided w u t) (ns : List ℕ) where
   -- a node of a height below the root's that is numbered within the root ends there too, so that no end of one is cut
-  pub end-within : (g l : ℕ) → g ≤ u → w g ∣ l → l < w (suc u) → l + w g < label-limit
-  end-within g l fits d inside =
+  multiple-within : (g l : ℕ) → g ≤ u → w g ∣ l → l < w (suc u) → l + w g < label-limit
+  multiple-within g l fits d inside =
       let e : suc u - g + g ≡ suc u = omega arith in
       let wider : w g ∣ w (suc u) = rw e at (widths-divide w (tables .divides) (suc u - g) g) in
       omega (arith, next-multiple (w g) l (w (suc u)) d wider inside, tables .narrow)
@@ -149,7 +149,7 @@ module _ {w : ℕ → ℕ} {u : ℕ} {t : Tables} (tables : Divided w u t) (ns :
   closing-step {v} {z} {old} c l i fits inside long past d kept =
       let width = tables .wide (suc c) fits in
       opens past d
-      (kept .ends ∙ getD-set-same (v .ends) (suc c) _ 0 (omega (arith, long .ends, tables .fits)) ∙ rw width (cut-below (l + w (suc c)) (end-within (suc c) l fits d inside)))
+      (kept .ends ∙ getD-set-same (v .ends) (suc c) _ 0 (omega (arith, long .ends, tables .fits)) ∙ rw width (cut-below (l + w (suc c)) (multiple-within (suc c) l fits d inside)))
       (kept .firsts ∙ getD-set-same (v .firsts) (suc c) i 0 (omega (arith, long .firsts, tables .fits)))
       (kept .sizes ∙ getD-set-same old (suc c) _ 0 (omega (arith, long .sizes, tables .fits)) ∙ rw width)
 
