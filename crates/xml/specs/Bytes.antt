@@ -1,0 +1,120 @@
+-- Bytes of a sheet: the five classes by the rules of XML 1.0 (fifth edition) for ASCII, and the strings of its markup
+-- (document 02, CR 1). Assumes nothing: these are definitions.
+use mathlib.Core.Bool.{Bool, true, false, _&&_, _||_, not, cond}
+use mathlib.Core.List.{List, [], _∷_}
+use Prim.Native.Nat.{ℕ}
+use lib.Dec.{ltb, leb, eqb}
+use Rattle.calls.specs.Words.{starts-with}
+
+-- production 2, Char: tab, line feed, carriage return, and 32 to 127; from 128 on all are forbidden here
+unfoldable pub is-char : ℕ → Bool
+is-char c = ltb c 128 && (leb 32 c || (eqb c 9 || (eqb c 10 || eqb c 13)))
+
+-- production 3, S
+unfoldable pub is-space : ℕ → Bool
+is-space c = eqb c 32 || (eqb c 9 || (eqb c 13 || eqb c 10))
+
+-- production 4, NameStartChar: colon, low line, letters
+unfoldable pub is-name-start : ℕ → Bool
+is-name-start c = eqb c 58 || (eqb c 95 || ((leb 65 c && leb c 90) || (leb 97 c && leb c 122)))
+
+-- production 4a, NameChar: also hyphen, full stop, digits
+unfoldable pub is-name-char : ℕ → Bool
+is-name-char c = is-name-start c || (eqb c 45 || (eqb c 46 || (leb 48 c && leb c 57)))
+
+-- 0 forbidden, 1 space, 2 name start, 3 name only, 4 other
+unfoldable pub class-of : ℕ → ℕ
+class-of c =
+    cond (not (is-char c)) 0 (cond (is-space c) 1 (cond (is-name-start c) 2 (cond (is-name-char c) 3 4)))
+
+-- the bytes that markup is made of
+abbrev pub less-than : ℕ
+less-than = 60
+
+abbrev pub greater-than : ℕ
+greater-than = 62
+
+abbrev pub ampersand : ℕ
+ampersand = 38
+
+abbrev pub semicolon : ℕ
+semicolon = 59
+
+abbrev pub equals : ℕ
+equals = 61
+
+abbrev pub slash : ℕ
+slash = 47
+
+abbrev pub hyphen : ℕ
+hyphen = 45
+
+abbrev pub bracket : ℕ
+bracket = 93
+
+abbrev pub quotation : ℕ
+quotation = 34
+
+abbrev pub apostrophe : ℕ
+apostrophe = 39
+
+-- < !--  and  -- >
+abbrev pub comment-opens : List ℕ
+comment-opens = less-than ∷ 33 ∷ hyphen ∷ hyphen ∷ []
+
+abbrev pub comment-closes : List ℕ
+comment-closes = hyphen ∷ hyphen ∷ greater-than ∷ []
+
+-- what a comment holds only in its closer
+abbrev pub two-hyphens : List ℕ
+two-hyphens = hyphen ∷ hyphen ∷ []
+
+-- <![CDATA[  and  ]]>
+abbrev pub cdata-opens : List ℕ
+cdata-opens = less-than ∷ 33 ∷ 91 ∷ 67 ∷ 68 ∷ 65 ∷ 84 ∷ 65 ∷ 91 ∷ []
+
+abbrev pub cdata-closes : List ℕ
+cdata-closes = bracket ∷ bracket ∷ greater-than ∷ []
+
+-- </
+abbrev pub end-opens : List ℕ
+end-opens = less-than ∷ slash ∷ []
+
+-- >  and  />
+abbrev pub tag-closes : List ℕ
+tag-closes = greater-than ∷ []
+
+abbrev pub lone-closes : List ℕ
+lone-closes = slash ∷ greater-than ∷ []
+
+-- <!, which begins comments, CDATA sections and declarations
+abbrev pub declaration-opens : List ℕ
+declaration-opens = less-than ∷ 33 ∷ []
+
+-- <?  and  <!DOCTYPE
+abbrev pub instruction-opens : List ℕ
+instruction-opens = less-than ∷ 63 ∷ []
+
+abbrev pub doctype-opens : List ℕ
+doctype-opens = less-than ∷ 33 ∷ 68 ∷ 79 ∷ 67 ∷ 84 ∷ 89 ∷ 80 ∷ 69 ∷ []
+
+-- the names of the five references of 4.6: lt gt amp apos quot
+abbrev pub lt-name : List ℕ
+lt-name = 108 ∷ 116 ∷ []
+
+abbrev pub gt-name : List ℕ
+gt-name = 103 ∷ 116 ∷ []
+
+abbrev pub amp-name : List ℕ
+amp-name = 97 ∷ 109 ∷ 112 ∷ []
+
+abbrev pub apos-name : List ℕ
+apos-name = 97 ∷ 112 ∷ 111 ∷ 115 ∷ []
+
+abbrev pub quot-name : List ℕ
+quot-name = 113 ∷ 117 ∷ 111 ∷ 116 ∷ []
+
+-- whether a string stands somewhere in a list
+unfoldable pub contains : (string : List ℕ) → List ℕ → Bool
+contains xs [] = starts-with xs []
+contains xs (c ∷ cs) = starts-with xs (c ∷ cs) || contains xs cs

@@ -1,0 +1,78 @@
+-- What is promised of sheets (document 02, CR 1). Each statement is a type; its proof stands in crate xml_laws.
+-- Assumes nothing: these are definitions.
+use mathlib.Core.Path.{_≡_}
+use mathlib.Core.Bool.{Bool, true, false}
+use mathlib.Core.List.{List, [], _∷_, _++_, map}
+use mathlib.Core.Logic.{_↔_, _⊎_}
+use Prim.Native.Nat.{ℕ}
+use lib.ListN.{length}
+use Rattle.calls.specs.Kind.{kind-of}
+use Rattle.calls.specs.Load.{all-kinds}
+use Rattle.calls.specs.Nesting.{nests}
+use Rattle.xml.specs.Grammar.{Construct, start, lone, text-of, texts, Tag, is-tag, Place, top, may-stand, all-stand, place-behind, kinds-from, most-depth}
+use Rattle.xml.specs.Content.{Content, constructs, content-right, data-right}
+use Rattle.xml.specs.Reader.{accepted, refused, read-sheet, refused-opener, not-a-sheet, too-deep, not-read}
+
+-- IN THE GRAMMAR, with these kinds: a row of constructs, each where it may stand, with no element open at the end
+pub record In-grammar (text kinds : List ℕ) : Type 0 where
+  pub row : List Construct
+  pub written : texts row ≡ text
+  pub stand : all-stand row top ≡ true
+  pub closed : place-behind row top .opened ≡ []
+  pub give : kinds-from false row ≡ kinds
+
+-- no construct that may stand there begins the rest
+unfoldable pub Stuck : Place → (rest : List ℕ) → Type 0
+Stuck p rest = (c : Construct) (more : List ℕ) → text-of c ++ more ≡ rest → may-stand c p ≡ true → ⊥
+
+-- a whole start tag or empty-element tag begins the rest
+pub record Whole-tag (rest : List ℕ) : Type 0 where
+  pub tag : Tag
+  pub more : List ℕ
+  pub right : is-tag tag ≡ true
+  pub written : (text-of (start tag) ++ more ≡ rest) ⊎ (text-of (lone tag) ++ more ≡ rest)
+
+-- OUTSIDE IT, with this number: constructs up to the first that cannot be completed, or to the end with an element open
+pub record Outside (text : List ℕ) (number : ℕ) : Type 0 where
+  pub before : List Construct
+  pub rest : List ℕ
+  pub parted : texts before ++ rest ≡ text
+  pub stand : all-stand before top ≡ true
+  pub stuck : Stuck (place-behind before top) rest
+  pub not-whole : rest ≡ [] → place-behind before top .opened ≡ [] → ⊥
+  pub fourteen : (number ≡ not-read) ↔ (refused-opener rest ≡ true)
+  pub thirteen : (number ≡ too-deep) ↔ ((length (place-behind before top .opened) ≡ most-depth) × Whole-tag rest)
+  pub only : (number ≡ not-a-sheet) ⊎ ((number ≡ too-deep) ⊎ (number ≡ not-read))
+
+-- the reader replies what the grammar says, for every text
+pub record Sheets-right : Type 0 where
+  pub accepts : (text kinds : List ℕ) → (read-sheet text ≡ accepted kinds) ↔ In-grammar text kinds
+  pub refuses : (text : List ℕ) (number : ℕ) → (read-sheet text ≡ refused number) ↔ Outside text number
+
+-- so every text is in the grammar or outside it, and in one way
+unfoldable pub One-kinds : Type 0
+One-kinds = (text ks ls : List ℕ) → In-grammar text ks → In-grammar text ls → ks ≡ ls
+
+unfoldable pub One-number : Type 0
+One-number = (text : List ℕ) (m n : ℕ) → Outside text m → Outside text n → m ≡ n
+
+unfoldable pub Not-both : Type 0
+Not-both = (text kinds : List ℕ) (number : ℕ) → In-grammar text kinds → Outside text number → ⊥
+
+unfoldable pub Either : Type 0
+Either = (text : List ℕ) → ((kinds : List ℕ) × In-grammar text kinds) ⊎ ((number : ℕ) × Outside text number)
+
+-- IN THE GRAMMAR as the standard nests it: content, right in itself, no deeper than the greatest depth
+pub record Nested (text kinds : List ℕ) : Type 0 where
+  pub content : Content
+  pub written : texts (constructs content) ≡ text
+  pub right : content-right most-depth content ≡ true
+  pub parted : data-right (constructs content) ≡ true
+  pub give : kinds-from false (constructs content) ≡ kinds
+
+unfoldable pub Sheets-nest-as-trees : Type 0
+Sheets-nest-as-trees = (text kinds : List ℕ) → In-grammar text kinds ↔ Nested text kinds
+
+-- what a sheet gives is never refused with 4 or 5 by a load
+unfoldable pub Kinds-nest : Type 0
+Kinds-nest = (text kinds : List ℕ) → In-grammar text kinds → (all-kinds kinds ≡ true) × (nests 0 (map kind-of kinds) ≡ true)

@@ -1,0 +1,68 @@
+-- The classes of bytes: a table's entries, and the tests of a byte by its class, each by one test that is computed at all 256
+-- bytes. Assumes nothing.
+use mathlib.Core.Path.{_≡_, refl, sym}
+use mathlib.Core.Bool.{Bool, true, false, _&&_, _||_, not, cond}
+use mathlib.Core.List.{List}
+use Prim.Native.Nat.{ℕ, zero, suc, _<_}
+use native.Mathlib.Omega.{arith}
+use borrow.Author.Tests.{eqb-true, eqb-false, ne-eqb, not-true}
+use lib.Dec.{eqb}
+use lib.ListN.{getD}
+use Rattle.lists.proofs.Tests.{by-test, and-left, and-right}
+use Rattle.xml.specs.Bytes.{class-of, is-char, is-space, is-name-start, is-name-char}
+
+-- EVERY NUMBER below a bound passes a test
+unfoldable pub all-below : (test : ℕ → Bool) → (bound : ℕ) → Bool
+all-below f zero = true
+all-below f (suc n) = f n && all-below f n
+
+below : (f : ℕ → Bool) (n : ℕ) → all-below f n ≡ true → (k : ℕ) → k < n → f k ≡ true
+unfolding all-below
+below f zero e k l = absurd (omega arith)
+below f (suc n) e k l =
+    by-test (eqb k n)
+    (λ q. rw (eqb-true k n q) (and-left (f n) (all-below f n) e))
+    (λ q. below f n (and-right (f n) (all-below f n) e) k (omega (arith, eqb-false k n q)))
+
+equal-below : (f g : ℕ → ℕ) (n : ℕ) → all-below (λ k. eqb (f k) (g k)) n ≡ true → (k : ℕ) → k < n → f k ≡ g k
+equal-below f g n e k l = eqb-true (f k) (g k) (below (λ k. eqb (f k) (g k)) n e k l)
+
+-- whether two answers agree
+agree : Bool → Bool → Bool
+agree t u = cond t u (not u)
+
+agreed : (t u : Bool) → agree t u ≡ true → t ≡ u
+unfolding agree
+agreed true u e = sym e
+agreed false u e = sym (not-true u e)
+
+same-below : (f g : ℕ → Bool) (n : ℕ) → all-below (λ k. agree (f k) (g k)) n ≡ true → (k : ℕ) → k < n → f k ≡ g k
+same-below f g n e k l = agreed (f k) (g k) (below (λ k. agree (f k) (g k)) n e k l)
+
+-- THE TABLE
+pub table-right : (xs : List ℕ) → all-below (λ k. eqb (getD xs k 0) (class-of k)) 256 ≡ true → (b : ℕ) → b < 256 → getD xs b 0 ≡ class-of b
+table-right xs e b l = equal-below (λ k. getD xs k 0) class-of 256 e b l
+
+-- BY CLASS
+pub char-class : (b : ℕ) → b < 256 → not (eqb (class-of b) 0) ≡ is-char b
+unfolding all-below agree class-of is-char is-space is-name-start is-name-char
+char-class = same-below (λ b. not (eqb (class-of b) 0)) is-char 256 refl
+
+pub space-class : (b : ℕ) → b < 256 → eqb (class-of b) 1 ≡ is-space b
+unfolding all-below agree class-of is-char is-space is-name-start is-name-char
+space-class = same-below (λ b. eqb (class-of b) 1) is-space 256 refl
+
+pub start-class : (b : ℕ) → b < 256 → eqb (class-of b) 2 ≡ is-name-start b
+unfolding all-below agree class-of is-char is-space is-name-start is-name-char
+start-class = same-below (λ b. eqb (class-of b) 2) is-name-start 256 refl
+
+name-class : (b : ℕ) → b < 256 → (eqb (class-of b) 2 || eqb (class-of b) 3) ≡ is-name-char b
+unfolding all-below agree class-of is-char is-space is-name-start is-name-char
+name-class = same-below (λ b. eqb (class-of b) 2 || eqb (class-of b) 3) is-name-char 256 refl
+
+-- a byte that begins names goes on with them, and another does by its class alone
+pub name-by-start : (b k : ℕ) → b < 256 → k ≡ class-of b → k ≡ 2 → true ≡ is-name-char b
+name-by-start b k l e two = rw (← name-class b l, ← e, two)
+
+pub name-by-other : (b k : ℕ) → b < 256 → k ≡ class-of b → (k ≡ 2 → ⊥) → eqb k 3 ≡ is-name-char b
+name-by-other b k l e other = rw (← name-class b l, ← e, ne-eqb k 2 other)

@@ -1,0 +1,8 @@
+pub mod ByteTests
+pub mod StringSteps
+pub mod References
+pub mod RunSteps
+pub mod Seeks
+pub mod BodySteps
+pub mod ValueSteps
+pub mod DataSteps

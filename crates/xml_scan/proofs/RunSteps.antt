@@ -1,0 +1,56 @@
+-- Runs of bytes that pass a test: what is passed and what is left make up the whole run. Assumes nothing.
+use mathlib.Core.Path.{_≡_, refl}
+use mathlib.Core.Bool.{Bool, true, false}
+use mathlib.Core.List.{List}
+use Prim.Native.Nat.{ℕ, suc, _+_, _≤_, _<_}
+use native.Mathlib.Numerals.{add-one}
+use native.Mathlib.Omega.{arith}
+use lib.ListN.{length, getD, drop, drop-of-length-le}
+use lib.Seq.{drop-cons}
+use Rattle.xml.specs.Bytes.{is-name-start, is-name-char}
+use Rattle.xml.specs.Scan.{run, name-length}
+
+-- at place i of a run that began at from
+pub record Running (test : ℕ → Bool) (text : List ℕ) (from i : ℕ) : Type 0 where
+  pub within : i ≤ length text
+  pub rest : i + run test (drop i text) ≡ from + run test (drop from text)
+
+pub running-start : (test : ℕ → Bool) (text : List ℕ) (from : ℕ) → from ≤ length text → Running test text from from
+running-start f text from l = record { within = l; rest = refl }
+
+-- a run of the text from a place on, by its first byte
+run-on : (f : ℕ → Bool) (text : List ℕ) (i : ℕ) → i < length text → f (getD text i 0) ≡ true → run f (drop i text) ≡ suc (run f (drop (i + 1) text))
+unfolding run
+run-on f text i l e = rw (add-one i, drop-cons text i 0 l, e)
+
+run-none : (f : ℕ → Bool) (text : List ℕ) (i : ℕ) → i < length text → f (getD text i 0) ≡ false → run f (drop i text) ≡ 0
+unfolding run
+run-none f text i l e = rw (drop-cons text i 0 l, e)
+
+run-end : (f : ℕ → Bool) (text : List ℕ) (i : ℕ) → length text ≤ i → run f (drop i text) ≡ 0
+unfolding run
+run-end f text i l = rw (drop-of-length-le text l)
+
+module _ {test : ℕ → Bool} {text : List ℕ} {from i : ℕ} (h : Running test text from i) where
+  pub running-turn : i < length text → test (getD text i 0) ≡ true → Running test text from (i + 1)
+  running-turn l e = record { within = omega arith; rest = omega (arith, h .rest, run-on test text i l e) }
+
+  pub running-stop : i < length text → test (getD text i 0) ≡ false → i ≡ from + run test (drop from text)
+  running-stop l e = omega (arith, h .rest, run-none test text i l e)
+
+  pub running-end : length text ≤ i → i ≡ from + run test (drop from text)
+  running-end l = omega (arith, h .rest, run-end test text i l)
+
+-- NAMES: none at the text's end, none at a byte that begins none, else a run behind the first byte
+pub name-none : (text : List ℕ) (from : ℕ) → length text ≤ from → from ≡ from + name-length (drop from text)
+unfolding name-length
+name-none text from l = let e : from + 0 ≡ from = omega arith in rw (drop-of-length-le text l, e)
+
+pub name-other : (text : List ℕ) (from : ℕ) → from < length text → is-name-start (getD text from 0) ≡ false → from ≡ from + name-length (drop from text)
+unfolding name-length
+name-other text from l n = let e : from + 0 ≡ from = omega arith in rw (drop-cons text from 0 l, n, e)
+
+pub name-run : (text : List ℕ) (from : ℕ) → from < length text → is-name-start (getD text from 0) ≡ true →
+    from + 1 + run is-name-char (drop (from + 1) text) ≡ from + name-length (drop from text)
+unfolding name-length
+name-run text from l e = rw (drop-cons text from 0 l, e, add-one from) (omega arith)

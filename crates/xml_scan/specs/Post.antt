@@ -1,0 +1,21 @@
+-- What scanners answer, from where they began. Assumes nothing: these are definitions.
+use mathlib.Core.Bool.{_&&_, _||_, not, cond}
+use mathlib.Core.List.{List, [], _∷_}
+use mathlib.Core.Option.{Option, none, some}
+use Prim.Native.Nat.{ℕ, _+_}
+use lib.Dec.{eqb}
+use Rattle.calls.specs.Words.{starts-with}
+use Rattle.xml.specs.Bytes.{is-char, less-than, ampersand, cdata-closes}
+use Rattle.xml_scan.specs.declared.Found.{Found}
+use Rattle.xml_scan.specs.declared.Found.the-variants.{At, Nothing}
+
+-- so many bytes behind where a scan began, or nothing
+unfoldable pub found : (from : ℕ) → Option ℕ → Found
+found a none = Nothing
+found a (some n) = At (a + n)
+
+-- 0 where data goes on behind the first byte of a text, 1 where it ends before it, 2 where it is broken there
+unfoldable pub data-test : List ℕ → ℕ
+data-test [] = 1
+data-test (c ∷ cs) =
+    cond (eqb c less-than || eqb c ampersand) 1 (cond (is-char c && not (starts-with cdata-closes (c ∷ cs))) 0 2)

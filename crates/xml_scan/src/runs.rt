@@ -1,0 +1,51 @@
+// Runs of bytes of one class: spaces and names.
+use crate::classes::is_name_char;
+use crate::classes::is_name_start;
+use crate::classes::is_space;
+ghost use mathlib.Core.Path.{_≡_};
+ghost use Prim.Native.Nat.{_+_, _≤_};
+ghost use lib.ListN.{length, drop};
+ghost use Rattle.xml.specs.Bytes.{is-space, is-name-char};
+ghost use Rattle.xml.specs.Scan.{run, name-length};
+
+// Where the spaces from a place on end.
+pub fn blank_end(text: &[u8], from: usize) -> usize
+    requires { ⌜ from ≤ length (now text) ⌝ }
+    ensures { λ e. ⌜ e ≡ from + run is-space (drop from (now (text .entry))) ⌝ }
+{
+    let mut i = from;
+    while i < text.len() {
+        if !is_space(text[i]) {
+            return i;
+        }
+        i += 1;
+    }
+    i
+}
+
+fn name_chars_end(text: &[u8], from: usize) -> usize
+    requires { ⌜ from ≤ length (now text) ⌝ }
+    ensures { λ e. ⌜ e ≡ from + run is-name-char (drop from (now (text .entry))) ⌝ }
+{
+    let mut i = from;
+    while i < text.len() {
+        if !is_name_char(text[i]) {
+            return i;
+        }
+        i += 1;
+    }
+    i
+}
+
+// Where the name at a place ends: the place itself where none stands there.
+pub fn name_end(text: &[u8], from: usize) -> usize
+    requires { ⌜ from ≤ length (now text) ⌝ }
+    ensures { λ e. ⌜ e ≡ from + name-length (drop from (now (text .entry))) ⌝ }
+{
+    if from < text.len() {
+        if is_name_start(text[from]) {
+            return name_chars_end(text, from + 1);
+        }
+    }
+    from
+}
