@@ -1,20 +1,21 @@
 /* Vekhturop: a verified label store, for C and C++.
  *
  * A book is a row of tags (begins, ends, texts). Each tag has a number for life and a label for now; labels rise along the
- * book. A tag number is an index, a label is only compared: never pass one as the other.
+ * book. A tag number is an index, a label is only compared: never pass one as the other. Six calls are on a store; one more,
+ * vk_xml_kinds, reads the kinds that a book is loaded from out of a sheet of XML.
  *
  * WORDS. A store lives in words that the caller lends to each call: 8 + 6n of them for n tags, VK_WORDS(n). Nothing else
  * is kept between calls, nothing is allocated, and the words may be copied or written to a file as they are.
  *   words 0 to 7        1; s; r; height H; tags issued n; first tag or VK_NO_TAG; book number; stamp (changes since load)
  *   six a tag, from 0   label; next; prior; mate; up; kind (1 begin, 2 end, 3 text; 17, 18, 19 the same when marked)
- * Every call but vk_load first checks that the words say a sound store, in one pass over all tags.
+ * Every call on a store but vk_load first checks that the words say a sound one, in one pass over all tags.
  *
  * REPLIES. The first field of every reply is the refusal: 0 where the call is accepted. Where it is not 0, every other
- * field is 0 and no lent word is changed. An accepted call changes no word behind those it writes.
+ * field is 0 and no lent word or byte is changed. An accepted call changes no word or byte behind those it writes.
  *
  * POINTERS. Each pointer is followed by how many elements it points to. It must be aligned and must not be null, even where
- * that number is 0; what a call writes must not overlap anything else that is lent to it. Calls on separate words may run
- * at the same time; so may calls on the same words that take them as const.
+ * that number is 0; what a call writes must not overlap anything else that is lent to it. Calls that are lent nothing in
+ * common may run at the same time; so may calls that take what they have in common as const.
  *
  * Build:  ./install PREFIX   in the repository, then   cc .. $(pkg-config --cflags --libs vekhturop)
  * The library is for x86-64 Linux and needs the C library alone. docs/STORE.md is the manual.
@@ -39,12 +40,15 @@ extern "C" {
 #define VK_NO_TAG UINT32_C(4294967295)
 #define VK_FRONT VK_NO_TAG
 
-/* Kinds of tags, as vk_load and vk_insert take them. */
+/* The most elements of a sheet that are open at once. */
+#define VK_MOST_DEEP 64
+
+/* Kinds of tags, as vk_load and vk_insert take them and vk_xml_kinds writes them. */
 #define VK_BEGIN 1
 #define VK_END 2
 #define VK_TEXT 3
 
-/* Refusals. */
+/* Refusals. "All" are the six calls on a store. */
 #define VK_ACCEPTED 0
 #define VK_TOO_FEW_WORDS 1   /* all: under 8 words; load: under 8 + 6n */
 #define VK_NOT_SOUND 2       /* all but load: the words say no sound store */
@@ -56,7 +60,10 @@ extern "C" {
 #define VK_NO_SUCH_TAG 8     /* all but load: the tag is not below n (VK_FRONT is allowed on insert and list) */
 #define VK_TAG_MARKED 9      /* all but load: the tag is marked */
 #define VK_NOT_A_SECTION 10  /* mark, hold: an end tag; question, list: an end tag or a text */
-#define VK_LIST_TOO_SHORT 11 /* list: a lent list is shorter than the count */
+#define VK_LIST_TOO_SHORT 11 /* list, xml_kinds: a lent list is shorter than the count */
+#define VK_NOT_A_SHEET 12    /* xml_kinds: the text is not in the grammar */
+#define VK_TOO_DEEP 13       /* xml_kinds: a whole tag would open a 65th element */
+#define VK_NOT_READ 14       /* xml_kinds: a construct begins with <? or <!DOCTYPE */
 
 /* Answers of vk_question. */
 #define VK_NO 0
@@ -99,6 +106,11 @@ typedef struct vk_listed {
     uint32_t count; /* how many tags were written */
 } vk_listed;
 
+typedef struct vk_kinds {
+    uint32_t refusal;
+    size_t count; /* how many kinds were written */
+} vk_kinds;
+
 /* Makes the words a store over kinds (VK_BEGIN, VK_END, VK_TEXT in book order), whatever the words held before. The tag
  * numbers are 0, 1, 2 .. in that order. s and r (2 to 16 each) are the tree's degrees, book is any number of the caller's.
  * Refusals, in the order in which they are tested: 3, 6, 1, 4, 5, 7. */
@@ -125,6 +137,15 @@ vk_answered vk_question(uint32_t book, uint32_t tag, uint32_t start, uint32_t en
  * tags, labels into labels. Elements behind them stay as they are. Refusals: 1, 2, 8, 9, 10, 11. */
 vk_listed vk_list(uint32_t begin, const uint32_t *words, size_t words_len, uint32_t *tags, size_t tags_len,
                   uint32_t *labels, size_t labels_len);
+
+/* Reads a sheet and writes its kinds (VK_BEGIN, VK_END, VK_TEXT) in book order; bytes behind them stay as they are. A list
+ * of text_len bytes suffices for every sheet. There is no limit of VK_MOST_TAGS here: vk_load has it.
+ * A sheet is XML 1.0 (fifth edition) cut down to its content: data, the references &lt; &gt; &amp; &apos; &quot;, CDATA
+ * sections, comments and elements, in any number, of the bytes 9, 10, 13 and 32 to 127. A text is a longest run of data,
+ * references and CDATA sections, blank ones too; tags and comments end it. The empty sheet has no kinds.
+ * Refusals: 12, 13 and 14, by the first construct that cannot be completed or does not fit, and nothing behind it counts;
+ * 12 at the end of the text, where an element is still open; then 11. */
+vk_kinds vk_xml_kinds(const uint8_t *text, size_t text_len, uint8_t *kinds, size_t kinds_len);
 
 #ifdef __cplusplus
 }

@@ -1,7 +1,7 @@
-//! The benchmark of the label store. Times are given as ratios only, of medians of one run.
+//! The benchmark of the label store. Times are given as ratios, of medians of one run; for sheets as MB/s too.
 //!
 //! `plain` is the unverified version that the verified store is held against, `verified` the C interface, `calls` what
-//! is timed and how, `branches` what a branch on the kind costs, `moved` and `bits` the figures by which s and r are
+//! is timed and how, `xml` the same of sheets, `branches` what a branch on the kind costs, `moved` and `bits` the figures by which s and r are
 //! chosen, `others` what could be chosen in place of the L-Tree. `report` puts all of it into tables, `plot` draws heat
 //! maps and `picture` trees.
 
@@ -21,3 +21,4 @@ pub mod table;
 #[cfg(feature = "library")]
 pub mod verified;
 pub mod words;
+pub mod xml;

@@ -5,7 +5,7 @@ use bench::books::{SHEETS, Sheet};
 use bench::calls::{Bench, Case, SHAPES, SIZES, Times};
 use bench::report::{Section, calls, filled, targets};
 use bench::table::thousands;
-use bench::{bits, branches, moved, others, picture, plot, store};
+use bench::{bits, branches, moved, others, picture, plot, store, xml};
 use std::path::{Path, PathBuf};
 use std::process::ExitCode;
 
@@ -71,9 +71,11 @@ fn main() -> ExitCode {
         return ExitCode::from(2);
     }
     let (times, note) = times();
+    eprintln!("reading sheets");
+    let speeds = xml::speeds(201);
     eprintln!("counting moved tags");
     let (moved, bits) = (moved::all(), bits::all());
-    let mut reached = targets(&times);
+    let mut reached = targets(&times, &speeds);
     if !store::LINKED {
         reached.insert_str(0, "The verified store is not linked: the plain version stands in for it.\n\n");
     }
@@ -94,6 +96,7 @@ fn main() -> ExitCode {
             title: "Plain call / bare walk",
             body: calls(&times, |it, i| it.plain[i] / it.bare),
         },
+        Section { name: "sheets", title: "Sheets", body: xml::table(&speeds) },
         Section { name: "branches", title: "A branch on the kind", body: branches::table(&branches::ratios(1_000)) },
         Section { name: "moved", title: "Moved tags per insertion", body: moved::tables(&moved) },
         Section { name: "bits", title: "Label bits: largest label / all below (f − 1)^H", body: bits::tables(&bits) },

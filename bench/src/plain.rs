@@ -1,5 +1,5 @@
-//! A plain unverified version of the store: the same calls on the same words, as a Rust programmer would write them
-//! for speed. It is what the verified store's speed is held against; tests compare it with the reference.
+//! A plain unverified version of the store: the same calls on the same words and texts, as a Rust programmer would write
+//! them for speed. It is what the verified store's speed is held against; tests compare it with the reference.
 
 mod insert;
 mod load;
@@ -7,8 +7,9 @@ mod read;
 mod shape;
 mod sound;
 mod spread;
+mod xml;
 
-use crate::store::Store;
+use crate::store::{Reader, Store};
 
 pub struct Plain;
 
@@ -35,6 +36,12 @@ impl Store for Plain {
 
     fn list(begin: u32, words: &[u32], tags: &mut [u32], labels: &mut [u32]) -> [u32; 2] {
         read::list(begin, words, tags, labels)
+    }
+}
+
+impl Reader for Plain {
+    fn xml_kinds(text: &[u8], kinds: &mut [u8]) -> (u32, usize) {
+        xml::xml_kinds(text, kinds)
     }
 }
 

@@ -3,6 +3,7 @@
 use crate::books::{SHEETS, Sheet};
 use crate::calls::{CALLS, Call, Times};
 use crate::table::{table, thousands};
+use crate::xml::{MOST, Speed};
 
 /// A generated piece of the document, which stands there between `<!-- bench:NAME -->` and `<!-- end -->`.
 pub struct Section {
@@ -42,7 +43,7 @@ fn place(call: Call) -> usize {
 }
 
 /// What is to be reached, beside what this run gives.
-pub fn targets(all: &[Times]) -> String {
+pub fn targets(all: &[Times], speeds: &[Speed]) -> String {
     let mut rows = Vec::new();
     let mut row = |what: String, figure: f64, most: f64| {
         // As precise as it is shown.
@@ -67,6 +68,9 @@ pub fn targets(all: &[Times]) -> String {
     for it in all.iter().filter(|it| it.case.n > 20_000 && it.case.shuffled) {
         let what = format!("{} tags shuffled, {}: walk / bare walk", thousands(it.case.n), kinds(it));
         row(what, it.verified[walk] / it.bare, 1.5);
+    }
+    for it in speeds.iter().filter(|it| it.judged) {
+        row(format!("sheet of {}: verified / plain", it.name), it.ratio(), MOST);
     }
     table(1, &["ratio", "this run", "at most", ""].map(String::from), &rows)
 }

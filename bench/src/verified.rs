@@ -1,11 +1,11 @@
 //! The verified store through its C interface.
 
-use crate::store::Store;
-use vekhturop_sys::{vk_hold, vk_insert, vk_list, vk_load, vk_mark, vk_question};
+use crate::store::{Reader, Store};
+use vekhturop_sys::{vk_hold, vk_insert, vk_list, vk_load, vk_mark, vk_question, vk_xml_kinds};
 
 pub struct Verified;
 
-// SAFETY, for all six: every pointer and length is that of a slice lent for the call.
+// SAFETY, for all seven: every pointer and length is that of a slice lent for the call.
 impl Store for Verified {
     fn load(s: u32, r: u32, book: u32, kinds: &[u8], words: &mut [u32]) -> [u32; 3] {
         unsafe { vk_load(s, r, book, kinds.as_ptr(), kinds.len(), words.as_mut_ptr(), words.len()) }.into()
@@ -31,5 +31,12 @@ impl Store for Verified {
         let (words, len) = (words.as_ptr(), words.len());
         let (tags, tags_len) = (tags.as_mut_ptr(), tags.len());
         unsafe { vk_list(begin, words, len, tags, tags_len, labels.as_mut_ptr(), labels.len()) }.into()
+    }
+}
+
+impl Reader for Verified {
+    fn xml_kinds(text: &[u8], kinds: &mut [u8]) -> (u32, usize) {
+        let reply = unsafe { vk_xml_kinds(text.as_ptr(), text.len(), kinds.as_mut_ptr(), kinds.len()) };
+        (reply.refusal, reply.count)
     }
 }

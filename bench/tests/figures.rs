@@ -3,10 +3,10 @@
 use bench::books::{SHEETS, Sheet};
 use bench::calls::{Bench, Case};
 use bench::plain::Plain;
-use bench::report::{Section, filled};
+use bench::report::{Section, filled, targets};
 use bench::store::Store;
 use bench::words::*;
-use bench::{bits, books, moved};
+use bench::{bits, books, moved, xml};
 use draw::Rng;
 
 fn listed(words: &[u32], n: usize) -> (Vec<u32>, Vec<u32>) {
@@ -64,6 +64,16 @@ fn moved_stops_where_labels_run_out() {
     assert_eq!(moved::moved(moved::Pattern::Front, 16, 2, 10), Err(0));
     assert_eq!(moved::moved(moved::Pattern::Front, 6, 2, 2_100), Err(3_071));
     assert!(moved::moved(moved::Pattern::Random, 2, 2, 50).is_ok_and(|moved| moved > 0.0));
+}
+
+/// Three sheets are judged, and a table has a row for each.
+#[test]
+fn sheets_are_timed() {
+    let speeds = xml::speeds(3);
+    assert!(speeds.iter().all(|it| it.verified > 0.0 && it.plain > 0.0));
+    assert_eq!(speeds.iter().map(|it| it.judged).collect::<Vec<_>>(), [true, true, true, false]);
+    assert_eq!(xml::table(&speeds).lines().count(), 2 + speeds.len());
+    assert_eq!(targets(&[], &speeds).lines().count(), 2 + 3);
 }
 
 #[test]

@@ -1,11 +1,13 @@
-//! The plain version gives the same replies and words as the reference: random histories, sound stores of random
-//! shape, damaged stores, and the limits of document 01.
+//! The plain version gives the same replies, words and kinds as the reference: random histories, sound stores of random
+//! shape, damaged stores, the limits of document 01, sheets and texts that are nearly sheets.
 
 use bench::plain::Plain;
-use bench::store::Store;
+use bench::store::{Reader, Store};
+use bench::xml;
 use differential::call::{Call, Reply};
 use differential::plan;
 use differential::session::Tally;
+use differential::sheet::{SheetReader, compare};
 use differential::subject::{Lent, Subject};
 
 struct PlainSubject;
@@ -33,4 +35,30 @@ impl Subject for PlainSubject {
 #[test]
 fn the_plain_version_agrees_with_the_reference() {
     plan::calls(&PlainSubject, &mut Tally::new(), 5, 60).expect("no difference");
+}
+
+impl SheetReader for PlainSubject {
+    fn kinds(&self, text: &mut [u8], kinds: &mut [u8]) -> (u32, usize) {
+        Plain::xml_kinds(text, kinds)
+    }
+}
+
+#[test]
+fn the_plain_reader_agrees_with_the_reference() {
+    plan::sheets(&PlainSubject, &mut Tally::new(), 5, 225).expect("no difference");
+}
+
+/// The sheets that are timed, and with one attribute of the many repeated: it is found though the filter is full.
+#[test]
+fn the_timed_sheets_are_read_alike() {
+    for sheet in xml::sheets() {
+        assert!(sheet.judged == (sheet.text.len() >= xml::SIZE), "{}", sheet.name);
+        assert_eq!(compare(&PlainSubject, &sheet.text), Ok(0), "{}", sheet.name);
+        let text = String::from_utf8(sheet.text).expect("plain text");
+        if let Some(inside) = text.strip_suffix("/>").filter(|_| !sheet.judged) {
+            for name in ["n0", "n500", "n999"] {
+                assert_eq!(compare(&PlainSubject, format!("{inside} {name}=''/>").as_bytes()), Ok(12), "{name}");
+            }
+        }
+    }
 }

@@ -88,6 +88,16 @@ reply!(
     } 2
 );
 
+/// `vk_kinds`. Where the refusal is not 0, the count is 0. It stands apart from the other replies: its count is no word.
+#[repr(C)]
+#[derive(Clone, Copy, PartialEq, Eq, Debug)]
+pub struct Kinds {
+    /// The number of the refusal, 0 where the call is accepted.
+    pub refusal: u32,
+    /// How many kinds were written.
+    pub count: usize,
+}
+
 extern "C" {
     pub fn vk_load(
         s: u32,
@@ -119,4 +129,5 @@ extern "C" {
         labels: *mut u32,
         labels_len: usize,
     ) -> Listed;
+    pub fn vk_xml_kinds(text: *const u8, text_len: usize, kinds: *mut u8, kinds_len: usize) -> Kinds;
 }

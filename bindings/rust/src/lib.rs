@@ -22,13 +22,17 @@
 //! # Ok(())
 //! # }
 //! ```
+//!
+//! [`kinds_of_xml`] reads a sheet of XML as the kinds that a book is loaded from.
 
 #![warn(missing_docs)]
 
 mod refusal;
+mod sheet;
 mod store;
 mod types;
 
 pub use refusal::Refusal;
+pub use sheet::kinds_of_xml;
 pub use store::{Store, words_for};
 pub use types::{Answer, HeldPair, Inserted, Kind, Label, Loaded, NotATag, Place, Tag, Within};

@@ -27,14 +27,20 @@ pub enum Refusal {
     TagMarked,
     /// 10: an end tag where an element or a text is asked for; on question and list, also a text.
     NotASection,
-    /// 11: a lent list is shorter than the count.
+    /// 11: a lent list is shorter than the count, of the tags listed or of the kinds of a sheet.
     ListTooShort,
+    /// 12: the text is no sheet: something in it cannot be completed, an end tag does not fit, or an element stays open.
+    NotASheet,
+    /// 13: an element of the sheet would be the 65th that is open.
+    TooDeep,
+    /// 14: the sheet has a processing instruction or a document type declaration, which are not read.
+    NotRead,
     /// A number that this crate does not know: the library is newer.
     Other(u32),
 }
 
 /// The refusals by their numbers, from 1 on.
-const KNOWN: [Refusal; 11] = [
+const KNOWN: [Refusal; 14] = [
     Refusal::TooFewWords,
     Refusal::NotSound,
     Refusal::Degree,
@@ -46,6 +52,9 @@ const KNOWN: [Refusal; 11] = [
     Refusal::TagMarked,
     Refusal::NotASection,
     Refusal::ListTooShort,
+    Refusal::NotASheet,
+    Refusal::TooDeep,
+    Refusal::NotRead,
 ];
 
 impl Refusal {
@@ -87,7 +96,14 @@ impl fmt::Display for Refusal {
             Refusal::NotASection => {
                 "the tag begins no section: give the begin of an element (mark and hold also take a text)"
             }
-            Refusal::ListTooShort => "a lent list is too short: lend one as long as the number of tags in the book",
+            Refusal::ListTooShort => {
+                "a lent list is too short: lend one as long as the number of tags in the book, or as the text of the sheet"
+            }
+            Refusal::NotASheet => {
+                "the text is no sheet: its tags, comments, references and sections must be whole, and its elements closed"
+            }
+            Refusal::TooDeep => "the sheet is too deep: at most 64 elements may be open at once",
+            Refusal::NotRead => "the sheet has a <? or a <!DOCTYPE, which are not read: take it out",
             Refusal::Other(number) => {
                 return write!(
                     f,
@@ -110,7 +126,7 @@ mod tests {
         for number in 1..=40 {
             let refusal = Refusal::check(number).expect_err("it is refused");
             assert_eq!(refusal.number(), number);
-            assert_eq!(matches!(refusal, Refusal::Other(_)), number > 11, "{refusal:?}");
+            assert_eq!(matches!(refusal, Refusal::Other(_)), number > 14, "{refusal:?}");
         }
         assert_eq!(Refusal::check(9), Err(Refusal::TagMarked));
         assert_eq!(Refusal::check(u32::MAX), Err(Refusal::Other(u32::MAX)));
@@ -118,9 +134,9 @@ mod tests {
 
     #[test]
     fn every_refusal_says_something_else() {
-        let mut said: Vec<String> = (1..=12).map(|it| Refusal::check(it).expect_err("refused").to_string()).collect();
+        let mut said: Vec<String> = (1..=15).map(|it| Refusal::check(it).expect_err("refused").to_string()).collect();
         said.sort();
         said.dedup();
-        assert_eq!(said.len(), 12);
+        assert_eq!(said.len(), 15);
     }
 }

@@ -1,4 +1,4 @@
--- A reply as a C struct: document 01's numbers of the reply in their order, the refusal (0 where the call is accepted)
+-- A reply as a C struct: the papers' numbers of the reply in their order, the refusal (0 where the call is accepted)
 -- first, and 0 in every field behind them; and a held pair from its four words. Assumes nothing: these are definitions.
 use mathlib.Core.List.{List}
 use Prim.Native.Nat.{ℕ}
@@ -10,6 +10,8 @@ use Rattle.store_types.specs.declared.MarkReply.{MarkReply}
 use Rattle.store_types.specs.declared.HoldReply.{HoldReply}
 use Rattle.store_types.specs.declared.QuestionReply.{QuestionReply}
 use Rattle.store_types.specs.declared.ListReply.{ListReply}
+use Rattle.xml.specs.declared.SheetReply.{SheetReply}
+use Rattle.xml.specs.Replies.{sheet-numbers}
 use Rattle.calls.specs.Replies.{load-numbers, insert-numbers, mark-numbers, hold-numbers, question-numbers, list-numbers}
 use Rattle.store_c.specs.declared.flat.Loaded.{Loaded}
 use Rattle.store_c.specs.declared.flat.Inserted.{Inserted}
@@ -17,6 +19,7 @@ use Rattle.store_c.specs.declared.flat.Marked.{Marked}
 use Rattle.store_c.specs.declared.flat.Held.{Held}
 use Rattle.store_c.specs.declared.flat.Answered.{Answered}
 use Rattle.store_c.specs.declared.flat.Listed.{Listed}
+use Rattle.store_c.specs.declared.flat.Kinds.{Kinds}
 
 -- number i of a reply, from 0; 0 where it has no more
 abbrev pub nth : ℕ → List ℕ → ℕ
@@ -43,6 +46,9 @@ c-answered q = let ns = question-numbers q in record { refusal = nth 0 ns; answe
 
 unfoldable pub c-listed : ListReply → Listed
 c-listed q = let ns = list-numbers q in record { refusal = nth 0 ns; count = nth 1 ns }
+
+unfoldable pub c-kinds : SheetReply → Kinds
+c-kinds q = let ns = sheet-numbers q in record { refusal = nth 0 ns; count = nth 1 ns }
 
 -- the pair that a caller shows
 abbrev pub pair-of : (book tag start end : ℕ) → HeldPair

@@ -1,7 +1,7 @@
 // The replies as C structs: the refusal, 0 where the call is accepted, then the reply's values, 0 where it is refused.
 ghost use mathlib.Core.Path.{_≡_};
 ghost use Rattle.calls.specs.Replies.{answer-number};
-ghost use Rattle.store_c.specs.Flat.{c-loaded, c-inserted, c-marked, c-held, c-answered, c-listed};
+ghost use Rattle.store_c.specs.Flat.{c-loaded, c-inserted, c-marked, c-held, c-answered, c-listed, c-kinds};
 use store_types::Answer;
 use store_types::HoldReply;
 use store_types::InsertReply;
@@ -9,6 +9,7 @@ use store_types::ListReply;
 use store_types::LoadReply;
 use store_types::MarkReply;
 use store_types::QuestionReply;
+use xml::SheetReply;
 
 #[repr(C)]
 pub struct Loaded {
@@ -50,6 +51,12 @@ pub struct Answered {
 pub struct Listed {
     pub refusal: u32,
     pub count: u32,
+}
+
+#[repr(C)]
+pub struct Kinds {
+    pub refusal: u32,
+    pub count: usize,
 }
 
 pub fn of_load(reply: LoadReply) -> Loaded
@@ -156,6 +163,18 @@ pub fn of_list(reply: ListReply) -> Listed
     match reply {
         ListReply::Listed(count) => Listed { refusal: 0, count },
         ListReply::Refused(k) => Listed {
+            refusal: k,
+            count: 0,
+        },
+    }
+}
+
+pub fn of_sheet(reply: SheetReply) -> Kinds
+    ensures { λ c. ⌜ c ≡ c-kinds reply ⌝ }
+{
+    match reply {
+        SheetReply::Kinds(count) => Kinds { refusal: 0, count },
+        SheetReply::Refused(k) => Kinds {
             refusal: k,
             count: 0,
         },

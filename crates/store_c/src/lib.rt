@@ -1,13 +1,15 @@
-// The six calls for C, as include/vekhturop.h declares them: a lent slice is a pointer and a length there, a reply a struct
-// of words. Each contract is that of the entry it calls, through the flat form of the reply; none has a `requires`.
+// The six calls on a store and the one on a sheet for C, as include/vekhturop.h declares them: a lent slice is a pointer and a
+// length there, a reply a struct of words. Each contract is that of the entry it calls, through the flat form of the reply; none has a `requires`.
 mod flat;
 
 ghost use mathlib.Core.Path.{_≡_};
 ghost use Rattle.calls.specs.Replies.{load-reply, load-words, insert-reply, insert-words, mark-reply, mark-words, hold-reply, question-reply, list-reply, list-tags, list-labels};
-ghost use Rattle.store_c.specs.Flat.{c-loaded, c-inserted, c-marked, c-held, c-answered, c-listed, pair-of};
+ghost use Rattle.store_c.specs.Flat.{c-loaded, c-inserted, c-marked, c-held, c-answered, c-listed, c-kinds, pair-of};
+ghost use Rattle.xml.specs.Replies.{sheet-reply, sheet-list};
 use flat::Answered;
 use flat::Held;
 use flat::Inserted;
+use flat::Kinds;
 use flat::Listed;
 use flat::Loaded;
 use flat::Marked;
@@ -73,4 +75,12 @@ pub extern "C" fn vk_list(begin: u32, words: &[u32], tags: &mut [u32], labels: &
     ensures labels { λ _. ⌜ now (labels .exit) ≡ list-labels begin (now (words .entry)) (now (tags .entry)) (now (labels .entry)) ⌝ }
 {
     flat::of_list(store::list(TagId(begin), words, tags, labels))
+}
+
+#[no_mangle]
+pub extern "C" fn vk_xml_kinds(text: &[u8], kinds: &mut [u8]) -> Kinds
+    ensures reply { λ c. ⌜ c ≡ c-kinds (sheet-reply (now (text .entry)) (now (kinds .entry))) ⌝ }
+    ensures list { λ _. ⌜ now (kinds .exit) ≡ sheet-list (now (text .entry)) (now (kinds .entry)) ⌝ }
+{
+    flat::of_sheet(xml_read::xml_kinds(text, kinds))
 }

@@ -7,12 +7,12 @@ use Prim.Native.Nat.{ℕ, zero, suc, _+_}
 use native.Mathlib.Numerals.{add-one}
 use native.Mathlib.Omega.{arith}
 use lib.Dec.{eqb}
-use lib.ListN.{length, getD, drop, length-append}
-use lib.Seq.{drop-drop, drop-append-seam}
+use lib.ListN.{length, getD, take, drop, length-append}
+use lib.Seq.{drop-drop, drop-append-seam, take-append-seam}
 use Rattle.lists.proofs.Tests.{by-test, and-left, and-right}
 use Rattle.calls.specs.Words.{starts-with}
 use Rattle.xml.specs.Bytes.{is-space, is-name-start, is-name-char, equals}
-use Rattle.xml.specs.Grammar.{is-name, is-blank, is-gap, is-quote, Value, value-text, is-value, Attribute, bare-text, is-attribute}
+use Rattle.xml.specs.Grammar.{is-name, is-blank, is-gap, is-quote, Value, value-text, is-value, Attribute, bare-text, attribute-text, is-attribute}
 use Rattle.xml.specs.Scan.{run, name-length, value-length, Sized, sized, attribute-at}
 use Rattle.xml_laws.proofs.Strings.{quote-not-space, space-not-name, starts-split}
 use Rattle.xml_laws.proofs.Runs.{stops, stops-behind, run-found, Run-there, run-written, name-found, name-written, name-not-empty, run-left, name-left}
@@ -231,3 +231,16 @@ attribute-written gap cs z g e =
     (right-attribute a (record { gap = g; name = n .right; before = b .spaces .holds; behind = b .on .spaces .holds; quote = q .is-one; value = q .right }))
     (rw (bare-parts a (q .more), q .written, b .on .spaces .written, b .equal, b .spaces .written) (n .written))
     e
+
+-- with its gap, which the grammar counts to it
+pub gap-written : {gap cs : List ℕ} {z : Sized} (t : Attribute-there gap cs z) → attribute-text (t .attribute) ++ t .more ≡ gap ++ cs
+unfolding attribute-text bare-text
+gap-written {gap} t = rw (t .behind, append-assoc gap (bare-text (t .attribute)) (t .more), t .written)
+
+pub gap-size : {gap cs : List ℕ} {z : Sized} (t : Attribute-there gap cs z) → length (attribute-text (t .attribute)) ≡ length gap + z .whole
+unfolding attribute-text bare-text
+gap-size {gap} t = rw (t .behind, length-append gap (bare-text (t .attribute)), ← (t .size))
+
+-- the bytes of its name
+pub name-taken : {gap cs : List ℕ} {z : Sized} (t : Attribute-there gap cs z) → take (z .name) cs ≡ t .attribute .name
+name-taken t = rw (← (t .written), bare-parts (t .attribute) (t .more), ← (t .size)) (take-append-seam (t .attribute .name) _)

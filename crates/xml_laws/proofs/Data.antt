@@ -161,10 +161,20 @@ forbidden-refused os b c cs f i =
     stepped (with-brackets os b) true c cs ∙ rw (or-left-false (eqb c less-than) (eqb c ampersand) f, or-right-false (eqb c less-than) (eqb c ampersand) f, i)
 
 -- A RUN OF DATA is read through
-later-some : (m : Option ℕ) (u : ℕ) → later m ≡ some u → (k : ℕ) × (m ≡ some k) × (u ≡ suc k)
+pub later-some : (m : Option ℕ) (u : ℕ) → later m ≡ some u → (k : ℕ) × (m ≡ some k) × (u ≡ suc k)
 unfolding later
 later-some none u e = let z : _≡_ {A = ℕ} 0 1 = cc in absurd (omega arith)
 later-some (some k) u e = (k, refl, cc)
+
+pub data-within : (cs : List ℕ) (u : ℕ) → data-length cs ≡ some u → u ≤ length cs
+unfolding data-length
+data-within [] u e = let z : 0 ≡ u = cc in omega arith
+data-within (c ∷ cs) u e =
+    by-test (eqb c less-than || eqb c ampersand) (λ f. let z : 0 ≡ u = cc (rw f at e) in omega arith)
+    (λ f.
+    by-test (is-char c && not (starts-with cdata-closes (c ∷ cs)))
+    (λ g. let more = later-some (data-length cs) u (rw (f, g) at e) in omega (arith, data-within cs (more .0) (more .1), more .2))
+    (λ g. let z : _≡_ {A = ℕ} 0 1 = cc (rw (f, g) at e) in absurd (omega arith)))
 
 nothing-read : (os : List (List ℕ)) (b u : ℕ) (r : Bool) → read-from (with-brackets os b) r 0 [] ≡ read-from (at-place os) r 0 (drop u [])
 unfolding read-from

@@ -57,15 +57,32 @@ pub next-markup : (p : Place) (cs : List ℕ) → next p (less-than ∷ cs) ≡ 
 unfolding next
 next-markup p cs = refl
 
-pub markup-comment : (p : Place) (cs : List ℕ) → starts-with comment-opens cs ≡ true →
+markup-comment : (p : Place) (cs : List ℕ) → starts-with comment-opens cs ≡ true →
     markup-step p cs ≡ comment-step (drop (length comment-opens) cs) (body-length two-hyphens (drop (length comment-opens) cs))
 unfolding markup-step first
 markup-comment p cs e = rw e
 
-pub markup-cdata : (p : Place) (cs : List ℕ) → starts-with comment-opens cs ≡ false → starts-with cdata-opens cs ≡ true →
+markup-cdata : (p : Place) (cs : List ℕ) → starts-with comment-opens cs ≡ false → starts-with cdata-opens cs ≡ true →
     markup-step p cs ≡ cdata-step (body-length cdata-closes (drop (length cdata-opens) cs))
 unfolding markup-step first
 markup-cdata p cs e f = rw (e, f)
+
+-- what begins with a string that begins with <
+pub next-opened : (p : Place) (xs cs : List ℕ) → starts-with (less-than ∷ xs) cs ≡ true → next p cs ≡ markup-step p cs
+next-opened p xs cs e =
+    let split = starts-split (less-than ∷ xs) cs e in
+    ap (next p) split ∙ next-markup p _ ∙ ap (markup-step p) (sym split)
+
+pub next-comment : (p : Place) (cs : List ℕ) → starts-with comment-opens cs ≡ true →
+    next p cs ≡ comment-step (drop (length comment-opens) cs) (body-length two-hyphens (drop (length comment-opens) cs))
+next-comment p cs e = next-opened p _ cs e ∙ markup-comment p cs e
+
+no-comment : (cs : List ℕ) → starts-with cdata-opens cs ≡ true → starts-with comment-opens cs ≡ false
+unfolding starts-with
+no-comment cs e = rw (starts-split cdata-opens cs e)
+
+pub next-cdata : (p : Place) (cs : List ℕ) → starts-with cdata-opens cs ≡ true → next p cs ≡ cdata-step (body-length cdata-closes (drop (length cdata-opens) cs))
+next-cdata p cs e = next-opened p _ cs e ∙ markup-cdata p cs (no-comment cs e) e
 
 -- neither a comment nor a CDATA section nor an end tag
 module _ (p : Place) (cs : List ℕ) (e : starts-with comment-opens cs ≡ false) (f : starts-with cdata-opens cs ≡ false) (g : starts-with end-opens cs ≡ false) where
@@ -121,3 +138,8 @@ declaration-broken p cs d e f h =
 pub next-end : (n : List ℕ) (os : List (List ℕ)) (cs : List ℕ) → starts-with end-opens cs ≡ true → next (at-place (n ∷ os)) cs ≡ end-step (n ∷ []) cs
 unfolding next markup-step first starts-with end-step
 next-end n os cs e = rw (starts-split end-opens cs e)
+
+-- with no element open it closes nothing
+pub next-unopened : (cs : List ℕ) → starts-with end-opens cs ≡ true → next (at-place []) cs ≡ reader.Step.stuck not-a-sheet
+unfolding next markup-step first starts-with end-step
+next-unopened cs e = rw (starts-split end-opens cs e)

@@ -3,13 +3,13 @@
 use mathlib.Core.Path.{_≡_, refl, sym, _∙_, ap, subst}
 use mathlib.Core.Bool.{false}
 use mathlib.Core.List.{List}
-use mathlib.Core.Logic.{_⊎_, inl, inr}
+use mathlib.Core.Logic.{_⊎_, inl, inr, ⊎-elim}
 use Prim.Native.Nat.{ℕ}
 use native.Mathlib.Nat.{le-refl}
 use native.Mathlib.Omega.{arith}
 use lib.ListN.{length}
 use Rattle.xml.specs.Grammar.{top}
-use Rattle.xml.specs.Reader.{Reading, accepted, refused, read-sheet}
+use Rattle.xml.specs.Reader.{Reading, accepted, refused, read-sheet, not-a-sheet, too-deep, not-read}
 use Rattle.xml.specs.Promise.{In-grammar, Outside, Sheets-right, One-kinds, One-number, Not-both, Either}
 use Rattle.xml_laws.proofs.Readings.{Read-so, Refused-so, Means, row-read, refused-read, means}
 
@@ -84,3 +84,8 @@ either bs = by-reading (read-sheet bs) refl
     by-reading : (q : Reading) → read-sheet bs ≡ q → ((ks : List ℕ) × In-grammar bs ks) ⊎ ((n : ℕ) × Outside bs n)
     by-reading (accepted ks) e = inl (ks, sheets-right .accepts bs ks .0 e)
     by-reading (refused n) e = inr (n, sheets-right .refuses bs n .0 e)
+
+-- no refusal is 0, which stands for none
+pub refused-some : (bs : List ℕ) (k : ℕ) → read-sheet bs ≡ refused k → k ≡ 0 → ⊥
+refused-some bs k e z =
+    ⊎-elim (λ (a : k ≡ not-a-sheet). omega arith) (⊎-elim (λ (a : k ≡ too-deep). omega arith) (λ (a : k ≡ not-read). omega arith)) (sheets-right .refuses bs k .0 e .only)

@@ -5,7 +5,7 @@ use mathlib.Core.Bool.{Bool, true, false, _&&_, not, cond, true≢false, false�
 use mathlib.Core.List.{List, [], _∷_, _++_, append-assoc}
 use mathlib.Core.Option.{Option, none, some, Option·none-ne-some, Option·some-injective}
 use Prim.Native.Nat.{ℕ, zero, suc, _+_, _≤_, _<_}
-use native.Mathlib.Nat.{zero-add, suc-add, not-suc-le-zero, le-refl}
+use native.Mathlib.Nat.{zero-add, suc-add, add-assoc, not-suc-le-zero, le-refl}
 use native.Mathlib.Numerals.{add-one, add-two}
 use native.Mathlib.Omega.{arith}
 use borrow.Author.Tests.{not-true}
@@ -21,14 +21,14 @@ use Rattle.xml_laws.proofs.Strings.{bytes-apart, starts-other, starts-s
 use Rattle.xml_laws.proofs.Runs.{stops, run-over, run-found, Run-there, run-written, name-stops-spaces}
 use Rattle.xml_laws.proofs.Found.{past-refusal}
 use Rattle.xml_laws.proofs.Names.{all-new, all-new-one}
-use Rattle.xml_laws.proofs.Attributes.{attribute-right, attribute-size, bare-parts, attribute-found, attribute-written}
+use Rattle.xml_laws.proofs.Attributes.{attribute-right, attribute-size, bare-parts, attribute-found, attribute-written, gap-written}
 
 -- so many bytes further
 unfoldable pub ends-by : (bytes : ℕ) → Option Ending → Option Ending
 ends-by k none = none
 ends-by k (some e) = some (record { used = k + e .used; lone = e .lone })
 
-ends-zero : (o : Option Ending) → o ≡ ends-by 0 o
+pub ends-zero : (o : Option Ending) → o ≡ ends-by 0 o
 unfolding ends-by
 ends-zero none = refl
 ends-zero (some e) = rw zero-add
@@ -37,6 +37,11 @@ ends-suc : (k : ℕ) (o : Option Ending) → ends-later (ends-by k o) ≡ ends-b
 unfolding ends-later ends-by
 ends-suc k none = refl
 ends-suc k (some e) = rw suc-add
+
+pub ends-twice : (j k : ℕ) (o : Option Ending) → ends-by j (ends-by k o) ≡ ends-by (j + k) o
+unfolding ends-by
+ends-twice j k none = refl
+ends-twice j k (some e) = rw (add-assoc j k (e .used))
 
 -- what is found so many bytes further is found
 ends-before : (k : ℕ) (o : Option Ending) (e : Ending) → ends-by k o ≡ some e → (f : Ending) × (o ≡ some f)
@@ -102,7 +107,7 @@ name-not-closer x xs (c ∷ cs) more e h =
     starts-other x c xs (cs ++ more) (bytes-apart (λ d. not (is-name-start d)) x c (rw e) (rw (and-left (is-name-start c) _ h)))
 
 -- an attribute, whose name must be new
-tail-attribute : (ns : List (List ℕ)) (a : Attribute) (rest : List ℕ) → is-attribute a ≡ true →
+pub tail-attribute : (ns : List (List ℕ)) (a : Attribute) (rest : List ℕ) → is-attribute a ≡ true →
     tail-at ns 0 (attribute-text a ++ rest) ≡ cond (among (a .name) ns) none (ends-by (length (attribute-text a)) (tail-at (a .name ∷ ns) 0 rest))
 unfolding attribute-text is-name-start
 tail-attribute ns a rest h =
@@ -220,7 +225,7 @@ unfolding tail-on
 attribute-on ns g rest none on e h = absurd (Option·none-ne-some e h)
 attribute-on ns g rest (some z) on e h = (z, refl)
 
-gap-of : (cs : List ℕ) → is-blank cs ≡ true → eqb (length cs) 0 ≡ false → is-gap cs ≡ true
+pub gap-of : (cs : List ℕ) → is-blank cs ≡ true → eqb (length cs) 0 ≡ false → is-gap cs ≡ true
 unfolding is-gap
 gap-of [] b e = absurd (true≢false e)
 gap-of (c ∷ cs) b e = b
@@ -239,7 +244,7 @@ unfolding attribute-text
 found-there ns gap rest cs z e {room} g w h l t behind =
     let a = attribute-written gap rest z g h in
     let b = a .attribute in
-    let text : attribute-text b ++ a .more ≡ cs = rw (a .behind, append-assoc gap (bare-text b) (a .more), a .written) w in
+    let text : attribute-text b ++ a .more ≡ cs = gap-written a ∙ w in
     let new = past-refusal (among (b .name) ns) _ (sym (tail-attribute ns b (a .more) (a .right)) ∙ (ap (tail-at ns 0) text ∙ t)) in
     let f = ends-before (length (attribute-text b)) (tail-at (b .name ∷ ns) 0 (a .more)) e (new .1) in
     let fewer : length (a .more) ≤ room =

@@ -9,6 +9,7 @@ use borrow.Author.Tests.{eqb-true, eqb-false, ne-eqb, not-true}
 use lib.Dec.{eqb}
 use lib.ListN.{getD}
 use Rattle.lists.proofs.Tests.{by-test, and-left, and-right}
+use Rattle.xml_scan.specs.Classes.{Classes}
 use Rattle.xml.specs.Bytes.{class-of, is-char, is-space, is-name-start, is-name-char}
 
 -- EVERY NUMBER below a bound passes a test
@@ -39,9 +40,9 @@ agreed false u e = sym (not-true u e)
 same-below : (f g : ℕ → Bool) (n : ℕ) → all-below (λ k. agree (f k) (g k)) n ≡ true → (k : ℕ) → k < n → f k ≡ g k
 same-below f g n e k l = agreed (f k) (g k) (below (λ k. agree (f k) (g k)) n e k l)
 
--- THE TABLE
-pub table-right : (xs : List ℕ) → all-below (λ k. eqb (getD xs k 0) (class-of k)) 256 ≡ true → (b : ℕ) → b < 256 → getD xs b 0 ≡ class-of b
-table-right xs e b l = equal-below (λ k. getD xs k 0) class-of 256 e b l
+-- THE TABLE: one test of all its entries
+pub table-classes : {xs : List ℕ} → all-below (λ k. eqb (getD xs k 0) (class-of k)) 256 ≡ true → Classes xs
+table-classes {xs} e = record { right = equal-below (λ k. getD xs k 0) class-of 256 e }
 
 -- BY CLASS
 pub char-class : (b : ℕ) → b < 256 → not (eqb (class-of b) 0) ≡ is-char b

@@ -1,7 +1,8 @@
--- A string compared at a place of a text, byte by byte: what is left of it stands there where all of it does. Assumes nothing.
+-- A string compared at a place of a text, byte by byte: what is left of it stands there where all of it does. A string that
+-- stands there is within the text. Assumes nothing.
 use mathlib.Core.Path.{_≡_, sym, _∙_}
-use mathlib.Core.Bool.{true, false, _&&_}
-use mathlib.Core.List.{List}
+use mathlib.Core.Bool.{true, false, _&&_, false≢true}
+use mathlib.Core.List.{List, [], _∷_}
 use Prim.Native.Nat.{ℕ, suc, _+_, _≤_, _<_}
 use native.Mathlib.Numerals.{add-one}
 use native.Mathlib.Omega.{arith}
@@ -9,6 +10,7 @@ use borrow.Author.Tests.{eq-eqb, ne-eqb}
 use lib.Dec.{eqb}
 use lib.ListN.{length, getD, drop, drop-of-length-le}
 use lib.Seq.{drop-cons}
+use Rattle.lists.proofs.Tests.{and-right}
 use Rattle.calls.specs.Words.{starts-with}
 
 -- after k bytes of a string that is to stand at a place
@@ -44,3 +46,10 @@ module _ {text : List ℕ} {at : ℕ} {string : List ℕ} {k : ℕ} (h : Standin
   -- a byte differs
   pub standing-other : k < length string → at + k < length text → (getD text (at + k) 0 ≡ getD string k 0 → ⊥) → false ≡ starts-with string (drop at text)
   standing-other l m n = sym (step text at string k l m ∙ rw (ne-eqb _ _ (λ e. n (sym e)))) ∙ h .rest
+
+-- what begins a text is within it
+pub starts-within : (xs cs : List ℕ) → starts-with xs cs ≡ true → length xs ≤ length cs
+unfolding starts-with
+starts-within [] cs e = omega arith
+starts-within (x ∷ xs) [] e = absurd (false≢true e)
+starts-within (x ∷ xs) (c ∷ cs) e = omega (arith, starts-within xs cs (and-right (eqb x c) (starts-with xs cs) e))

@@ -1,6 +1,6 @@
 -- Values up to their quote: bytes and references are passed one after the other. Assumes nothing.
 use mathlib.Core.Path.{_≡_, refl, sym, _∙_}
-use mathlib.Core.Bool.{true, false, _&&_, not, and-false, false≢true}
+use mathlib.Core.Bool.{true, false, _&&_, not, and-false, and-true}
 use mathlib.Core.List.{List, [], _∷_}
 use mathlib.Core.Option.{none, some}
 use Prim.Native.Nat.{ℕ, zero, suc, pred, _+_, _≤_, _<_}
@@ -10,12 +10,12 @@ use borrow.Author.Tests.{eq-eqb, ne-eqb}
 use lib.Dec.{eqb}
 use lib.ListN.{length, getD, drop, length-drop, drop-of-length-le}
 use lib.Seq.{drop-cons, drop-drop}
-use Rattle.lists.proofs.Tests.{by-test, and-right}
-use Rattle.calls.specs.Words.{starts-with}
+use Rattle.lists.proofs.Tests.{by-test}
 use Rattle.xml.specs.Bytes.{is-char, less-than, ampersand, lt-name, gt-name, amp-name, apos-name, quot-name}
 use Rattle.xml.specs.Grammar.{reference-text}
 use Rattle.xml.specs.Scan.{later, reference-length, value-step, value-length}
-use Rattle.xml_scan.specs.Post.{found}
+use Rattle.xml_scan.specs.Post.{found, is-plain}
+use Rattle.xml_scan.proofs.StringSteps.{starts-within}
 use Rattle.xml_scan.proofs.References.{refers, is-lt, is-gt, is-amp, is-apos, is-quot, is-no-reference}
 use Rattle.xml_scan.proofs.Seeks.{Seeking, found-later}
 
@@ -45,13 +45,6 @@ module _ (q : ℕ) (text : List ℕ) (i : ℕ) where
         value-length q 0 (drop i text) ≡ later (value-length q (pred k) (drop (i + 1) text))
     unfolding value-length
     value-on k n s z = rw (add-one i, drop-cons text i 0 l, ne-eqb _ _ n, sym (rw (drop-cons text i 0 l) at s), ne-eqb _ _ z)
-
--- what begins a text is within it
-starts-within : (xs cs : List ℕ) → starts-with xs cs ≡ true → length xs ≤ length cs
-unfolding starts-with
-starts-within [] cs e = omega arith
-starts-within (x ∷ xs) [] e = absurd (false≢true e)
-starts-within (x ∷ xs) (c ∷ cs) e = omega (arith, starts-within xs cs (and-right (eqb x c) (starts-with xs cs) e))
 
 reference-within : (cs : List ℕ) → reference-length cs ≤ length cs
 unfolding reference-text
@@ -97,15 +90,19 @@ module _ (text : List ℕ) (i : ℕ) (l : i < length text) where
   unfolding value-step
   part-reference e = rw (drop-cons text i 0 l, eq-eqb _ _ e)
 
-  module _ (n : getD text i 0 ≡ ampersand → ⊥) where
-    pub part-less : getD text i 0 ≡ less-than → 0 ≡ value-step (drop i text)
-    unfolding value-step
-    part-less e = rw (drop-cons text i 0 l, ne-eqb _ _ n, eq-eqb _ _ e, and-false (is-char (getD text i 0)))
+  pub part-byte : (getD text i 0 ≡ ampersand → ⊥) → is-plain (getD text i 0) ≡ true → 1 ≡ value-step (drop i text)
+  unfolding value-step is-plain
+  part-byte n e = rw (drop-cons text i 0 l, ne-eqb _ _ n, e)
 
-    pub part-byte : (getD text i 0 ≡ less-than → ⊥) → is-char (getD text i 0) ≡ true → 1 ≡ value-step (drop i text)
-    unfolding value-step
-    part-byte m e = rw (drop-cons text i 0 l, ne-eqb _ _ n, ne-eqb _ _ m, e)
+  pub part-none : (getD text i 0 ≡ ampersand → ⊥) → is-plain (getD text i 0) ≡ false → 0 ≡ value-step (drop i text)
+  unfolding value-step is-plain
+  part-none n e = rw (drop-cons text i 0 l, ne-eqb _ _ n, e)
 
-    pub part-forbidden : is-char (getD text i 0) ≡ false → 0 ≡ value-step (drop i text)
-    unfolding value-step
-    part-forbidden e = rw (drop-cons text i 0 l, ne-eqb _ _ n, e)
+-- whether a byte is plain, by the tests that the code makes
+pub plain-less : (c : ℕ) → c ≡ less-than → false ≡ is-plain c
+unfolding is-plain
+plain-less c e = rw (eq-eqb _ _ e, and-false (is-char c))
+
+pub plain-other : (c : ℕ) → (c ≡ less-than → ⊥) → is-char c ≡ is-plain c
+unfolding is-plain
+plain-other c n = rw (ne-eqb _ _ n) (sym (and-true (is-char c)))

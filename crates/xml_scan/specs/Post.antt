@@ -1,5 +1,5 @@
 -- What scanners answer, from where they began. Assumes nothing: these are definitions.
-use mathlib.Core.Bool.{_&&_, _||_, not, cond}
+use mathlib.Core.Bool.{Bool, _&&_, _||_, not, cond}
 use mathlib.Core.List.{List, [], _∷_}
 use mathlib.Core.Option.{Option, none, some}
 use Prim.Native.Nat.{ℕ, _+_}
@@ -13,6 +13,10 @@ use Rattle.xml_scan.specs.declared.Found.the-variants.{At, Nothing}
 unfoldable pub found : (from : ℕ) → Option ℕ → Found
 found a none = Nothing
 found a (some n) = At (a + n)
+
+-- a byte that may stand in a value by itself, if it is not its quote and not &
+unfoldable pub is-plain : ℕ → Bool
+is-plain c = is-char c && not (eqb c less-than)
 
 -- 0 where data goes on behind the first byte of a text, 1 where it ends before it, 2 where it is broken there
 unfoldable pub data-test : List ℕ → ℕ

@@ -9,12 +9,14 @@ use crate::strings::stands;
 ghost use mathlib.Core.Path.{_≡_};
 ghost use Prim.Native.Nat.{ℕ, _≤_, _<_};
 ghost use lib.ListN.{length, drop};
-ghost use Rattle.xml.specs.Scan.{body-length, value-step, value-length, data-length};
-ghost use Rattle.xml_scan.specs.Post.{found, data-test};
+ghost use Rattle.xml_scan.specs.Classes.{Classes};
+ghost use Rattle.xml.specs.Scan.{body-length, value-length, data-length};
+ghost use Rattle.xml_scan.specs.Post.{found, is-plain, data-test};
 
 // Where the first closer stands, with no forbidden byte before it.
-pub fn body_end(text: &[u8], from: usize, closer: &[u8]) -> Found
+pub fn body_end(text: &[u8], from: usize, closer: &[u8], classes: &[u8; 256]) -> Found
     requires { ⌜ from ≤ length (now text) ⌝ }
+    requires classes { ⌜ Classes (now classes) ⌝ }
     ensures { λ q. ⌜ q ≡ found from (body-length (now (closer .entry)) (drop from (now (text .entry)))) ⌝ }
 {
     let mut i = from;
@@ -22,7 +24,7 @@ pub fn body_end(text: &[u8], from: usize, closer: &[u8]) -> Found
         if stands(text, i, closer) {
             return Found::At(i);
         }
-        if !is_char(text[i]) {
+        if !is_char(text[i], classes) {
             return Found::Nothing;
         }
         i += 1;
@@ -30,36 +32,41 @@ pub fn body_end(text: &[u8], from: usize, closer: &[u8]) -> Found
     Found::Nothing
 }
 
-// The length of the byte or reference of a value at a place, 0 where none stands there.
-fn value_part(text: &[u8], at: usize) -> usize
-    requires { ⌜ at < length (now text) ⌝ }
-    ensures { λ n. ⌜ n ≡ value-step (drop at (now (text .entry))) ⌝ }
+// Whether a byte may stand in a value by itself, if it is not its quote and not &.
+fn is_plain(c: u8, classes: &[u8; 256]) -> bool
+    requires { ⌜ Classes (now classes) ⌝ }
+    ensures { λ t. ⌜ t ≡ is-plain c ⌝ }
 {
-    let c = text[at];
-    if c == b'&' {
-        return reference(text, at);
-    }
     if c == b'<' {
-        return 0;
+        return false;
     }
-    if is_char(c) { 1 } else { 0 }
+    is_char(c, classes)
 }
 
 // Where the closing quote of a value stands.
-pub fn value_end(text: &[u8], from: usize, quote: u8) -> Found
+pub fn value_end(text: &[u8], from: usize, quote: u8, classes: &[u8; 256]) -> Found
     requires { ⌜ from ≤ length (now text) ⌝ }
+    requires classes { ⌜ Classes (now classes) ⌝ }
     ensures { λ q. ⌜ q ≡ found from (value-length quote 0 (drop from (now (text .entry)))) ⌝ }
 {
     let mut i = from;
     while i < text.len() {
-        if text[i] == quote {
+        let c = text[i];
+        if c == quote {
             return Found::At(i);
         }
-        let n = value_part(text, i);
-        if n == 0 {
-            return Found::Nothing;
+        if c == b'&' {
+            let n = reference(text, i);
+            if n == 0 {
+                return Found::Nothing;
+            }
+            i += n;
+        } else {
+            if !is_plain(c, classes) {
+                return Found::Nothing;
+            }
+            i += 1;
         }
-        i += n;
     }
     Found::Nothing
 }
@@ -72,12 +79,13 @@ const ENDS: u8 = 1;
 const BROKEN: u8 = 2;
 
 // Only bytes of the last class can end data or begin ]]>.
-fn data_test(text: &[u8], at: usize) -> u8
+fn data_test(text: &[u8], at: usize, classes: &[u8; 256]) -> u8
     requires { ⌜ at < length (now text) ⌝ }
+    requires classes { ⌜ Classes (now classes) ⌝ }
     ensures { λ t. ⌜ t ≡ data-test (drop at (now (text .entry))) ⌝ }
 {
     let c = text[at];
-    let k = class_of(c);
+    let k = class_of(c, classes);
     if k == FORBIDDEN {
         return BROKEN;
     }
@@ -100,13 +108,14 @@ fn data_test(text: &[u8], at: usize) -> u8
 }
 
 // Where character data ends: at < or &, or at the text's end.
-pub fn data_end(text: &[u8], from: usize) -> Found
+pub fn data_end(text: &[u8], from: usize, classes: &[u8; 256]) -> Found
     requires { ⌜ from ≤ length (now text) ⌝ }
+    requires classes { ⌜ Classes (now classes) ⌝ }
     ensures { λ q. ⌜ q ≡ found from (data-length (drop from (now (text .entry)))) ⌝ }
 {
     let mut i = from;
     while i < text.len() {
-        let t = data_test(text, i);
+        let t = data_test(text, i, classes);
         if t == ENDS {
             return Found::At(i);
         }

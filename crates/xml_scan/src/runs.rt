@@ -6,16 +6,18 @@ ghost use mathlib.Core.Path.{_≡_};
 ghost use Prim.Native.Nat.{_+_, _≤_};
 ghost use lib.ListN.{length, drop};
 ghost use Rattle.xml.specs.Bytes.{is-space, is-name-char};
+ghost use Rattle.xml_scan.specs.Classes.{Classes};
 ghost use Rattle.xml.specs.Scan.{run, name-length};
 
 // Where the spaces from a place on end.
-pub fn blank_end(text: &[u8], from: usize) -> usize
+pub fn blank_end(text: &[u8], from: usize, classes: &[u8; 256]) -> usize
     requires { ⌜ from ≤ length (now text) ⌝ }
+    requires classes { ⌜ Classes (now classes) ⌝ }
     ensures { λ e. ⌜ e ≡ from + run is-space (drop from (now (text .entry))) ⌝ }
 {
     let mut i = from;
     while i < text.len() {
-        if !is_space(text[i]) {
+        if !is_space(text[i], classes) {
             return i;
         }
         i += 1;
@@ -23,13 +25,14 @@ pub fn blank_end(text: &[u8], from: usize) -> usize
     i
 }
 
-fn name_chars_end(text: &[u8], from: usize) -> usize
+fn name_chars_end(text: &[u8], from: usize, classes: &[u8; 256]) -> usize
     requires { ⌜ from ≤ length (now text) ⌝ }
+    requires classes { ⌜ Classes (now classes) ⌝ }
     ensures { λ e. ⌜ e ≡ from + run is-name-char (drop from (now (text .entry))) ⌝ }
 {
     let mut i = from;
     while i < text.len() {
-        if !is_name_char(text[i]) {
+        if !is_name_char(text[i], classes) {
             return i;
         }
         i += 1;
@@ -38,13 +41,14 @@ fn name_chars_end(text: &[u8], from: usize) -> usize
 }
 
 // Where the name at a place ends: the place itself where none stands there.
-pub fn name_end(text: &[u8], from: usize) -> usize
+pub fn name_end(text: &[u8], from: usize, classes: &[u8; 256]) -> usize
     requires { ⌜ from ≤ length (now text) ⌝ }
+    requires classes { ⌜ Classes (now classes) ⌝ }
     ensures { λ e. ⌜ e ≡ from + name-length (drop from (now (text .entry))) ⌝ }
 {
     if from < text.len() {
-        if is_name_start(text[from]) {
-            return name_chars_end(text, from + 1);
+        if is_name_start(text[from], classes) {
+            return name_chars_end(text, from + 1, classes);
         }
     }
     from

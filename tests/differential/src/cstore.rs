@@ -1,8 +1,9 @@
 //! The verified store through its C interface.
 
 use crate::call::{Call, Reply};
+use crate::sheet::SheetReader;
 use crate::subject::{Lent, Subject};
-use vekhturop_sys::{vk_hold, vk_insert, vk_list, vk_load, vk_mark, vk_question};
+use vekhturop_sys::{vk_hold, vk_insert, vk_list, vk_load, vk_mark, vk_question, vk_xml_kinds};
 
 pub struct CStore;
 
@@ -33,5 +34,14 @@ impl Subject for CStore {
                 }
             }
         }
+    }
+}
+
+impl SheetReader for CStore {
+    fn kinds(&self, text: &mut [u8], kinds: &mut [u8]) -> (u32, usize) {
+        // The text is lent through a mutable pointer for the same reason.
+        // SAFETY: both pointers and lengths are those of slices that are lent mutably.
+        let reply = unsafe { vk_xml_kinds(text.as_mut_ptr(), text.len(), kinds.as_mut_ptr(), kinds.len()) };
+        (reply.refusal, reply.count)
     }
 }

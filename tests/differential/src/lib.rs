@@ -1,5 +1,5 @@
-//! The comparison of two label stores, of one with document 01's bare list, and of two programs that read the book
-//! program's lines.
+//! The comparison of two label stores, of one with document 01's bare list, of two programs that read the book program's
+//! lines, and of two readers of sheets.
 //!
 //! By calls: `subject` names what is compared, `session` makes one call on both sides and compares, `bare` and `due`
 //! set it beside the bare list, the generators (`history`, `shape`, `limits`, `damage`, `flaw`) choose the calls, and
@@ -7,6 +7,9 @@
 //!
 //! By lines: `program` names what is compared, `process` starts the book program and `pieces` cuts what is written to
 //! it, `near`, `scripts` and `writer` make the lines, and `shorten` and `edit` make a failure short.
+//!
+//! By sheets: `sheet` names what is compared and makes a failure short, `printed` prints trees, and `sheets` draws texts
+//! that are nearly sheets.
 //!
 //! `plan` is a whole run of each, and `script` and `report` print what was found.
 
@@ -24,6 +27,7 @@ pub mod limits;
 pub mod near;
 pub mod pieces;
 pub mod plan;
+pub mod printed;
 pub mod process;
 pub mod program;
 pub mod report;
@@ -31,6 +35,8 @@ pub mod script;
 pub mod scripts;
 pub mod session;
 pub mod shape;
+pub mod sheet;
+pub mod sheets;
 pub mod shorten;
 pub mod shrink;
 pub mod subject;

@@ -1,8 +1,8 @@
-//! `cargo run --release -p differential -- SEED SIZE [calls|lines]`: compares the verified store with the reference, by calls
-//! of the C interface and by lines of the book program, or only one of them.
+//! `cargo run --release -p differential -- SEED SIZE [calls|lines|sheets]`: compares the verified store with the reference,
+//! by calls of the C interface, by lines of the book program and by sheets that are read, or only by one of them.
 //!
-//! SIZE is the number of random histories of each; 225 meet every s and r. A difference is printed as a short script
-//! and ends the run with status 1. The library is linked (vekhturop-sys); the program is the one that VEKHTUROP_BOOK names,
+//! SIZE is the number of random histories of each, and of trees; 225 meet every s and r. A difference is printed as a short
+//! script or text and ends the run with status 1. The library is linked (vekhturop-sys); the program is the one that VEKHTUROP_BOOK names,
 //! or target/bin/book of the repository.
 
 use differential::plan;
@@ -10,6 +10,7 @@ use differential::process::Process;
 use differential::program::LineProgram;
 use differential::report;
 use differential::session::Tally;
+use differential::sheet::{self, SheetReader};
 use differential::shorten::shorten;
 use differential::shrink::shrink;
 use differential::subject::Subject;
@@ -23,17 +24,19 @@ struct Arguments {
     size: usize,
     calls: bool,
     lines: bool,
+    sheets: bool,
 }
 
 fn arguments() -> Option<Arguments> {
     let all: Vec<String> = std::env::args().skip(1).collect();
     let (seed, size, part) = match &all[..] {
-        [seed, size] => (seed, size, ""),
-        [seed, size, part] if part == "calls" || part == "lines" => (seed, size, part.as_str()),
+        [seed, size] => (seed, size, None),
+        [seed, size, part] if ["calls", "lines", "sheets"].contains(&part.as_str()) => (seed, size, Some(part)),
         _ => return None,
     };
-    let (calls, lines) = (part != "lines", part != "calls");
-    Some(Arguments { seed: seed.parse().ok()?, size: size.parse().ok()?, calls, lines })
+    let has = |name: &str| part.is_none_or(|part| part == name);
+    let (calls, lines, sheets) = (has("calls"), has("lines"), has("sheets"));
+    Some(Arguments { seed: seed.parse().ok()?, size: size.parse().ok()?, calls, lines, sheets })
 }
 
 /// Says what was alike, and how often which reply came.
@@ -46,12 +49,21 @@ fn alike(what: &str, since: Instant, tally: impl Iterator<Item = (&'static str, 
     }
 }
 
+/// A store that also reads sheets.
+trait Verified: Subject + SheetReader {}
+
+impl<T: Subject + SheetReader> Verified for T {}
+
 /// What is set beside the reference. Built without the library there is nothing to compare, and the run must not pass.
-fn subject() -> Result<Box<dyn Subject>, &'static str> {
+fn verified() -> Result<Box<dyn Verified>, &'static str> {
     #[cfg(feature = "library")]
     return Ok(Box::new(differential::cstore::CStore));
     #[cfg(not(feature = "library"))]
     return Err("the verified store is not linked: build with the feature `library`, which is on by default");
+}
+
+fn replies(tally: Tally) -> impl Iterator<Item = (&'static str, String, u64)> {
+    tally.into_iter().map(|((name, refusal), count)| (name, refusal.to_string(), count))
 }
 
 fn by_calls(subject: &dyn Subject, seed: u64, size: usize, run: &str) -> Result<(), String> {
@@ -61,7 +73,7 @@ fn by_calls(subject: &dyn Subject, seed: u64, size: usize, run: &str) -> Result<
         let (case, what) = shrink(subject, failure.case, failure.what);
         return Err(report::of_calls(&case, &what, run));
     }
-    alike("calls", since, tally.into_iter().map(|((name, refusal), count)| (name, refusal.to_string(), count)));
+    alike("calls", since, replies(tally));
     Ok(())
 }
 
@@ -75,17 +87,27 @@ fn by_lines(program: &dyn LineProgram, seed: u64, size: usize, run: &str) -> Res
     Ok(())
 }
 
+fn by_sheets(reader: &dyn SheetReader, seed: u64, size: usize, run: &str) -> Result<(), String> {
+    let since = Instant::now();
+    let mut tally = Tally::new();
+    if let Err(found) = plan::sheets(reader, &mut tally, seed, size) {
+        return Err(report::of_sheet(&sheet::shorten(reader, found), run));
+    }
+    alike("texts", since, replies(tally));
+    Ok(())
+}
+
 fn stop(status: u8, what: impl Display) -> ExitCode {
     eprintln!("{what}");
     ExitCode::from(status)
 }
 
 fn main() -> ExitCode {
-    let Some(Arguments { seed, size, calls, lines }) = arguments() else {
-        return stop(2, "usage: differential SEED SIZE [calls|lines]");
+    let Some(Arguments { seed, size, calls, lines, sheets }) = arguments() else {
+        return stop(2, "usage: differential SEED SIZE [calls|lines|sheets]");
     };
-    let subject = match subject() {
-        Ok(subject) => subject,
+    let verified = match verified() {
+        Ok(verified) => verified,
         Err(missing) => return stop(2, missing),
     };
     let program = match Process::of_environment() {
@@ -93,7 +115,10 @@ fn main() -> ExitCode {
         program => program,
     };
     let run = format!("seed-{seed}-size-{size}");
-    let mut result = if calls { by_calls(&*subject, seed, size, &run) } else { Ok(()) };
+    let mut result = if calls { by_calls(&*verified, seed, size, &run) } else { Ok(()) };
+    if result.is_ok() && sheets {
+        result = by_sheets(&*verified, seed, size, &run);
+    }
     if let (Ok(()), Ok(program), true) = (&result, &program, lines) {
         result = by_lines(program, seed, size, &run);
     }

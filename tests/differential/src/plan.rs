@@ -5,14 +5,18 @@ use crate::flaw::{self, Flaw};
 use crate::history::{ground, history, walk};
 use crate::limits;
 use crate::pieces::Pieces;
+use crate::printed;
 use crate::program::{LineProgram, compare};
 use crate::scripts;
 use crate::session::{Failure, Session, Tally};
 use crate::shape;
+use crate::sheet::{Misread, SheetReader, compare as compare_sheet};
+use crate::sheets;
 use crate::shorten::Found;
 use crate::subject::Subject;
 use crate::writer::{LineTally, Script};
 use draw::Rng;
+use reference::DEPTH;
 
 /// All 225 of s and r, in an order by the seed, so that 225 histories meet each once.
 fn pairs(rng: &mut Rng) -> Vec<(u32, u32)> {
@@ -121,4 +125,41 @@ pub fn lines(program: &dyn LineProgram, tally: &mut LineTally, seed: u64, size: 
         }
     }
     Ok(())
+}
+
+/// Compares one text, and counts it under a name.
+fn text(reader: &dyn SheetReader, tally: &mut Tally, name: &'static str, text: &[u8]) -> Result<(), Misread> {
+    let refusal = compare_sheet(reader, text)?;
+    *tally.entry((name, refusal)).or_default() += 1;
+    Ok(())
+}
+
+/// So many rounds of texts by chance, each as it is and spoiled.
+pub fn drawn(reader: &dyn SheetReader, tally: &mut Tally, rng: &mut Rng, size: usize) -> Result<(), Misread> {
+    for _ in 0..size {
+        let mut texts = Vec::new();
+        for _ in 0..4 {
+            let (nodes, depth) = (rng.pick(&[1, 3, 8, 30, 100]), rng.pick(&[0, 1, 3, 8, DEPTH]));
+            texts.push(("tree", 20, printed::tree(rng, nodes, depth).text));
+        }
+        texts.extend((0..40).map(|_| ("pieces", 2, sheets::joined(rng))));
+        texts.extend([4, 12, 30, 100].map(|most| ("crowded", 2, sheets::crowded(rng, most))));
+        texts.extend((DEPTH - 2..=DEPTH + 2).map(|open| ("depth", 2, sheets::deep(rng, open))));
+        for (name, spoilings, it) in texts {
+            text(reader, tally, name, &it)?;
+            for _ in 0..spoilings {
+                text(reader, tally, "spoiled", &sheets::spoiled(rng, &it))?;
+            }
+        }
+    }
+    Ok(())
+}
+
+/// The comparison of sheets: the specimens, all short texts at each place where something may stand, then texts by chance.
+/// The tally counts texts.
+pub fn sheets(reader: &dyn SheetReader, tally: &mut Tally, seed: u64, size: usize) -> Result<(), Misread> {
+    sheets::specimens().iter().try_for_each(|it| text(reader, tally, "specimen", it))?;
+    // As with the stores: the longer texts come with a run that is meant to meet all s and r.
+    sheets::at_each_place(if size < 225 { 2 } else { 3 }, |it| text(reader, tally, "place", it))?;
+    drawn(reader, tally, &mut Rng::new(seed.rotate_left(32)), 4 * size)
 }

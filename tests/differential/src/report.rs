@@ -4,6 +4,7 @@ use crate::call::Case;
 use crate::pieces::Pieces;
 use crate::program::due;
 use crate::script;
+use crate::sheet::Misread;
 use crate::shorten::Found;
 use std::path::PathBuf;
 
@@ -70,4 +71,10 @@ pub fn of_lines(found: &Found, run: &str) -> String {
     let (script, replay) = (shown(&found.script), replay(&found.script, run));
     let due = tail(&due(&found.script));
     format!("{script}# {} ({run})\n{pieces}{replay}\n# it must print:\n{due}", found.what)
+}
+
+/// Of the comparison of sheets: the text as C and Rust write strings of bytes.
+pub fn of_sheet(found: &Misread, run: &str) -> String {
+    let Misread { text, room, what } = found;
+    format!("\"{}\"\n# {} bytes, with a list of {room}: {what} ({run})\n", text.escape_ascii(), text.len())
 }

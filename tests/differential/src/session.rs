@@ -31,20 +31,20 @@ struct After {
 }
 
 /// A slice to lend, with guards on both sides.
-struct Guarded<T>(Vec<T>, [T; 4]);
+pub(crate) struct Guarded<T>(Vec<T>, [T; 4]);
 
 impl<T: Copy + PartialEq> Guarded<T> {
-    fn new(inner: &[T], guard: [T; 4]) -> Guarded<T> {
+    pub(crate) fn new(inner: &[T], guard: [T; 4]) -> Guarded<T> {
         Guarded([&guard[..], inner, &guard[..]].concat(), guard)
     }
 
-    fn lend(&mut self) -> &mut [T] {
+    pub(crate) fn lend(&mut self) -> &mut [T] {
         let end = self.0.len() - self.1.len();
         &mut self.0[self.1.len()..end]
     }
 
     /// What stands between the guards; None where a guard was written.
-    fn back(self) -> Option<Vec<T>> {
+    pub(crate) fn back(self) -> Option<Vec<T>> {
         let inner = self.0.strip_prefix(&self.1[..])?.strip_suffix(&self.1[..])?;
         Some(inner.to_vec())
     }

@@ -1,7 +1,8 @@
 //! What is compared: anything that makes a call on lent slices.
 
 use crate::call::{Call, Reply};
-use reference::{Answer, Fault, Held, Refusal, Store};
+use crate::sheet::SheetReader;
+use reference::{Answer, Fault, Held, Refusal, Store, xml_kinds};
 
 /// The slices that a call is lent, of exactly these lengths. The kinds are those of the call.
 pub struct Lent<'a> {
@@ -55,5 +56,14 @@ impl Subject for Reference {
         };
         lent.words.copy_from_slice(&store.words);
         reply
+    }
+}
+
+impl SheetReader for Reference {
+    fn kinds(&self, text: &mut [u8], kinds: &mut [u8]) -> (u32, usize) {
+        match xml_kinds(text, kinds, self.fault) {
+            Ok(count) => (0, count),
+            Err(refusal) => (refusal as u32, 0),
+        }
     }
 }

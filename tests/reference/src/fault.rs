@@ -1,8 +1,8 @@
 //! Faults that a test can switch on, to see that the comparison notices them.
 //!
 //! They are the mistakes that document 01 lists under "Plausible and false", an invented moved count, a soundness
-//! test that overlooks one clause, and mistakes in reading the book program's lines. Everything outside tests uses
-//! `Fault::None`.
+//! test that overlooks one clause, and mistakes in reading the book program's lines and sheets. Everything outside tests
+//! uses `Fault::None`.
 
 #[derive(Clone, Copy, PartialEq, Eq, Debug, Default)]
 pub enum Fault {
@@ -32,6 +32,8 @@ pub enum Fault {
     LongLine,
     /// A last line without a line feed gets no reply.
     LastLineDropped,
+    /// Sheets are read with this slip.
+    Misreads(Slip),
 }
 
 /// A clause of document 01's "Sound means". That labels have H digits is none of its own: a root with more children
@@ -84,8 +86,73 @@ impl Clause {
     ];
 }
 
+/// A reading of a sheet that looks right and is not.
+#[derive(Clone, Copy, PartialEq, Eq, Debug)]
+pub enum Slip {
+    /// A reference or a CDATA section ends a text.
+    TextsParted,
+    /// A comment does not end a text.
+    CommentsJoin,
+    /// Data of spaces alone is no text.
+    BlanksDropped,
+    /// `]]>` may stand in data.
+    CloserInData,
+    /// `--` may stand in a comment.
+    DashesInComments,
+    /// `&#60;` is a reference.
+    NumberedReferences,
+    /// Bytes from 128 on are allowed.
+    HighBytes,
+    /// `<` may stand in a value.
+    LessInValues,
+    /// Two attributes need no space between them.
+    AttributesTogether,
+    /// An attribute may be repeated.
+    AttributesRepeated,
+    /// An end tag of any name closes the open element.
+    AnyEndCloses,
+    /// 65 elements may be open.
+    OneDeeper,
+    /// 64 open elements are told before the tag has been read whole.
+    DepthFirst,
+    /// `<!DOCTYPE` is told only where a space stands behind it.
+    DoctypeWhole,
+    /// A `<?` anywhere in what cannot be completed is told.
+    InstructionAnywhere,
+    /// A list that is too short is told before what else is wrong behind.
+    ShortListFirst,
+    /// Kinds are written as they are found, before the sheet is known to be one.
+    WrittenEarly,
+}
+
+impl Slip {
+    pub const ALL: [Slip; 17] = [
+        Slip::TextsParted,
+        Slip::CommentsJoin,
+        Slip::BlanksDropped,
+        Slip::CloserInData,
+        Slip::DashesInComments,
+        Slip::NumberedReferences,
+        Slip::HighBytes,
+        Slip::LessInValues,
+        Slip::AttributesTogether,
+        Slip::AttributesRepeated,
+        Slip::AnyEndCloses,
+        Slip::OneDeeper,
+        Slip::DepthFirst,
+        Slip::DoctypeWhole,
+        Slip::InstructionAnywhere,
+        Slip::ShortListFirst,
+        Slip::WrittenEarly,
+    ];
+}
+
 impl Fault {
     pub(crate) fn overlooks(self, clause: Clause) -> bool {
         self == Fault::Overlooks(clause)
+    }
+
+    pub(crate) fn misreads(self, slip: Slip) -> bool {
+        self == Fault::Misreads(slip)
     }
 }

@@ -3,6 +3,7 @@
 //! It keeps an explicit tree of nodes with children, where the verified store keeps words only. The two share no code
 //! and no idea of how to do it, so that agreeing word for word means something. Speed is no aim: every call of
 //! [`Store`] reads the whole store out of its words and writes it back. [`Program`] is the book program over one.
+//! [`xml_kinds`] reads a sheet of XML, written from the standard's productions and the rules that cut them down.
 
 mod book;
 mod command;
@@ -11,6 +12,7 @@ mod load;
 mod params;
 mod program;
 mod reply;
+mod sheet;
 mod sound;
 mod store;
 mod tag;
@@ -19,10 +21,11 @@ mod words;
 
 pub use book::Book;
 pub use command::{Command, LONGEST_LINE};
-pub use fault::{Clause, Fault};
+pub use fault::{Clause, Fault, Slip};
 pub use params::{LABELS, MAX_TAGS, Params};
 pub use program::{PROGRAM_TAGS, Program, lines};
 pub use reply::{Answer, Held, Inserted, Loaded, Refusal};
+pub use sheet::{DEPTH, xml_kinds};
 pub use sound::read;
 pub use store::Store;
 pub use tag::{Kind, Tag};

@@ -14,6 +14,9 @@ pub enum Refusal {
     Marked = 9,
     WrongTag = 10,
     ShortList = 11,
+    NotASheet = 12,
+    TooDeep = 13,
+    NotRead = 14,
 }
 
 #[derive(Clone, Copy, PartialEq, Eq, Debug)]

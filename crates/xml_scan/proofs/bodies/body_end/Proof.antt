@@ -13,13 +13,13 @@ use Rattle.xml_scan.proofs.bodies.body_end.Statement.{statement}
 use Rattle.xml_scan.proofs.bodies.body_end.Tie as tie
 
 abbrev Inv-loop : tie.InvT-loop
-Inv-loop text from closer i₀ i = Seeking (body-length closer) text from i
+Inv-loop text from closer classes i₀ i = Seeking (body-length closer) text from i
 
 abbrev μ-loop : tie.MeasureT-loop
-μ-loop text from closer i₀ i = length text - i
+μ-loop text from closer classes i₀ i = length text - i
 
 loop-holds : tie.Need-loop-holds Inv-loop μ-loop
-loop-holds c = seeking-start _ _ _ (c .before .before .pre)
+loop-holds c = seeking-start _ _ _ (c .before .before .pre .0)
 
 stands-requires : tie.Need-stands-requires Inv-loop μ-loop
 stands-requires c κs = omega arith

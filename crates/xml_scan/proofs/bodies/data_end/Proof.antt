@@ -3,6 +3,7 @@
 use mathlib.Core.Path.{sym, _∙_}
 use Prim.Native.Nat.{_-_}
 use native.Mathlib.Omega.{arith}
+use borrow.Author.Needs.{needs}
 use lib.ListN.{length}
 use Rattle.xml.specs.Scan.{data-length}
 use Rattle.xml_scan.proofs.Seeks.{Seeking, seeking-start, seeking-at, seeking-none, seeking-on}
@@ -11,16 +12,16 @@ use Rattle.xml_scan.proofs.bodies.data_end.Statement.{statement}
 use Rattle.xml_scan.proofs.bodies.data_end.Tie as tie
 
 abbrev Inv-loop : tie.InvT-loop
-Inv-loop text from i₀ i = Seeking data-length text from i
+Inv-loop text from classes i₀ i = Seeking data-length text from i
 
 abbrev μ-loop : tie.MeasureT-loop
-μ-loop text from i₀ i = length text - i
+μ-loop text from classes i₀ i = length text - i
 
 loop-holds : tie.Need-loop-holds Inv-loop μ-loop
-loop-holds c = seeking-start _ _ _ (c .before .pre)
+loop-holds c = seeking-start _ _ _ (c .before .pre .0)
 
 data-test-requires : tie.Need-data-test-requires Inv-loop μ-loop
-data-test-requires c κs = omega arith
+data-test-requires c κs = search needs
 
 returns : tie.Need-returns Inv-loop μ-loop
 returns c = seeking-at (c .before .before .before .loop .inv) (data-ended _ (sym (c .before .data-test .ensures) ∙ c .if1 .taken))

@@ -17,7 +17,7 @@ class-of-requires c κs = search needs
 
 -- the byte is in the text, and it is a byte
 inside : (c : tie.After-class-of) → let a = c .before .before .before .args in a .at < length (a .text .now)
-inside c = c .before .before .before .pre
+inside c = c .before .before .before .pre .0
 
 small : (c : tie.After-class-of) → let a = c .before .before .before .args in getD (a .text .now) (a .at) 0 < 256
 small c = omega (arith, c .before .shared-slice-known2 .given (c .before .before .before .args .at))

@@ -1,18 +1,14 @@
--- `xml_scan::class_of` meets its contract: the table is tested whole. Assumes nothing.
-use Prim.Native.Nat.{_<_}
+-- `xml_scan::classes::class_of` meets its contract, by what it asks of the table. Assumes nothing.
 use native.Mathlib.Omega.{arith}
 use borrow.Author.Needs.{needs}
-use Rattle.xml.specs.Bytes.{class-of, is-char, is-space, is-name-start, is-name-char}
-use Rattle.xml_scan.proofs.ByteTests.{all-below, table-right}
 use Rattle.xml_scan.proofs.classes.class_of.Statement.{statement}
 use Rattle.xml_scan.proofs.classes.class_of.Tie as tie
 
-array-read-result : tie.Need-array-read-result
-array-read-result c = search needs
+element-copy-out-result : tie.Need-element-copy-out-result
+element-copy-out-result c = search needs
 
 returns : tie.Need-returns
-unfolding all-below class-of is-char is-space is-name-start is-name-char
-returns c = let l : c .args .b < 256 = omega arith in rw table-right
+returns c = let at = c .before in at .pre .right (at .args .b) (omega arith)
 
 pub class-of-spec : {M : Type 1} → statement M
-class-of-spec = tie.close (tie.spec array-read-result returns)
+class-of-spec = tie.close (tie.spec element-copy-out-result returns)

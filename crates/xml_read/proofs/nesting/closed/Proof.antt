@@ -1,0 +1,23 @@
+-- `xml_read::nesting::closed` meets its contract. Assumes nothing.
+use mathlib.Core.Path.{ap}
+use mathlib.Core.Bool.{false}
+use borrow.Author.Needs.{needs}
+use Rattle.xml_read.specs.declared.Part.the-variants.{On}
+use Rattle.xml_read.specs.Outcome.{behind}
+use Rattle.xml_read.proofs.nesting.closed.Statement.{statement}
+use Rattle.xml_read.proofs.nesting.closed.Tie as tie
+
+put-kind-requires : tie.Need-put-kind-requires
+put-kind-requires c κs = search needs
+
+same-length : tie.Need-same-length
+same-length c = search needs
+
+returns : tie.Need-returns
+returns c =
+    let put = c .before .before .put-kind in
+    let at = c .before .before .before .before .before in
+    (ap (λ n. On (behind (at .args .end) n false)) (put .ensures .0), put .ensures .1)
+
+pub closed-spec : {M : Type 1} → statement M
+closed-spec = tie.close (tie.spec put-kind-requires same-length returns)

@@ -1,0 +1,161 @@
+// The element reader and the content reader call each other; the depth left falls, and content uses bytes up.
+use crate::Cursor;
+use crate::Part;
+use crate::kinds::put_kind;
+use crate::pieces::piece;
+ghost use mathlib.Core.Path.{_≡_};
+ghost use mathlib.Core.Bool.{true, false};
+ghost use mathlib.Core.List.{[], _∷_};
+ghost use Prim.Native.Nat.{suc, _+_, _^_, _≤_, _<_};
+ghost use lib.ListN.{length, drop, set};
+ghost use Rattle.xml.specs.Grammar.{most-depth};
+ghost use Rattle.xml.specs.Reader.{end-step};
+ghost use Rattle.xml_scan.specs.Classes.{Classes};
+ghost use Rattle.xml_read.specs.Outcome.{behind, In-text, Reads-on, Closes, Ended};
+ghost use Rattle.xml_read.specs.Pieces.{goes-on, opens-element, closing-found};
+use store_types::BEGIN;
+use store_types::END;
+use xml::NOT_A_SHEET;
+use xml::TOO_DEEP;
+use xml_scan::Found;
+use xml_scan::runs::blank_end;
+use xml_scan::strings::stands;
+use xml_tag::TagRead;
+use xml_tag::tag;
+
+// Whether < begins what stands at a place, with no ! and no ? behind it.
+fn opens_element(text: &[u8], at: usize) -> bool
+    requires { ⌜ at ≤ length (now text) ⌝ }
+    ensures { λ t. ⌜ t ≡ opens-element (drop at (now (text .entry))) ⌝ }
+{
+    if !stands(text, at, b"<") {
+        return false;
+    }
+    if stands(text, at, b"<!") {
+        return false;
+    }
+    !stands(text, at, b"<?")
+}
+
+// Whether content goes on at a place: neither the text's end nor an end tag.
+fn goes_on(text: &[u8], at: usize) -> bool
+    requires { ⌜ at ≤ length (now text) ⌝ }
+    ensures { λ t. ⌜ t ≡ goes-on (drop at (now (text .entry))) ⌝ }
+{
+    if text.len() == at {
+        return false;
+    }
+    !stands(text, at, b"</")
+}
+
+// Where the end tag at a place ends, which must have a given name.
+fn end_tag(text: &[u8], at: usize, name: &[u8], classes: &[u8; 256]) -> Found
+    requires { ⌜ at ≤ length (now text) ⌝ }
+    requires classes { ⌜ Classes (now classes) ⌝ }
+    ensures { λ q. ⌜ q ≡ closing-found at (end-step (now (name .entry) ∷ []) (drop at (now (text .entry)))) ⌝ }
+{
+    if !stands(text, at, b"</") {
+        return Found::Nothing;
+    }
+    let from = at + 2;
+    if !stands(text, from, name) {
+        return Found::Nothing;
+    }
+    let e = blank_end(text, from + name.len(), classes);
+    if stands(text, e, b">") {
+        return Found::At(e + 1);
+    }
+    Found::Nothing
+}
+
+// A begin tag's kind; content goes on behind the tag.
+fn opened(here: Cursor, end: usize, kinds: &mut [u8]) -> Cursor
+    requires { ⌜ here .count + 1 < 2 ^ 64 ⌝ }
+    ensures cursor { λ c. ⌜ c ≡ behind end (here .count + 1) false ⌝ }
+    ensures list { λ _. ⌜ now (kinds .exit) ≡ set (now (kinds .entry)) (here .count) 1 ⌝ }
+{
+    let n = put_kind(kinds, here.count, BEGIN);
+    Cursor {
+        at: end,
+        count: n,
+        in_text: false,
+    }
+}
+
+// An end tag's kind, or both of an empty-element tag's.
+fn closed(here: Cursor, end: usize, kinds: &mut [u8]) -> Part
+    requires { ⌜ here .count + 1 < 2 ^ 64 ⌝ }
+    ensures part { λ q. ⌜ q ≡ Part.On (behind end (here .count + 1) false) ⌝ }
+    ensures list { λ _. ⌜ now (kinds .exit) ≡ set (now (kinds .entry)) (here .count) 2 ⌝ }
+{
+    let n = put_kind(kinds, here.count, END);
+    Part::On(Cursor {
+        at: end,
+        count: n,
+        in_text: false,
+    })
+}
+
+// Behind the content of an element: its end tag, which has its name.
+fn ending(text: &[u8], here: Cursor, kinds: &mut [u8], name: &[u8], classes: &[u8; 256]) -> Part
+    requires { ⌜ In-text (now text) here × (goes-on (drop (here .at) (now text)) ≡ false) ⌝ }
+    requires classes { ⌜ Classes (now classes) ⌝ }
+    ensures { λ q. ⌜ Closes (now (text .entry)) (now (name .entry)) here (now (kinds .entry)) (now (kinds .exit)) q ⌝ }
+{
+    let at = here.at;
+    let Found::At(e) = end_tag(text, at, name, classes) else {
+        return Part::Refused(NOT_A_SHEET);
+    };
+    closed(here, e, kinds)
+}
+
+// An element with all that it holds, or a construct that is none.
+fn element(text: &[u8], here: Cursor, kinds: &mut [u8], depth: usize, classes: &[u8; 256]) -> Part
+    requires { ⌜ In-text (now text) here × (goes-on (drop (here .at) (now text)) ≡ true) × (depth ≤ most-depth) ⌝ }
+    requires classes { ⌜ Classes (now classes) ⌝ }
+    ensures { λ q. ⌜ Reads-on (now (text .entry)) depth here (suc (here .at)) (now (kinds .entry)) (now (kinds .exit)) q ⌝ }
+{
+    let at = here.at;
+    if !opens_element(text, at) {
+        return piece(text, here, kinds, classes);
+    }
+    let TagRead::Whole { name, end, lone } = tag(text, at, classes) else {
+        return Part::Refused(NOT_A_SHEET);
+    };
+    if depth == 0 {
+        return Part::Refused(TOO_DEEP);
+    }
+    let from = opened(here, end, kinds);
+    if lone {
+        return closed(from, end, kinds);
+    }
+    let part = content(text, from, kinds, depth - 1, classes);
+    let Part::On(c) = part else {
+        return part;
+    };
+    ending(text, c, kinds, &text[at + 1..name], classes)
+}
+
+// Constructs and elements, up to the text's end or an end tag.
+pub fn content(
+    text: &[u8],
+    from: Cursor,
+    kinds: &mut [u8],
+    depth: usize,
+    classes: &[u8; 256],
+) -> Part
+    requires { ⌜ In-text (now text) from × (depth ≤ most-depth) ⌝ }
+    requires classes { ⌜ Classes (now classes) ⌝ }
+    ensures reads { λ q. ⌜ Reads-on (now (text .entry)) depth from (from .at) (now (kinds .entry)) (now (kinds .exit)) q ⌝ }
+    ensures ended { λ q. ⌜ Ended (now (text .entry)) q ⌝ }
+{
+    let mut here = from;
+    while goes_on(text, here.at) {
+        let part = element(text, here, kinds, depth, classes);
+        let Part::On(c) = part else {
+            return part;
+        };
+        here = c;
+    }
+    Part::On(here)
+}

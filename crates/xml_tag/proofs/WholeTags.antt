@@ -1,0 +1,65 @@
+-- Whole tags: a name behind < and what stands behind it. Assumes nothing.
+use mathlib.Core.Path.{_≡_, refl}
+use mathlib.Core.Bool.{Bool, false, cond}
+use mathlib.Core.List.{List, []}
+use mathlib.Core.Option.{Option, none, some}
+use Prim.Native.Nat.{ℕ, suc, _+_}
+use native.Mathlib.Omega.{arith}
+use borrow.Author.Tests.{eq-eqb, ne-eqb}
+use lib.Dec.{eqb}
+use lib.ListN.{drop}
+use lib.Seq.{drop-drop}
+use Rattle.lists.proofs.Tests.{either-way}
+use Rattle.xml.specs.Scan.{Ending, name-length, tail-at, sized-tag, tag-at}
+use Rattle.xml_tag.specs.Post.{end-found, tag-found}
+use Rattle.xml_tag.specs.declared.TagEnd.the-variants as behind
+use Rattle.xml_tag.specs.declared.TagRead.the-variants as tag
+use Rattle.xml_tag.proofs.AttributeSteps.{from-place}
+
+-- WHAT WAS FOUND behind the name
+end-none : (a : ℕ) (o : Option Ending) → behind.Broken ≡ end-found a o → o ≡ none
+unfolding end-found
+end-none a none e = refl
+end-none a (some z) e = absurd (let y : _≡_ {A = ℕ} 0 1 = cc in omega arith)
+
+end-some : (a : ℕ) (o : Option Ending) (end : ℕ) (lone : Bool) → behind.Whole end lone ≡ end-found a o →
+    (z : Ending) × (o ≡ some z) × (end ≡ a + z .used) × (lone ≡ z .lone)
+unfolding end-found
+end-some a none end lone e = absurd (let y : _≡_ {A = ℕ} 0 1 = cc in omega arith)
+end-some a (some z) end lone e = (z, refl, cc, cc)
+
+whole-equal : {a a′ b b′ : ℕ} {l l′ : Bool} → a ≡ a′ → b ≡ b′ → l ≡ l′ → tag.Whole a b l ≡ tag.Whole a′ b′ l′
+whole-equal e f g = cc
+
+-- A TAG whose name is found to end at a place
+module _ (text : List ℕ) (at name : ℕ) (n : name ≡ at + 1 + name-length (drop (at + 1) text)) where
+  name-is : name-length (drop 1 (drop at text)) ≡ name-length (drop (at + 1) text)
+  name-is = rw (drop-drop 1 at text)
+
+  tag-is : tag-at (drop at text)
+      ≡ cond (eqb (name-length (drop (at + 1) text)) 0) none (sized-tag (name-length (drop (at + 1) text)) (tail-at [] 0 (drop name text)))
+  unfolding tag-at
+  tag-is =
+      let e : name ≡ at + suc (name-length (drop (at + 1) text)) = omega arith in
+      rw (name-is, from-place text at (suc (name-length (drop (at + 1) text))) name e)
+
+  ends : (end u : ℕ) → end ≡ name + u → end ≡ at + suc (name-length (drop (at + 1) text) + u)
+  ends end u e = omega arith
+
+  -- no name
+  pub tag-nameless : name ≡ at + 1 → tag.Broken ≡ tag-found at (tag-at (drop at text))
+  unfolding tag-found
+  tag-nameless e = let z : name-length (drop (at + 1) text) ≡ 0 = omega arith in rw (tag-is, eq-eqb _ 0 z)
+
+  -- nothing right behind it
+  pub tag-broken : behind.Broken ≡ end-found name (tail-at [] 0 (drop name text)) → tag.Broken ≡ tag-found at (tag-at (drop at text))
+  unfolding tag-found sized-tag
+  tag-broken e = rw (tag-is, end-none name _ e, either-way)
+
+  pub tag-whole : (end : ℕ) (lone : Bool) → (name ≡ at + 1 → ⊥) → behind.Whole end lone ≡ end-found name (tail-at [] 0 (drop name text)) →
+      tag.Whole name end lone ≡ tag-found at (tag-at (drop at text))
+  unfolding tag-found sized-tag
+  tag-whole end lone m e =
+      let w = end-some name _ end lone e in
+      let z : eqb (name-length (drop (at + 1) text)) 0 ≡ false = ne-eqb (name-length (drop (at + 1) text)) 0 (λ y. m (omega arith)) in
+      rw (tag-is, z, w .1) (whole-equal (omega arith) (ends end (w .0 .used) (w .2)) (w .3))
