@@ -132,12 +132,12 @@ module _ (st : Store) (rest : List ℕ) (h : Sound st) where
       rw (head .issued, head .number, head .stamp, book-read, facts-read)
 
 -- FRONTS: a list starts with its front, and what it starts with has a rest
-starts-front : (vs rest : List ℕ) → starts-with vs (vs ++ rest) ≡ true
+pub starts-front : (vs rest : List ℕ) → starts-with vs (vs ++ rest) ≡ true
 unfolding starts-with
 starts-front [] rest = refl
 starts-front (v ∷ vs) rest = and-both (eq-eqb v v refl) (starts-front vs rest)
 
-rest-of : (vs ws : List ℕ) → starts-with vs ws ≡ true → ws ≡ vs ++ drop (length vs) ws
+pub rest-of : (vs ws : List ℕ) → starts-with vs ws ≡ true → ws ≡ vs ++ drop (length vs) ws
 unfolding starts-with
 rest-of [] ws e = refl
 rest-of (v ∷ vs) [] e = absurd (true≢false (sym e))

@@ -10,7 +10,7 @@ use Rattle.console.specs.Line.{Parsed, fields, command-of, parsed, unkno
 use Rattle.console.specs.Scan.{first-space}
 use Rattle.console.specs.Post.{Gives}
 use Rattle.console.specs.declared.Command.{Command}
-use Rattle.console.proofs.Scans.{same-equal}
+use Rattle.lists.proofs.Same.{same-equal}
 use Rattle.console.proofs.Splits.{fields-one, field-within, field-next, field-first, rest-of}
 use Rattle.console.proofs.Words.{one-kinds, two-kinds, not-load, parsed-short}
 use Rattle.console.proofs.Loads.{part}

@@ -1,18 +1,16 @@
 -- What is found in a line: by the library's search and comparison, and digit by digit. Assumes nothing.
-use mathlib.Core.Path.{_≡_, refl, ap, sym, _∙_}
-use mathlib.Core.Bool.{Bool, true, false, _&&_, cond, and-false, false≢true}
+use mathlib.Core.Path.{_≡_, refl, sym}
+use mathlib.Core.Bool.{Bool, true, false, _&&_, cond, and-false}
 use mathlib.Core.List.{List, [], _∷_}
 use mathlib.Core.Option.{none, some}
 use Prim.Native.Nat.{ℕ, suc, _+_, _*_, _-_, _≤_, _<_}
 use native.Mathlib.Numerals.{add-one}
 use native.Mathlib.Omega.{arith}
-use borrow.Author.Tests.{eq-eqb, ne-eqb, eqb-true, lt-ltb, le-ltb, le-leb, lt-leb, ltb-true, ltb-false}
+use borrow.Author.Tests.{eq-eqb, ne-eqb, lt-ltb, le-ltb, le-leb, lt-leb, ltb-true, ltb-false}
 use lib.Dec.{ltb, eqb}
 use lib.ListN.{length, getD, drop, drop-of-length-le}
 use lib.Seq.{drop-cons, take-all}
 use Rattle.store_types.specs.Limits.{word-limit}
-use Rattle.lists.specs.Lists.{same}
-use Rattle.lists.proofs.Tests.{and-left, and-right, fails}
 use Rattle.bytes.specs.Bytes.{indexOf, indexAfter, slice}
 use Rattle.console.specs.Line.{is-digit, all-digits, value-from, well-begun, number-of}
 use Rattle.console.specs.Scan.{first-space, scanned}
@@ -31,25 +29,6 @@ index-space (c ∷ cs) = rw (index-space cs) (go (eqb c 32))
 pub space-found : (cs : List ℕ) (i : ℕ) → i + indexOf 32 (slice i (length cs) cs) ≡ i + first-space (drop i cs)
 unfolding slice
 space-found cs i = rw (take-all (length cs) cs (omega arith), index-space (drop i cs))
-
--- EQUAL BYTES
-same-refl : (xs : List ℕ) → same xs xs ≡ true
-unfolding same
-same-refl [] = refl
-same-refl (x ∷ xs) = rw (eq-eqb x x refl) (same-refl xs)
-
-pub same-equal : (xs ys : List ℕ) → same xs ys ≡ true → xs ≡ ys
-unfolding same
-same-equal [] [] e = refl
-same-equal [] (y ∷ ys) e = absurd (false≢true e)
-same-equal (x ∷ xs) [] e = absurd (false≢true e)
-same-equal (x ∷ xs) (y ∷ ys) e =
-    rw (eqb-true x y (and-left (eqb x y) (same xs ys) e), same-equal xs ys (and-right (eqb x y) (same xs ys) e))
-
--- a test that tells equal lists
-pub same-told : (xs ys : List ℕ) (t : Bool) → (t ≡ true → xs ≡ ys) → (xs ≡ ys → t ≡ true) → t ≡ same xs ys
-same-told xs ys true f g = sym (ap (same xs) (sym (f refl)) ∙ same-refl xs)
-same-told xs ys false f g = sym (fails (same xs ys) (λ e. false≢true (g (same-equal xs ys e))))
 
 -- DIGITS
 pub scan-turn : (v : ℕ) (cs : List ℕ) (i : ℕ) → i < length cs → 48 ≤ getD cs i 0 → getD cs i 0 ≤ 57 → v * 10 + (getD cs i 0 - 48) < word-limit →

@@ -1,6 +1,6 @@
 -- Bytes of a sheet: the five classes by the rules of XML 1.0 (fifth edition) for ASCII, and the strings of its markup
 -- (document 02, CR 1). Assumes nothing: these are definitions.
-use mathlib.Core.Bool.{Bool, true, false, _&&_, _||_, not, cond}
+use mathlib.Core.Bool.{Bool, _&&_, _||_, not, cond}
 use mathlib.Core.List.{List, [], _∷_}
 use Prim.Native.Nat.{ℕ}
 use lib.Dec.{ltb, leb, eqb}

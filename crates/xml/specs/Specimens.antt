@@ -1,6 +1,6 @@
 -- Sheets and what they give, in one table, which proofs/Specimens.antt shows to hold. Expected values are worked out by hand
 -- from document 02, CR 1. Assumes nothing: these are definitions.
-use mathlib.Core.Bool.{Bool, true, _&&_}
+use mathlib.Core.Bool.{Bool, _&&_}
 use mathlib.Core.List.{List, [], _∷_, _++_}
 use Prim.Native.Nat.{ℕ, zero, suc}
 use lib.ListN.{length, replicate}

@@ -14,7 +14,8 @@ use Rattle.calls.specs.Words.{starts-with}
 use Rattle.xml.specs.Bytes.{is-space, is-name-start, is-name-char, equals}
 use Rattle.xml.specs.Grammar.{is-name, is-blank, is-gap, is-quote, Value, value-text, is-value, Attribute, bare-text, attribute-text, is-attribute}
 use Rattle.xml.specs.Scan.{run, name-length, value-length, Sized, sized, attribute-at}
-use Rattle.xml_laws.proofs.Strings.{quote-not-space, space-not-name, starts-split}
+use Rattle.calls_laws.proofs.Reader.{rest-of}
+use Rattle.xml_laws.proofs.Strings.{quote-not-space, space-not-name}
 use Rattle.xml_laws.proofs.Runs.{stops, stops-behind, run-found, Run-there, run-written, name-found, name-written, name-not-empty, run-left, name-left}
 use Rattle.xml_laws.proofs.Found.{past-refusal, past-test}
 use Rattle.xml_laws.proofs.Values.{value-found, value-written}
@@ -211,7 +212,7 @@ name-on n cs z h =
     record {
       spaces = r;
       rest = drop 1 (r .more);
-      equal = sym (starts-split (equals ∷ []) (r .more) (rw (← (run-left r)) (t .0)));
+      equal = sym (rest-of (equals ∷ []) (r .more) (rw (← (run-left r)) (t .0)));
       on = equals-written n (n + run is-space cs) (drop 1 (r .more)) z (rw (← (run-left r)) (t .1));
     }
 

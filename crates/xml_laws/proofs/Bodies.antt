@@ -13,7 +13,7 @@ use Rattle.lists.proofs.Tests.{by-test, fails, and-left, and-right, and-both, o
 use Rattle.calls.specs.Words.{starts-with}
 use Rattle.xml.specs.Bytes.{is-char, contains, bracket, cdata-closes}
 use Rattle.xml.specs.Scan.{later, body-length}
-use Rattle.xml_laws.proofs.Strings.{starts-append, starts-split}
+use Rattle.calls_laws.proofs.Reader.{starts-front, rest-of}
 use Rattle.xml_laws.proofs.Found.{past-test}
 
 -- STRINGS. What stands behind a list that is long enough does not matter
@@ -76,9 +76,9 @@ at-closer : (xs : List ℕ) (c : ℕ) (cs : List ℕ) → starts-with xs (c ∷ 
 at-closer xs c cs e = body-clause xs c cs ∙ rw e
 
 empty-found : (front : List ℕ) (last : ℕ) (more : List ℕ) → body-length (front ++ (last ∷ [])) (front ++ (last ∷ []) ++ more) ≡ some 0
-empty-found [] last more = at-closer (last ∷ []) last more (starts-append (last ∷ []) more)
+empty-found [] last more = at-closer (last ∷ []) last more (starts-front (last ∷ []) more)
 empty-found (f ∷ front) last more =
-    let xs = f ∷ front ++ (last ∷ []) in at-closer xs f (front ++ (last ∷ []) ++ more) (starts-append xs more)
+    let xs = f ∷ front ++ (last ∷ []) in at-closer xs f (front ++ (last ∷ []) ++ more) (starts-front xs more)
 
 -- one byte further is found only where something is found
 later-some : (o : Option ℕ) (m : ℕ) → later o ≡ some m → (n : ℕ) × (o ≡ some n) × (suc n ≡ m)
@@ -127,7 +127,7 @@ module _ (front : List ℕ) (last : ℕ) where
       (λ t. record {
         bytes = [];
         more = drop (length closer) (c ∷ rest);
-        written = sym (starts-split closer (c ∷ rest) t);
+        written = sym (rest-of closer (c ∷ rest) t);
         size = let q : _≡_ {A = Option ℕ} (some 0) (some m) = sym (at-closer closer c rest t) ∙ e in cc;
         right = refl;
         clear = contains-short closer front (simp length-append (omega arith));

@@ -4,9 +4,9 @@ use mathlib.Core.Path.{_≡_, refl, sym, _∙_, ap}
 use mathlib.Core.Bool.{Bool, true, false, _&&_, _||_, not, cond, true≢false, false≢true}
 use mathlib.Core.List.{List, [], _∷_, _++_}
 use mathlib.Core.Option.{Option, none, some}
-use Prim.Native.Nat.{ℕ, zero, suc, pred, _+_, _≤_, _<_}
+use Prim.Native.Nat.{ℕ, zero, suc, pred, _+_, _≤_}
 use native.Mathlib.Omega.{arith}
-use borrow.Author.Tests.{eqb-true, eqb-false, not-true, not-false, eq-eqb, ne-eqb}
+use borrow.Author.Tests.{eqb-true, not-true}
 use lib.Dec.{ltb, eqb}
 use lib.ListN.{length, drop}
 use lib.Seq.{drop-nil}
@@ -15,10 +15,10 @@ use Rattle.lists.proofs.Tests.{by-test, and-left, and-right, and-both, or-left-
 use Rattle.calls.specs.Words.{starts-with}
 use Rattle.xml.specs.Bytes.{is-char, less-than, greater-than, ampersand, bracket, comment-opens, cdata-opens, cdata-closes, end-opens, comment-closes, tag-closes, is-space}
 use Rattle.xml.specs.Grammar.{Place, at-place, brackets-behind, most-depth}
-use Rattle.xml.specs.Scan.{run, later, data-length, reference-length, Sized-tag, tag-at, body-length}
-use Rattle.xml.specs.Reader.{Step, next, markup-step, comment-step, cdata-step, end-step, tag-step, reference-step, datum-step, used, past, of-text, text-kind, gives, Reading, accepted, refused, preceded, reading, at-end, read-from, refused-opener, not-a-sheet}
+use Rattle.xml.specs.Scan.{run, later, data-length, reference-length, Sized-tag, tag-at}
+use Rattle.xml.specs.Reader.{Step, next, markup-step, comment-step, cdata-step, end-step, tag-step, reference-step, datum-step, used, past, of-text, text-kind, gives, Reading, accepted, refused, preceded, reading, read-from, refused-opener, not-a-sheet}
 use Rattle.xml.specs.Reader as reader
-use Rattle.xml_laws.proofs.Strings.{starts-split}
+use Rattle.calls_laws.proofs.Reader.{rest-of}
 use Rattle.xml_laws.proofs.Readings.{stepped}
 
 pub none-preceded : (q : Reading) → preceded [] q ≡ q
@@ -225,7 +225,7 @@ closer-refused : (os : List (List ℕ)) (b : ℕ) (c : ℕ) (cs : List ℕ) → 
 unfolding datum-step is-char
 closer-refused os b c cs e =
     let rest = drop (length cdata-closes) (c ∷ cs) in
-    rw (starts-split cdata-closes (c ∷ cs) e)
+    rw (rest-of cdata-closes (c ∷ cs) e)
     (datum-read os b bracket (bracket ∷ greater-than ∷ rest) refl refl
     ∙ datum-read os (brackets-behind bracket b) bracket (greater-than ∷ rest) refl refl
     ∙ rw (two-brackets b) (third-refused os rest))

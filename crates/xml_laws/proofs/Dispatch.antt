@@ -1,16 +1,13 @@
 -- What the next construct is, by the strings that begin the rest of a text, and what one step comes to: the laws by which the
 -- code's branches are proved. Assumes nothing.
 use mathlib.Core.Path.{_≡_, refl, sym, _∙_, ap}
-use mathlib.Core.Bool.{Bool, true, false, _&&_, _||_, not, cond, true≢false, false≢true}
+use mathlib.Core.Bool.{Bool, true, false, true≢false}
 use mathlib.Core.List.{List, [], _∷_, _++_}
-use mathlib.Core.Option.{Option, none, some}
-use Prim.Native.Nat.{ℕ, zero, suc, pred, _+_, _≤_, _<_}
-use native.Mathlib.Omega.{arith}
-use borrow.Author.Tests.{eqb-true, not-true, not-false}
+use Prim.Native.Nat.{ℕ, suc, pred}
 use lib.Dec.{eqb}
 use lib.ListN.{length, drop}
 use Rattle.lists.specs.Lists.{first}
-use Rattle.lists.proofs.Tests.{by-test, fails, and-left, and-right, or-left-false, or-right-false}
+use Rattle.lists.proofs.Tests.{by-test}
 use Rattle.calls.specs.Words.{starts-with}
 use Rattle.xml.specs.Bytes.{is-name-start, less-than, ampersand, two-hyphens, comment-opens, cdata-opens, cdata-closes, end-opens, declaration-opens, instruction-opens, doctype-opens}
 use Rattle.xml.specs.Grammar.{Place, at-place}
@@ -18,7 +15,7 @@ use Rattle.xml.specs.Scan.{name-length, reference-length, body-length, tag-at}
 use Rattle.xml.specs.Reader.{Step, next, markup-step, comment-step, cdata-step, end-step, tag-step, reference-step, used, past, of-text, gives, Reading, refused, preceded, reading, read-from, refused-opener, not-a-sheet, not-read}
 use Rattle.xml.specs.Reader as reader
 use Rattle.xml_laws.specs.Steps.{is-stuck}
-use Rattle.xml_laws.proofs.Strings.{starts-split}
+use Rattle.calls_laws.proofs.Reader.{rest-of}
 use Rattle.xml_laws.proofs.Readings.{stepped}
 
 -- ONE STEP, of whatever begins the rest
@@ -70,7 +67,7 @@ markup-cdata p cs e f = rw (e, f)
 -- what begins with a string that begins with <
 pub next-opened : (p : Place) (xs cs : List ℕ) → starts-with (less-than ∷ xs) cs ≡ true → next p cs ≡ markup-step p cs
 next-opened p xs cs e =
-    let split = starts-split (less-than ∷ xs) cs e in
+    let split = rest-of (less-than ∷ xs) cs e in
     ap (next p) split ∙ next-markup p _ ∙ ap (markup-step p) (sym split)
 
 pub next-comment : (p : Place) (cs : List ℕ) → starts-with comment-opens cs ≡ true →
@@ -79,7 +76,7 @@ next-comment p cs e = next-opened p _ cs e ∙ markup-comment p cs e
 
 no-comment : (cs : List ℕ) → starts-with cdata-opens cs ≡ true → starts-with comment-opens cs ≡ false
 unfolding starts-with
-no-comment cs e = rw (starts-split cdata-opens cs e)
+no-comment cs e = rw (rest-of cdata-opens cs e)
 
 pub next-cdata : (p : Place) (cs : List ℕ) → starts-with cdata-opens cs ≡ true → next p cs ≡ cdata-step (body-length cdata-closes (drop (length cdata-opens) cs))
 next-cdata p cs e = next-opened p _ cs e ∙ markup-cdata p cs (no-comment cs e) e
@@ -119,11 +116,11 @@ no-name d rest = refl
 
 no-end : (cs : List ℕ) → starts-with declaration-opens cs ≡ true → starts-with end-opens cs ≡ false
 unfolding starts-with
-no-end cs d = rw (starts-split declaration-opens cs d)
+no-end cs d = rw (rest-of declaration-opens cs d)
 
 no-instruction : (cs : List ℕ) → starts-with declaration-opens cs ≡ true → starts-with instruction-opens cs ≡ false
 unfolding starts-with
-no-instruction cs d = rw (starts-split declaration-opens cs d)
+no-instruction cs d = rw (rest-of declaration-opens cs d)
 
 -- so a declaration that is none of these is no construct
 pub declaration-broken : (p : Place) (cs : List ℕ) → starts-with declaration-opens cs ≡ true → starts-with comment-opens cs ≡ false → starts-with cdata-opens cs ≡ false →
@@ -131,15 +128,15 @@ pub declaration-broken : (p : Place) (cs : List ℕ) → starts-with declaration
 unfolding refused-opener
 declaration-broken p cs d e f h =
     markup-tag p cs e f (no-end cs d) (rw (no-instruction cs d, h))
-    ∙ ap (λ l. tag-step (length (p .opened)) l (tag-at l)) (starts-split declaration-opens cs d)
+    ∙ ap (λ l. tag-step (length (p .opened)) l (tag-at l)) (rest-of declaration-opens cs d)
     ∙ no-name (length (p .opened)) (drop (length declaration-opens) cs)
 
 -- END TAGS
 pub next-end : (n : List ℕ) (os : List (List ℕ)) (cs : List ℕ) → starts-with end-opens cs ≡ true → next (at-place (n ∷ os)) cs ≡ end-step (n ∷ []) cs
 unfolding next markup-step first starts-with end-step
-next-end n os cs e = rw (starts-split end-opens cs e)
+next-end n os cs e = rw (rest-of end-opens cs e)
 
 -- with no element open it closes nothing
 pub next-unopened : (cs : List ℕ) → starts-with end-opens cs ≡ true → next (at-place []) cs ≡ reader.Step.stuck not-a-sheet
 unfolding next markup-step first starts-with end-step
-next-unopened cs e = rw (starts-split end-opens cs e)
+next-unopened cs e = rw (rest-of end-opens cs e)

@@ -21,7 +21,8 @@ use Rattle.xml.specs.Reader.{Step, next, markup-step, comment-step, cdata-step,
 use Rattle.xml.specs.Reader as reader
 use Rattle.xml.specs.Promise.{Whole-tag}
 use Rattle.xml_laws.specs.Steps.{step-of, is-stuck, tag-construct, size-of, Tags-found, Tags-written, Tag-there, Constructs-found, Construct-there, Constructs-written, Number-right, Numbers-right}
-use Rattle.xml_laws.proofs.Strings.{starts-append, starts-split, same-refl, same-equal}
+use Rattle.calls_laws.proofs.Reader.{starts-front, rest-of}
+use Rattle.lists.proofs.Same.{same-refl, same-equal}
 use Rattle.xml_laws.proofs.Runs.{stops, run-found, Run-there, run-written}
 use Rattle.xml_laws.proofs.References.{reference-found, reference-written}
 use Rattle.xml_laws.proofs.Tags.{tags-found, tags-written}
@@ -103,7 +104,7 @@ named-end : (n : List ℕ) (ns : List (List ℕ)) (behind : List ℕ) →
 unfolding end-step
 named-end n ns behind =
     let o : List ℕ = end-opens ++ n in
-    rw (starts-append o behind, drop-append-seam o behind, drop-append-add o behind (run is-space behind))
+    rw (starts-front o behind, drop-append-seam o behind, drop-append-add o behind (run is-space behind))
 
 end-size : (n b : List ℕ) → suc (length (end-opens ++ n) + length b) ≡ length (end-opens ++ (n ++ (b ++ tag-closes)))
 end-size n b = simp length-append (omega arith)
@@ -243,7 +244,7 @@ comment-told p body = go (body-length two-hyphens body) refl
         let behind : drop m body ≡ two-hyphens ++ b .more = rw (b .written) at (drop-at (b .bytes) (two-hyphens ++ b .more) m (b .size)) in
         by-test (starts-with comment-closes (drop m body))
         (λ t. let more : List ℕ = drop (length comment-closes) (drop m body) in
-        let split : drop m body ≡ comment-closes ++ more = starts-split comment-closes (drop m body) t in
+        let split : drop m body ≡ comment-closes ++ more = rest-of comment-closes (drop m body) t in
         rw t (there (record {
           construct = comment (b .bytes);
           more = more;
@@ -260,7 +261,7 @@ unfolding may-stand closes is-blank text-of step-of refused-opener starts-with i
 closing-told p n ns b more o h s =
     rw (named-end n ns (b ++ more), run-found is-space b more h s, drop-append-seam b more)
     (by-test (starts-with tag-closes more)
-    (λ t. let split : more ≡ tag-closes ++ drop 1 more = starts-split tag-closes more t in
+    (λ t. let split : more ≡ tag-closes ++ drop 1 more = rest-of tag-closes more t in
     rw t (there (record {
       construct = stop n b;
       more = drop 1 more;
@@ -279,7 +280,7 @@ end-told p body = go (p .opened) refl
     go (n ∷ ns) o =
         by-test (starts-with n body)
         (λ t. let r : Run-there is-space (drop (length n) body) = run-written is-space (drop (length n) body) in
-        let e : n ++ (r .front ++ r .more) ≡ body = rw (r .written) (sym (starts-split n body t)) in
+        let e : n ++ (r .front ++ r .more) ≡ body = rw (r .written) (sym (rest-of n body t)) in
         rw e at (closing-told p n ns (r .front) (r .more) o (r .holds) (r .ends)))
         (λ t. rw t (not-named p 47 body refl refl))
 
@@ -294,8 +295,8 @@ refused-told p rest r = halted (λ l. record {
     no-tag : Whole-tag rest → ⊥
     no-tag w =
         by-test (starts-with instruction-opens rest)
-        (λ t. unnamed 63 (drop 2 rest) refl (rw (starts-split instruction-opens rest t) at w))
-        (λ t. unnamed 33 (68 ∷ 79 ∷ 67 ∷ 84 ∷ 89 ∷ 80 ∷ 69 ∷ drop 9 rest) refl (rw (starts-split doctype-opens rest (rw t at r)) at w))
+        (λ t. unnamed 63 (drop 2 rest) refl (rw (rest-of instruction-opens rest t) at w))
+        (λ t. unnamed 33 (68 ∷ 79 ∷ 67 ∷ 84 ∷ 89 ∷ 80 ∷ 69 ∷ drop 9 rest) refl (rw (rest-of doctype-opens rest (rw t at r)) at w))
 
 tag-read : (l : Bool) (t : Tag) (p : Place) (more : List ℕ) → (is-tag t && ltb (length (p .opened)) most-depth) ≡ true →
     next p (text-of (tag-construct l t) ++ more) ≡ step-of (tag-construct l t)
@@ -361,11 +362,11 @@ unfolding markup-step first
 markup-told p cs =
     let rest : List ℕ = less-than ∷ cs in
     by-test (starts-with comment-opens rest)
-    (λ t. rw t (rw (← (starts-split comment-opens rest t)) at (comment-told p (drop (length comment-opens) rest))))
+    (λ t. rw t (rw (← (rest-of comment-opens rest t)) at (comment-told p (drop (length comment-opens) rest))))
     (λ t₁. by-test (starts-with cdata-opens rest)
-    (λ t. rw (t₁, t) (rw (← (starts-split cdata-opens rest t)) at (cdata-told p (drop (length cdata-opens) rest))))
+    (λ t. rw (t₁, t) (rw (← (rest-of cdata-opens rest t)) at (cdata-told p (drop (length cdata-opens) rest))))
     (λ t₂. by-test (starts-with end-opens rest)
-    (λ t. rw (t₁, t₂, t) (rw (← (starts-split end-opens rest t)) at (end-told p (drop (length end-opens) rest))))
+    (λ t. rw (t₁, t₂, t) (rw (← (rest-of end-opens rest t)) at (end-told p (drop (length end-opens) rest))))
     (λ t₃. by-test (refused-opener rest)
     (λ t. rw (t₁, t₂, t₃, t) (refused-told p rest t))
     (λ t. rw (t₁, t₂, t₃, t) (tag-told p cs t)))))

@@ -1,10 +1,10 @@
 -- The reader is right on every text, from what Steps.antt states of one step: a row of constructs that stand is read to its kinds,
 -- and where none can be completed the reader refuses with the number that the grammar says. Assumes nothing.
 use mathlib.Core.Path.{_≡_, refl, sym, _∙_, ap, subst, subst⁻¹}
-use mathlib.Core.Bool.{Bool, true, false, _&&_, cond, true≢false, false≢true}
+use mathlib.Core.Bool.{Bool, true, false, cond, true≢false, false≢true}
 use mathlib.Core.List.{List, [], _∷_, _++_, append-assoc}
-use mathlib.Core.Logic.{_↔_, _⊎_, ⊎-elim, inl, inr}
-use Prim.Native.Nat.{ℕ, zero, suc, pred, _+_, _≤_, _<_}
+use mathlib.Core.Logic.{⊎-elim, inl}
+use Prim.Native.Nat.{ℕ, zero, suc, pred, _≤_}
 use native.Mathlib.Nat.{not-suc-le-zero}
 use native.Mathlib.Omega.{arith}
 use borrow.Author.Tests.{ltb-true}
@@ -13,13 +13,12 @@ use lib.ListN.{length, drop, length-append}
 use lib.Seq.{drop-append-seam}
 use Rattle.lists.proofs.Tests.{by-test, and-left, and-right, and-both}
 use Rattle.calls.specs.Words.{starts-with}
-use Rattle.xml.specs.Bytes.{tag-closes, lone-closes}
 use Rattle.xml.specs.Grammar.{Construct, datum, reference, cdata, comment, start, lone, stop, text-of, texts, tag-text, reference-text, Place, may-stand, behind, tail-of, is-tag, all-stand, place-behind, kinds-from, most-depth}
 use Rattle.xml.specs.Reader.{Step, next, used, past, of-text, gives, Reading, accepted, refused, preceded, reading, at-end, read-from, refused-opener, not-a-sheet, too-deep, not-read}
 use Rattle.xml.specs.Reader as reader
 use Rattle.xml.specs.Promise.{Stuck, Whole-tag}
 use Rattle.xml_laws.proofs.Next.{constructs-found, constructs-written, numbers-right}
-use Rattle.xml_laws.specs.Steps.{step-of, is-stuck, Constructs-found, Construct-there, Constructs-written, Number-right, Numbers-right}
+use Rattle.xml_laws.specs.Steps.{step-of, is-stuck, Constructs-found, Constructs-written, Number-right, Numbers-right}
 
 -- bytes that have been read already are passed over
 pub skipped : (p : Place) (r : Bool) (m : ℕ) (cs : List ℕ) → read-from p r m cs ≡ read-from p r 0 (drop m cs)

@@ -11,7 +11,8 @@ use Rattle.calls.specs.Words.{starts-with}
 use Rattle.xml.specs.Bytes.{lt-name, gt-name, amp-name, apos-name, quot-name}
 use Rattle.xml.specs.Grammar.{is-reference, reference-text}
 use Rattle.xml.specs.Scan.{reference-length}
-use Rattle.xml_laws.proofs.Strings.{same-equal, starts-split}
+use Rattle.calls_laws.proofs.Reader.{rest-of}
+use Rattle.lists.proofs.Same.{same-equal}
 
 -- what holds of the five names holds of every reference
 by-reference : (P : List ℕ → Type 0) (n : List ℕ) → P lt-name → P gt-name → P amp-name → P apos-name → P quot-name → is-reference n ≡ true → P n
@@ -39,7 +40,7 @@ pub record Reference-there (cs : List ℕ) : Type 0 where
 starts : (n cs : List ℕ) → is-reference n ≡ true → starts-with (reference-text n) cs ≡ true → Reference-there cs
 starts n cs h e =
     let more : List ℕ = drop (length (reference-text n)) cs in
-    let split : cs ≡ reference-text n ++ more = starts-split (reference-text n) cs e in
+    let split : cs ≡ reference-text n ++ more = rest-of (reference-text n) cs e in
     record { name = n; more = more; right = h; written = sym split; size = sym (ap reference-length split ∙ reference-found n more h) }
 
 pub reference-written : (cs : List ℕ) → eqb (reference-length cs) 0 ≡ false → Reference-there cs

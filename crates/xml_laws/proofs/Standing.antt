@@ -5,7 +5,7 @@ use mathlib.Core.List.{List, [], _∷_}
 use Prim.Native.Nat.{ℕ}
 use Rattle.lists.proofs.Tests.{and-left, and-right}
 use Rattle.xml.specs.Grammar.{Construct, stop, Place, closes, tail-of, may-stand, behind, all-stand}
-use Rattle.xml_laws.proofs.Strings.{same-equal}
+use Rattle.lists.proofs.Same.{same-equal}
 
 pub first-stands : (c : Construct) (cs : List Construct) (p : Place) → all-stand (c ∷ cs) p ≡ true → may-stand c p ≡ true
 unfolding all-stand

@@ -1,33 +1,17 @@
 -- Strings and bytes: what begins with a string, which strings are the same, and which bytes cannot be of two kinds.
 -- Assumes nothing.
 use mathlib.Core.Path.{_≡_, refl, sym, _∙_}
-use mathlib.Core.Bool.{Bool, true, false, true≢false, false≢true}
-use mathlib.Core.List.{List, [], _∷_, _++_}
+use mathlib.Core.Bool.{Bool, true, false, true≢false}
+use mathlib.Core.List.{List, _∷_}
 use Prim.Native.Nat.{ℕ}
-use borrow.Author.Tests.{eqb-true, eq-eqb, ne-eqb}
+use borrow.Author.Tests.{eqb-true, ne-eqb}
 use lib.Dec.{eqb}
-use lib.ListN.{length, drop}
 use Rattle.lists.specs.Lists.{same}
-use Rattle.lists.proofs.Tests.{by-test, fails, and-left, and-right, and-both}
+use Rattle.lists.proofs.Tests.{by-test, fails}
+use Rattle.lists.proofs.Same.{same-refl, same-equal}
 use Rattle.calls.specs.Words.{starts-with}
 use Rattle.xml.specs.Bytes.{is-space, is-name-start, is-name-char}
 use Rattle.xml.specs.Grammar.{is-quote}
-
--- STRINGS. What is written begins with itself
-pub starts-append : (xs more : List ℕ) → starts-with xs (xs ++ more) ≡ true
-unfolding starts-with
-starts-append [] more = refl
-starts-append (x ∷ xs) more = and-both (eq-eqb x x refl) (starts-append xs more)
-
--- what begins with a string is that string and a rest
-pub starts-split : (xs ys : List ℕ) → starts-with xs ys ≡ true → ys ≡ xs ++ drop (length xs) ys
-unfolding starts-with
-starts-split [] ys e = refl
-starts-split (x ∷ xs) [] e = absurd (false≢true e)
-starts-split (x ∷ xs) (y ∷ ys) e =
-    let here : x ≡ y = eqb-true x y (and-left (eqb x y) _ e) in
-    let on : ys ≡ xs ++ drop (length xs) ys = starts-split xs ys (and-right (eqb x y) _ e) in
-    cc
 
 -- a string does not begin a text whose first byte is another
 pub starts-other : (x y : ℕ) (xs ys : List ℕ) → eqb x y ≡ false → starts-with (x ∷ xs) (y ∷ ys) ≡ false
@@ -35,21 +19,6 @@ unfolding starts-with
 starts-other x y xs ys e = rw e
 
 -- the test of equal strings
-pub same-refl : (xs : List ℕ) → same xs xs ≡ true
-unfolding same
-same-refl [] = refl
-same-refl (x ∷ xs) = and-both (eq-eqb x x refl) (same-refl xs)
-
-pub same-equal : (xs ys : List ℕ) → same xs ys ≡ true → xs ≡ ys
-unfolding same
-same-equal [] [] e = refl
-same-equal [] (y ∷ ys) e = absurd (false≢true e)
-same-equal (x ∷ xs) [] e = absurd (false≢true e)
-same-equal (x ∷ xs) (y ∷ ys) e =
-    let here : x ≡ y = eqb-true x y (and-left (eqb x y) _ e) in
-    let on : xs ≡ ys = same-equal xs ys (and-right (eqb x y) _ e) in
-    cc
-
 pub equal-same : (xs ys : List ℕ) → xs ≡ ys → same xs ys ≡ true
 equal-same xs ys e = rw e (same-refl ys)
 

@@ -17,7 +17,8 @@ use Rattle.calls.specs.Words.{starts-with}
 use Rattle.xml.specs.Bytes.{is-space, is-name-start, tag-closes, lone-closes}
 use Rattle.xml.specs.Grammar.{is-name, is-blank, is-gap, Attribute, bare-text, attribute-text, is-attribute, attributes-text, among, names-of, are-attributes}
 use Rattle.xml.specs.Scan.{Sized, attribute-at, Ending, ends-later, tail-on, tail-at}
-use Rattle.xml_laws.proofs.Strings.{bytes-apart, starts-other, starts-split}
+use Rattle.calls_laws.proofs.Reader.{rest-of}
+use Rattle.xml_laws.proofs.Strings.{bytes-apart, starts-other}
 use Rattle.xml_laws.proofs.Runs.{stops, run-over, run-found, Run-there, run-written, name-stops-spaces}
 use Rattle.xml_laws.proofs.Found.{past-refusal}
 use Rattle.xml_laws.proofs.Names.{all-new, all-new-one}
@@ -198,7 +199,7 @@ unfolding tail-text attributes-text are-attributes all-new names-of is-blank
 closed-there ns l cs e r s t =
     let m = drop (length (closer l)) (r .more) in
     tail-there ns [] (r .front) l m cs e refl refl (r .holds)
-    (rw (append-assoc (r .front) (closer l) m, ← (starts-split (closer l) (r .more) s)) (r .written)) t
+    (rw (append-assoc (r .front) (closer l) m, ← (rest-of (closer l) (r .more) s)) (r .written)) t
 
 -- an attribute before a tail
 more-there : (ns : List (List ℕ)) (a : Attribute) (rest cs : List ℕ) (e f : Ending) → is-attribute a ≡ true → among (a .name) ns ≡ false →

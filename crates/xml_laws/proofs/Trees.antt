@@ -13,7 +13,7 @@ use Rattle.xml.specs.Bytes.{is-char, less-than, greater-than, ampersand}
 use Rattle.xml.specs.Grammar.{Construct, datum, reference, cdata, comment, start, lone, stop, Tag, is-tag, is-blank, Place, top, closes, tail-of, brackets-behind, may-stand, behind, all-stand, place-behind, most-depth}
 use Rattle.xml.specs.Content.{Content, nothing, item, element, constructs, item-right, content-right}
 use Rattle.xml.specs.Promise.{In-grammar, Nested, Sheets-nest-as-trees}
-use Rattle.xml_laws.proofs.Strings.{same-refl}
+use Rattle.lists.proofs.Same.{same-refl}
 use Rattle.xml_laws.proofs.Standing.{first-stands, rest-stands, stop-closes}
 use Rattle.xml_laws.proofs.Closers.{brackets-right, brackets-count}
 

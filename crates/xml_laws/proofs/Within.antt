@@ -3,7 +3,7 @@
 use mathlib.Core.Path.{_≡_, refl, sym, _∙_, ap, subst}
 use mathlib.Core.Bool.{Bool, true, false}
 use mathlib.Core.List.{List, _∷_, _++_}
-use mathlib.Core.Option.{some, none}
+use mathlib.Core.Option.{some}
 use Prim.Native.Nat.{ℕ, suc, _≤_, _<_}
 use native.Mathlib.Omega.{arith}
 use lib.ListN.{length, length-append}
@@ -11,7 +11,7 @@ use Rattle.xml.specs.Bytes.{less-than, tag-closes, lone-closes}
 use Rattle.xml.specs.Grammar.{Place, text-of, Tag, tag-text, attributes-text}
 use Rattle.xml.specs.Scan.{Sized-tag, tag-at}
 use Rattle.xml.specs.Reader.{Step, next, used}
-use Rattle.xml_laws.specs.Steps.{step-of, is-stuck, Constructs-written, tag-construct, size-of, Tags-written}
+use Rattle.xml_laws.specs.Steps.{is-stuck, Constructs-written, tag-construct, size-of, Tags-written}
 use Rattle.xml_laws.proofs.Tags.{tags-written}
 use Rattle.xml_laws.proofs.Next.{constructs-written}
 use Rattle.xml_laws.proofs.Readings.{begun, step-used}

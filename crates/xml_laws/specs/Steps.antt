@@ -2,12 +2,12 @@
 -- right. Each statement is a type. Assumes nothing: these are definitions.
 use mathlib.Core.Path.{_≡_}
 use mathlib.Core.Bool.{Bool, true, false}
-use mathlib.Core.List.{List, [], _∷_, _++_}
+use mathlib.Core.List.{List, _∷_, _++_}
 use mathlib.Core.Logic.{_↔_, _⊎_}
-use mathlib.Core.Option.{Option, none, some}
+use mathlib.Core.Option.{some}
 use Prim.Native.Nat.{ℕ, _≤_}
 use lib.ListN.{length}
-use Rattle.xml.specs.Grammar.{Construct, datum, reference, cdata, comment, start, lone, stop, Tag, text-of, tag-text, is-tag, Place, may-stand, most-depth}
+use Rattle.xml.specs.Grammar.{Construct, datum, reference, cdata, comment, start, lone, stop, Tag, text-of, is-tag, Place, may-stand, most-depth}
 use Rattle.xml.specs.Scan.{Sized-tag, tag-at}
 use Rattle.xml.specs.Reader.{Step, next, refused-opener, not-a-sheet, too-deep, not-read}
 use Rattle.xml.specs.Reader as reader

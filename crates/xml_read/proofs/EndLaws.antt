@@ -1,30 +1,30 @@
 -- End tags: the opener, the open name, spaces and >, one after the other. Assumes nothing.
 use mathlib.Core.Path.{_≡_, refl, sym, _∙_, ap}
-use mathlib.Core.Bool.{Bool, true, false, _&&_, not, cond, true≢false, false≢true}
+use mathlib.Core.Bool.{Bool, true, false, _&&_, not, cond}
 use mathlib.Core.List.{List, [], _∷_, _++_}
 use Prim.Native.Nat.{ℕ, suc, _+_, _≤_, _<_}
 use native.Mathlib.Omega.{arith}
 use borrow.Author.Tests.{not-false}
 use lib.Dec.{eqb}
-use lib.ListN.{length, drop, set, length-drop, length-append, length-set}
+use lib.ListN.{length, drop, set, length-drop, length-set}
 use lib.Seq.{drop-drop, drop-cons, drop-length}
 use Rattle.lists.proofs.Tests.{by-test}
 use Rattle.calls.specs.Words.{starts-with}
-use Rattle.xml.specs.Bytes.{is-space, less-than, slash, end-opens, tag-closes}
+use Rattle.xml.specs.Bytes.{is-space, end-opens, tag-closes}
 use Rattle.xml.specs.Grammar.{at-place, tail-of}
 use Rattle.xml.specs.Scan.{run}
-use Rattle.xml.specs.Reader.{Step, next, end-step, gives, past, of-text, used, Reading, refused, preceded, at-end, read-from, not-a-sheet}
+use Rattle.xml.specs.Reader.{Step, next, end-step, gives, past, of-text, used, refused, preceded, at-end, read-from, not-a-sheet}
 use Rattle.xml.specs.Reader as reader
 use Rattle.xml_scan.specs.declared.Found.the-variants.{At, Nothing}
 use Rattle.xml_laws.specs.Steps.{is-stuck}
-use Rattle.xml_laws.proofs.Runs.{run-written}
+use Rattle.xml_tag.proofs.Bounds.{stands-within}
 use Rattle.xml_laws.proofs.Dispatch.{step-read, step-refused, next-end}
 use Rattle.xml_laws.proofs.Within.{step-within}
 use Rattle.xml_read.specs.declared.Cursor.{Cursor}
 use Rattle.xml_read.specs.declared.Part.the-variants.{On, Refused}
 use Rattle.xml_read.specs.Pieces.{goes-on, closing-found}
-use Rattle.xml_read.specs.Outcome.{finish, outcome, behind, In-text, Reached, Closes}
-use Rattle.xml_read.proofs.PieceLaws.{dropped, string-within, some-used}
+use Rattle.xml_read.specs.Outcome.{in-text, finish, outcome, behind, In-text, Reached, Closes}
+use Rattle.xml_read.proofs.PieceLaws.{dropped, some-used}
 use Rattle.xml_read.proofs.Outcomes.{finish-kind}
 
 -- one string behind another
@@ -33,11 +33,6 @@ unfolding starts-with
 starts-both [] ys cs = refl
 starts-both (x ∷ xs) ys [] = refl
 starts-both (x ∷ xs) ys (c ∷ cs) = by-test (eqb x c) (λ e. rw e (starts-both xs ys cs)) (λ e. rw e)
-
-pub run-within : (bs : List ℕ) (i : ℕ) (f : ℕ → Bool) → i ≤ length bs → i + run f (drop i bs) ≤ length bs
-run-within bs i f h =
-    let r = run-written f (drop i bs) in
-    omega (arith, length-drop i bs, ap length (r .written), length-append (r .front) (r .more), r .size)
 
 -- whether content goes on, at the end of the text and before it
 pub over : (bs : List ℕ) (i : ℕ) → i ≡ length bs → goes-on (drop i bs) ≡ false
@@ -80,7 +75,7 @@ module _ (bs n : List ℕ) (i : ℕ) where
   module _ (opens : starts-with end-opens (drop i bs) ≡ true) where
     module _ (same : starts-with n (drop (i + 2) bs) ≡ true) where
       pub end-room : i ≤ length bs → spaced ≤ length bs
-      end-room l = string-within bs (i + 2) n (string-within bs i end-opens l opens) same
+      end-room l = stands-within n bs (i + 2) (stands-within end-opens bs i l opens) same
 
       pub end-closed : starts-with tag-closes (drop closed bs) ≡ true → At (closed + 1) ≡ closing-found i (end-step (n ∷ []) (drop i bs))
       unfolding whole closing-found
@@ -151,13 +146,13 @@ module _ (bs n : List ℕ) (c : Cursor) (ls : List ℕ) (h : In-text bs c) (g : 
     where
       go : Told (end-step (n ∷ []) (drop (c .at) bs)) → Closes bs n c ls ls (Refused not-a-sheet)
       go (closes u is) = let z : _≡_ {A = ℕ} 0 1 = cc (e ∙ ap (closing-found (c .at)) is) in absurd (omega arith)
-      go (breaks is) = record { same = λ os. ap (finish (c .count) ls) (sym (ended-refused n os (c .in_text) (drop (c .at) bs) g is)); reached = tt; long = refl }
+      go (breaks is) = record { same = λ os. ap (finish (c .count) ls) (sym (ended-refused n os (in-text c) (drop (c .at) bs) g is)); reached = tt; long = refl }
 
-  pub ending-found : (e : ℕ) → At e ≡ closing-found (c .at) (end-step (n ∷ []) (drop (c .at) bs)) → Closes bs n c ls (set ls (c .count) 2) (On (behind e (c .count + 1) false))
+  pub ending-found : (e : ℕ) → At e ≡ closing-found (c .at) (end-step (n ∷ []) (drop (c .at) bs)) → Closes bs n c ls (set ls (c .count) 2) (On (behind e (c .count + 1) 0))
   unfolding closing-found outcome Reached used is-stuck
   ending-found e f = go (end-told n (drop (c .at) bs))
     where
-      go : Told (end-step (n ∷ []) (drop (c .at) bs)) → Closes bs n c ls (set ls (c .count) 2) (On (behind e (c .count + 1) false))
+      go : Told (end-step (n ∷ []) (drop (c .at) bs)) → Closes bs n c ls (set ls (c .count) 2) (On (behind e (c .count + 1) 0))
       go (breaks is) = let z : _≡_ {A = ℕ} 0 1 = cc (f ∙ ap (closing-found (c .at)) is) in absurd (omega arith)
       go (closes u is) =
           let far : e ≡ c .at + u = cc (f ∙ ap (closing-found (c .at)) is) in
@@ -166,7 +161,7 @@ module _ (bs n : List ℕ) (c : Cursor) (ls : List ℕ) (h : In-text bs c) (g : 
           let some-byte = w .least in
           let most = w .most in
           record {
-            same = λ os. finish-kind (c .count) 2 ls _ ∙ ap (finish (c .count) ls) (ap (λ l. preceded (2 ∷ []) (read-from (at-place os) false 0 l)) (sym (dropped bs u (c .at) e far)) ∙ sym (ended-read n os (c .in_text) (drop (c .at) bs) u g is));
+            same = λ os. finish-kind (c .count) 2 ls _ ∙ ap (finish (c .count) ls) (ap (λ l. preceded (2 ∷ []) (read-from (at-place os) false 0 l)) (sym (dropped bs u (c .at) e far)) ∙ sym (ended-read n os (in-text c) (drop (c .at) bs) u g is));
             reached = (record { within = omega (arith, far, room, most, h .within); counted = omega (arith, far, some-byte, h .counted) }, omega (arith, far));
             long = length-set ls (c .count) 2;
           }

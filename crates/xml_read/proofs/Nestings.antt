@@ -1,13 +1,12 @@
 -- Elements: what their tags leave to be read, and the readers of content and elements one behind the other. Assumes nothing.
 use mathlib.Core.Path.{_≡_, refl, sym, _∙_, ap}
-use mathlib.Core.Bool.{Bool, true, false, _&&_, not, cond, true≢false, false≢true}
-use mathlib.Core.List.{List, [], _∷_, _++_}
+use mathlib.Core.Bool.{Bool, true, false, _&&_, not, false≢true}
+use mathlib.Core.List.{List, [], _∷_}
 use mathlib.Core.Option.{Option, none, some}
 use Prim.Native.Nat.{ℕ, suc, _+_, _-_, _≤_, _<_}
 use native.Mathlib.Nat.{le-refl}
 use native.Mathlib.Omega.{arith}
 use borrow.Author.Tests.{not-true, lt-ltb, le-ltb}
-use lib.Dec.{ltb, eqb}
 use lib.ListN.{length, take, drop, set, length-drop, length-set}
 use lib.Seq.{drop-drop}
 use Rattle.lists.proofs.Tests.{and-left, and-right}
@@ -18,7 +17,7 @@ use Rattle.xml.specs.Scan.{Sized-tag, tag-at}
 use Rattle.xml.specs.Reader.{Step, next, tag-step, gives, past, of-text, used, Reading, refused, preceded, read-from, not-a-sheet, too-deep}
 use Rattle.xml.specs.Reader as reader
 use Rattle.xml_laws.specs.Steps.{is-stuck}
-use Rattle.xml_laws.proofs.Strings.{starts-split}
+use Rattle.calls_laws.proofs.Reader.{rest-of}
 use Rattle.xml_laws.proofs.Dispatch.{step-read, step-refused, next-tag}
 use Rattle.xml_laws.proofs.Within.{Tag-within, tag-within}
 use Rattle.xml_read.specs.declared.Cursor.{Cursor}
@@ -27,7 +26,7 @@ use Rattle.xml_read.specs.declared.Part.the-variants.{On, Refused}
 use Rattle.xml_tag.specs.declared.TagRead.the-variants as tag
 use Rattle.xml_tag.specs.Post.{tag-found}
 use Rattle.xml_read.specs.Pieces.{goes-on, opens-element}
-use Rattle.xml_read.specs.Outcome.{finish, outcome, behind, In-text, Reached, Reads-on, Closes, Ended}
+use Rattle.xml_read.specs.Outcome.{in-text, finish, outcome, behind, In-text, Reached, Reads-on, Closes, Ended}
 use Rattle.xml_read.proofs.PieceLaws.{dropped, some-used, no-end}
 use Rattle.xml_read.proofs.Outcomes.{finish-kind, refused-on}
 
@@ -113,7 +112,7 @@ module _ (bs : List ℕ) (c : Cursor) (h : In-text bs c) (g : goes-on (drop (c .
   other = and-right (starts-with (less-than ∷ []) here) _ o
 
   split : here ≡ less-than ∷ drop 1 here
-  split = starts-split (less-than ∷ []) here opens
+  split = rest-of (less-than ∷ []) here opens
 
   tag-next : (os : List (List ℕ)) → next (at-place os) here ≡ tag-step (length os) here (tag-at here)
   tag-next os =
@@ -127,7 +126,7 @@ module _ (bs : List ℕ) (c : Cursor) (h : In-text bs c) (g : goes-on (drop (c .
   -- that is not whole
   pub tag-refused : (d : ℕ) (ls : List ℕ) → tag-at here ≡ none → Reads-on bs d c (suc (c .at)) ls ls (Refused not-a-sheet)
   unfolding tag-step
-  tag-refused d ls e = refused-on bs d c not-a-sheet _ ls (λ os w. stuck-here os (c .in_text) not-a-sheet (tag-next os ∙ ap (tag-step (length os) here) e))
+  tag-refused d ls e = refused-on bs d c not-a-sheet _ ls (λ os w. stuck-here os (in-text c) not-a-sheet (tag-next os ∙ ap (tag-step (length os) here) e))
 
   module _ (z : Sized-tag) (e : tag-at here ≡ some z) where
     -- at no depth left
@@ -135,7 +134,7 @@ module _ (bs : List ℕ) (c : Cursor) (h : In-text bs c) (g : goes-on (drop (c .
     unfolding tag-step
     deep-refused d ls f =
         refused-on bs d c too-deep _ ls
-        (λ os w. stuck-here os (c .in_text) too-deep (tag-next os ∙ ap (tag-step (length os) here) e ∙ rw (le-ltb (length os) most-depth (omega arith))))
+        (λ os w. stuck-here os (in-text c) too-deep (tag-next os ∙ ap (tag-step (length os) here) e ∙ rw (le-ltb (length os) most-depth (omega arith))))
 
     pub tag-size : Tag-within here z
     tag-size = rw split (tag-within (drop 1 here) z (rw split at e))
@@ -160,7 +159,7 @@ module _ (bs : List ℕ) (c : Cursor) (h : In-text bs c) (g : goes-on (drop (c .
         both (reader.refused k) = refl
 
     pub lone-on : (d : ℕ) (ls : List ℕ) → 0 < d → z .lone ≡ true →
-        Reads-on bs d c (suc (c .at)) ls (set (set ls (c .count) 1) (c .count + 1) 2) (On (behind end (c .count + 1 + 1) false))
+        Reads-on bs d c (suc (c .at)) ls (set (set ls (c .count) 1) (c .count + 1) 2) (On (behind end (c .count + 1 + 1) 0))
     unfolding outcome Reached gives past of-text used is-stuck
     lone-on d ls l f =
         let t = tag-size in
@@ -169,7 +168,7 @@ module _ (bs : List ℕ) (c : Cursor) (h : In-text bs c) (g : goes-on (drop (c .
           same = λ os w.
               twice (c .count) ls _
               ∙ ap (finish (c .count) ls) (ap (λ m. preceded (1 ∷ 2 ∷ []) (read-from (at-place os) false 0 m)) (sym (dropped bs (z .used) (c .at) end refl))
-              ∙ sym (step-read (at-place os) (c .in_text) here _ k (lone-next os (omega arith) f) refl is));
+              ∙ sym (step-read (at-place os) (in-text c) here _ k (lone-next os (omega arith) f) refl is));
           reached = (record { within = end-within; counted = omega (arith, h .counted, t .least) }, omega (arith, t .least));
           long = length-set (set ls (c .count) 1) (c .count + 1) 2 ∙ length-set ls (c .count) 1;
         }
@@ -179,7 +178,7 @@ module _ (bs : List ℕ) (c : Cursor) (h : In-text bs c) (g : goes-on (drop (c .
     name = take (z .name) (drop 1 here)
 
     abbrev inside : Cursor
-    inside = behind end (c .count + 1) false
+    inside = behind end (c .count + 1) 0
 
     open-next : (os : List (List ℕ)) → length os < most-depth → z .lone ≡ false → next (at-place os) here ≡ reader.Step.opening name (z .used)
     unfolding tag-step
@@ -196,7 +195,7 @@ module _ (bs : List ℕ) (c : Cursor) (h : In-text bs c) (g : goes-on (drop (c .
         let (k, is) = some-used (z .used) (omega (arith, t .least)) in
         finish-kind (c .count) 1 ls _
         ∙ ap (finish (c .count) ls) (ap (λ m. preceded (1 ∷ []) (read-from (at-place (name ∷ os)) false 0 m)) (sym (dropped bs (z .used) (c .at) end refl))
-        ∙ sym (step-read (at-place os) (c .in_text) here _ k (open-next os (omega arith) f) refl is))
+        ∙ sym (step-read (at-place os) (in-text c) here _ k (open-next os (omega arith) f) refl is))
 
     module _ (d : ℕ) (ls ms : List ℕ) (l : 0 < d) (f : z .lone ≡ false) where
       -- content that is refused
@@ -239,14 +238,14 @@ module _ (bs : List ℕ) (c : Cursor) (h : In-text bs c) (g : goes-on (drop (c .
     pub found-deep : (d : ℕ) (ls : List ℕ) → d ≡ 0 → Reads-on bs d c (suc (c .at)) ls ls (Refused too-deep)
     found-deep d ls z = deep-refused (f .size) (f .is) d ls z
 
-    module _ (d : ℕ) (ls ms : List ℕ) (b : Cursor) (left : d ≡ 0 → ⊥) (begun : b ≡ behind e (c .count + 1) false) (put : ms ≡ set ls (c .count) 1) where
+    module _ (d : ℕ) (ls ms : List ℕ) (b : Cursor) (left : d ≡ 0 → ⊥) (begun : b ≡ behind e (c .count + 1) 0) (put : ms ≡ set ls (c .count) 1) where
       inside-is : b ≡ inside (f .size) (f .is)
-      inside-is = begun ∙ ap (λ k. behind k (c .count + 1) false) (f .end)
+      inside-is = begun ∙ ap (λ k. behind k (c .count + 1) 0) (f .end)
 
       pub found-inside : In-text bs b
       found-inside = rw inside-is (inside-text (f .size) (f .is))
 
-      pub found-lone : (ns : List ℕ) (q : Part) → l ≡ true → q ≡ On (behind e (b .count + 1) false) → ns ≡ set ms (b .count) 2 → Reads-on bs d c (suc (c .at)) ls ns q
+      pub found-lone : (ns : List ℕ) (q : Part) → l ≡ true → q ≡ On (behind e (b .count + 1) 0) → ns ≡ set ms (b .count) 2 → Reads-on bs d c (suc (c .at)) ls ns q
       found-lone ns q t r p =
           rw (r, p, put, begun, f .end) (lone-on (f .size) (f .is) d ls (omega arith) (sym (f .lone) ∙ t))
 

@@ -1,42 +1,35 @@
 -- What a step of the reader's definition says of a construct that is neither an element nor an end tag, at a place of the text.
 -- Assumes nothing.
-use mathlib.Core.Path.{_≡_, refl, sym, _∙_, ap, subst}
-use mathlib.Core.Bool.{Bool, true, false, _&&_, _||_, not, true≢false, false≢true}
+use mathlib.Core.Path.{_≡_, refl, sym, _∙_, ap}
+use mathlib.Core.Bool.{true, false, _&&_, _||_, not, true≢false}
 use mathlib.Core.List.{List, [], _∷_, _++_}
 use mathlib.Core.Option.{Option, none, some}
 use Prim.Native.Nat.{ℕ, zero, suc, _+_, _≤_, _<_}
 use native.Mathlib.Omega.{arith}
-use borrow.Author.Tests.{eqb-true, not-true, not-false, ne-eqb}
+use borrow.Author.Tests.{eqb-true, not-true, ne-eqb}
 use lib.Dec.{eqb}
 use lib.ListN.{length, getD, drop, length-drop, length-append}
 use lib.Seq.{drop-drop, drop-cons}
-use Rattle.lists.proofs.Tests.{by-test, and-left, and-right, and-both}
+use Rattle.lists.proofs.Tests.{by-test}
 use Rattle.calls.specs.Words.{starts-with}
 use Rattle.xml.specs.Bytes.{is-char, less-than, ampersand, two-hyphens, comment-opens, comment-closes, cdata-opens, cdata-closes, declaration-opens, instruction-opens, doctype-opens, end-opens}
 use Rattle.xml.specs.Grammar.{at-place}
-use Rattle.xml.specs.Scan.{data-length, later, reference-length, body-length}
-use Rattle.xml.specs.Reader.{Step, next, gives, past, of-text, used, refused, preceded, read-from, comment-step, cdata-step, reference-step, refused-opener, not-a-sheet, not-read}
+use Rattle.xml.specs.Scan.{data-length, reference-length, body-length}
+use Rattle.xml.specs.Reader.{Step, next, gives, past, of-text, used, read-from, comment-step, cdata-step, reference-step, refused-opener, not-a-sheet, not-read}
 use Rattle.xml.specs.Reader as reader
 use Rattle.xml_laws.specs.Steps.{is-stuck}
-use Rattle.xml_laws.proofs.Strings.{starts-split}
 use Rattle.xml_laws.proofs.Bodies.{body-written}
 use Rattle.xml_laws.proofs.Data.{none-preceded, later-some, data-within, data-read, data-refused}
 use Rattle.xml_laws.proofs.Dispatch.{step-read, step-refused, next-reference, next-opened, next-comment, next-cdata, markup-refused, declaration-broken}
-use Rattle.xml_laws.proofs.Within.{Within, step-within}
+use Rattle.xml_laws.proofs.Within.{step-within}
 use Rattle.xml_scan.specs.declared.Found.the-variants.{At, Nothing}
 use Rattle.xml_scan.specs.Post.{found}
-use Rattle.xml_read.specs.declared.Piece.{Piece}
 use Rattle.xml_read.specs.declared.Piece.the-variants as answer
-use Rattle.xml_read.specs.Pieces.{goes-on, opens-element, Construct-here, Markup-here, Behind, Piece-right}
+use Rattle.xml_read.specs.Pieces.{goes-on, opens-element, Markup-here, Behind, Piece-right}
 
 -- so many bytes behind a place is another place
 pub dropped : (bs : List ℕ) (m i e : ℕ) → e ≡ i + m → drop m (drop i bs) ≡ drop e bs
 dropped bs m i e h = drop-drop m i bs ∙ rw h
-
--- a string that stands at a place of the text stands in it
-pub string-within : (bs : List ℕ) (i : ℕ) (xs : List ℕ) → i ≤ length bs → starts-with xs (drop i bs) ≡ true → i + length xs ≤ length bs
-string-within bs i xs l e =
-    omega (arith, length-drop i bs, ap length (starts-split xs (drop i bs) e), length-append xs (drop (length xs) (drop i bs)))
 
 -- WHAT A SCANNER ANSWERS, taken apart
 pub found-at : (a e : ℕ) (o : Option ℕ) → At e ≡ found a o → (m : ℕ) × (o ≡ some m) × (e ≡ a + m)

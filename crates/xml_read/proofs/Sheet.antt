@@ -1,6 +1,6 @@
 -- The whole text: what content comes to is what the reader's definition says of it, and the call's reply and list. Assumes nothing.
 use mathlib.Core.Path.{_≡_, refl, sym, _∙_, ap}
-use mathlib.Core.Bool.{Bool, true, false, cond, true≢false, false≢true}
+use mathlib.Core.Bool.{Bool, false}
 use mathlib.Core.List.{List, [], _∷_, _++_}
 use Prim.Native.Nat.{ℕ, zero, suc, _+_, _≤_, _<_}
 use native.Mathlib.Nat.{add-zero, zero-add}
@@ -8,11 +8,10 @@ use native.Mathlib.Omega.{arith}
 use borrow.Author.Tests.{ltb-true, ltb-false, not-false, lt-ltb, le-ltb}
 use lib.Dec.{ltb}
 use lib.ListN.{length, drop, length-drop}
-use lib.Seq.{sets, sets-eq, drop-cons, drop-length}
+use lib.Seq.{sets, sets-eq, drop-length}
 use Rattle.lists.proofs.Tests.{by-test}
-use Rattle.calls.specs.Words.{starts-with, in-front}
+use Rattle.calls.specs.Words.{in-front}
 use Rattle.calls.specs.Replies.{replied, written}
-use Rattle.xml.specs.Bytes.{end-opens}
 use Rattle.xml.specs.Grammar.{at-place, most-depth}
 use Rattle.xml.specs.Reader.{Reading, accepted, refused, read-from, read-sheet, at-end, not-a-sheet}
 use Rattle.xml.specs.Replies.{sheet-refusal, kinds-in, sheet-reply, sheet-list, list-short}
@@ -24,7 +23,7 @@ use Rattle.xml_read.specs.declared.Cursor.{Cursor}
 use Rattle.xml_read.specs.declared.Part.{Part}
 use Rattle.xml_read.specs.declared.Part.the-variants.{On, Refused}
 use Rattle.xml_read.specs.Pieces.{goes-on}
-use Rattle.xml_read.specs.Outcome.{done, failed, finish, outcome, behind, In-text, Reached, Reads-on, Ended, whole-part, whole-reply, Read-whole}
+use Rattle.xml_read.specs.Outcome.{in-text, done, failed, finish, outcome, behind, Reached, Reads-on, Ended, whole-part, whole-reply, Read-whole}
 
 -- WHAT A READING WAS, by what it came to
 record Accepted (ls ns : List ℕ) (n : ℕ) (q : Reading) : Type 0 where
@@ -72,12 +71,12 @@ at-last bs c ls e = rw (e, drop-length bs, add-zero (c .count))
 
 over : (bs : List ℕ) (c : Cursor) (ls : List ℕ) → goes-on (drop (c .at) bs) ≡ false → c .at < length bs → outcome bs [] ls (On c) ≡ failed not-a-sheet
 unfolding outcome finish
-over bs c ls g l = ap (finish (c .count) ls) (left-over (c .in_text) (drop (c .at) bs) g (omega (arith, length-drop (c .at) bs)))
+over bs c ls g l = ap (finish (c .count) ls) (left-over (in-text c) (drop (c .at) bs) g (omega (arith, length-drop (c .at) bs)))
 
 ends : (bs : List ℕ) (c : Cursor) → c .at ≤ length bs → length bs ≤ c .at → c .at ≡ length bs
 ends bs c h l = omega arith
 
-pub read-whole : (bs ls ns : List ℕ) (q : Part) → Reads-on bs most-depth (behind 0 0 false) 0 ls ns q → Ended bs q → Read-whole bs ls ns (whole-part bs q)
+pub read-whole : (bs ls ns : List ℕ) (q : Part) → Reads-on bs most-depth (behind 0 0 0) 0 ls ns q → Ended bs q → Read-whole bs ls ns (whole-part bs q)
 unfolding whole-part outcome read-sheet Ended Reached
 read-whole bs ls ns (Refused k) r e = whole-refused bs ls ns k (was-refused k ls _ (r .same [] refl)) (r .long)
 read-whole bs ls ns (On c) r e =

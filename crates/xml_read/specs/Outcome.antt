@@ -4,7 +4,7 @@ use mathlib.Core.Path.{_≡_}
 use mathlib.Core.Bool.{Bool, false, cond}
 use mathlib.Core.List.{List, _∷_}
 use Prim.Native.Nat.{ℕ, _+_, _≤_}
-use lib.Dec.{ltb}
+use lib.Dec.{ltb, eqb}
 use lib.ListN.{length, drop}
 use lib.Seq.{sets}
 use Rattle.xml.specs.Grammar.{at-place, most-depth}
@@ -26,14 +26,18 @@ unfoldable pub finish : (count : ℕ) → (list : List ℕ) → Reading → Outc
 finish n ls (accepted ks) = done (n + length ks) (sets ls n ks)
 finish n ls (refused k) = failed k
 
+-- whether a cursor stands in a text
+abbrev pub in-text : Cursor → Bool
+in-text c = eqb (c .in_text) 1
+
 -- from a cursor, or behind a refusal, with these elements open
 unfoldable pub outcome : (text : List ℕ) → (opened : List (List ℕ)) → (list : List ℕ) → Part → Outcome
-outcome bs os ls (On c) = finish (c .count) ls (read-from (at-place os) (c .in_text) 0 (drop (c .at) bs))
+outcome bs os ls (On c) = finish (c .count) ls (read-from (at-place os) (in-text c) 0 (drop (c .at) bs))
 outcome bs os ls (Refused k) = failed k
 
 -- a cursor by its parts
-abbrev pub behind : (at count : ℕ) → (in-text : Bool) → Cursor
-behind e n r = record { at = e; count = n; in_text = r }
+abbrev pub behind : (at count in-text : ℕ) → Cursor
+behind e n t = record { at = e; count = n; in_text = t }
 
 -- a cursor stands in the text, and no more kinds have been given than bytes were read
 pub record In-text (bs : List ℕ) (c : Cursor) : Type 0 where

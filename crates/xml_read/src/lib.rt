@@ -12,12 +12,17 @@ use xml::MOST_DEPTH;
 use xml::NOT_A_SHEET;
 use xml::SheetReply;
 
-// Where a reader stands in the text, how many kinds it has given, and whether it stands in a text.
+// Where a reader stands in the text, how many kinds it has given, and whether it stands in a text: IN_TEXT or NOT_IN_TEXT, a word
+// and no bool, because a struct with padding is slow to copy.
 pub struct Cursor {
     pub at: usize,
     pub count: usize,
-    pub in_text: bool,
+    pub in_text: usize,
 }
+
+pub const IN_TEXT: usize = 1;
+
+pub const NOT_IN_TEXT: usize = 0;
 
 // Where a reader has come to, or the refusal.
 pub enum Part {
@@ -55,7 +60,7 @@ fn read(text: &[u8], kinds: &mut [u8]) -> SheetReply
     let from = Cursor {
         at: 0,
         count: 0,
-        in_text: false,
+        in_text: NOT_IN_TEXT,
     };
     let classes = xml_scan::classes::table();
     let part = content(text, from, kinds, MOST_DEPTH, &classes);

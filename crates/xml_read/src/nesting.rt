@@ -1,5 +1,6 @@
 // The element reader and the content reader call each other; the depth left falls, and content uses bytes up.
 use crate::Cursor;
+use crate::NOT_IN_TEXT;
 use crate::Part;
 use crate::kinds::put_kind;
 use crate::pieces::piece;
@@ -71,28 +72,28 @@ fn end_tag(text: &[u8], at: usize, name: &[u8], classes: &[u8; 256]) -> Found
 // A begin tag's kind; content goes on behind the tag.
 fn opened(here: Cursor, end: usize, kinds: &mut [u8]) -> Cursor
     requires { ⌜ here .count + 1 < 2 ^ 64 ⌝ }
-    ensures cursor { λ c. ⌜ c ≡ behind end (here .count + 1) false ⌝ }
+    ensures cursor { λ c. ⌜ c ≡ behind end (here .count + 1) 0 ⌝ }
     ensures list { λ _. ⌜ now (kinds .exit) ≡ set (now (kinds .entry)) (here .count) 1 ⌝ }
 {
     let n = put_kind(kinds, here.count, BEGIN);
     Cursor {
         at: end,
         count: n,
-        in_text: false,
+        in_text: NOT_IN_TEXT,
     }
 }
 
 // An end tag's kind, or both of an empty-element tag's.
 fn closed(here: Cursor, end: usize, kinds: &mut [u8]) -> Part
     requires { ⌜ here .count + 1 < 2 ^ 64 ⌝ }
-    ensures part { λ q. ⌜ q ≡ Part.On (behind end (here .count + 1) false) ⌝ }
+    ensures part { λ q. ⌜ q ≡ Part.On (behind end (here .count + 1) 0) ⌝ }
     ensures list { λ _. ⌜ now (kinds .exit) ≡ set (now (kinds .entry)) (here .count) 2 ⌝ }
 {
     let n = put_kind(kinds, here.count, END);
     Part::On(Cursor {
         at: end,
         count: n,
-        in_text: false,
+        in_text: NOT_IN_TEXT,
     })
 }
 

@@ -1,5 +1,7 @@
 // What content holds beside elements: character data, references, CDATA sections, comments.
 use crate::Cursor;
+use crate::IN_TEXT;
+use crate::NOT_IN_TEXT;
 use crate::Part;
 use crate::Piece;
 use crate::kinds::put_text;
@@ -115,17 +117,17 @@ pub fn piece(text: &[u8], here: Cursor, kinds: &mut [u8], classes: &[u8; 256]) -
     let at = here.at;
     match construct(text, at, classes) {
         Piece::Text(e) => {
-            let n = put_text(kinds, here.count, here.in_text);
+            let n = put_text(kinds, here.count, here.in_text == IN_TEXT);
             Part::On(Cursor {
                 at: e,
                 count: n,
-                in_text: true,
+                in_text: IN_TEXT,
             })
         }
         Piece::Comment(e) => Part::On(Cursor {
             at: e,
             count: here.count,
-            in_text: false,
+            in_text: NOT_IN_TEXT,
         }),
         Piece::Refused(k) => Part::Refused(k),
     }

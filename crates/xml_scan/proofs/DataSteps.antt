@@ -1,6 +1,6 @@
 -- Character data: the test of a byte, and the scan by it. Assumes nothing.
 use mathlib.Core.Path.{_≡_, refl, sym, _∙_}
-use mathlib.Core.Bool.{Bool, true, false, _&&_, _||_, not, cond, and-false}
+use mathlib.Core.Bool.{Bool, true, false, _&&_, _||_, not, cond, and-false, false≢true}
 use mathlib.Core.List.{List, [], _∷_}
 use mathlib.Core.Option.{Option, none, some}
 use Prim.Native.Nat.{ℕ, _+_, _≤_, _<_}
@@ -13,8 +13,8 @@ use lib.Seq.{drop-cons}
 use Rattle.calls.specs.Words.{starts-with}
 use Rattle.xml.specs.Bytes.{class-of, is-char, is-space, is-name-start, is-name-char, less-than, ampersand, bracket, cdata-closes}
 use Rattle.xml.specs.Scan.{later, data-length}
-use Rattle.xml_scan.specs.Post.{data-test}
-use Rattle.xml_scan.proofs.ByteTests.{char-class}
+use Rattle.xml_scan.specs.Post.{data-test, is-usual}
+use Rattle.xml_scan.proofs.ByteTests.{char-class, usual-not-other, usual-not-forbidden, usual-small}
 
 -- THE SCAN by the test: a is that data ends, b that it goes on
 abbrev tested : (a b : Bool) → ℕ
@@ -114,3 +114,13 @@ module _ (text : List ℕ) (i : ℕ) (l : i < length text) where
       pub test-plain : (k ≡ 4 → ⊥) → 0 ≡ data-test (drop i text)
       unfolding class-of is-char is-space is-name-start is-name-char
       test-plain n = test-other (other less-than refl n) (other ampersand refl n) (other bracket refl n)
+
+-- data goes on behind a usual byte
+pub data-usual : (text : List ℕ) (i : ℕ) → i < length text → is-usual (getD text i 0) ≡ true → data-length (drop i text) ≡ later (data-length (drop (i + 1) text))
+data-usual text i l e =
+    let c = getD text i 0 in
+    let small = usual-small c e in
+    let t = test-plain text i l small (class-of c) refl
+    (λ z. false≢true (sym (usual-not-forbidden c (class-of c) small refl z) ∙ e))
+    (λ z. false≢true (sym (usual-not-other c (class-of c) small refl z) ∙ e)) in
+    data-on text i l (λ o. absurd (omega (arith, t, o))) (λ o. absurd (omega (arith, t, o)))

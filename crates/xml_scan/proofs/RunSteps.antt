@@ -5,8 +5,11 @@ use mathlib.Core.List.{List}
 use Prim.Native.Nat.{ℕ, suc, _+_, _≤_, _<_}
 use native.Mathlib.Numerals.{add-one}
 use native.Mathlib.Omega.{arith}
+use borrow.Author.Tests.{ltb-true, ltb-false}
+use lib.Dec.{ltb}
 use lib.ListN.{length, getD, drop, drop-of-length-le}
 use lib.Seq.{drop-cons}
+use Rattle.lists.proofs.Tests.{by-test}
 use Rattle.xml.specs.Bytes.{is-name-start, is-name-char}
 use Rattle.xml.specs.Scan.{run, name-length}
 
@@ -30,6 +33,17 @@ run-none f text i l e = rw (drop-cons text i 0 l, e)
 run-end : (f : ℕ → Bool) (text : List ℕ) (i : ℕ) → length text ≤ i → run f (drop i text) ≡ 0
 unfolding run
 run-end f text i l = rw (drop-of-length-le text l)
+
+-- a run that is not empty: its first byte, and the rest of it
+module _ (f : ℕ → Bool) (text : List ℕ) (i n : ℕ) (e : run f (drop i text) ≡ suc n) where
+  pub run-within : i < length text
+  run-within = by-test (ltb i (length text)) (ltb-true _ _) (λ q. absurd (omega (arith, e, run-end f text i (ltb-false _ _ q))))
+
+  pub run-first : f (getD text i 0) ≡ true
+  run-first = by-test (f (getD text i 0)) (λ t. t) (λ q. absurd (omega (arith, e, run-none f text i run-within q)))
+
+  pub run-rest : run f (drop (i + 1) text) ≡ n
+  run-rest = omega (arith, e, run-on f text i run-within run-first)
 
 module _ {test : ℕ → Bool} {text : List ℕ} {from i : ℕ} (h : Running test text from i) where
   pub running-turn : i < length text → test (getD text i 0) ≡ true → Running test text from (i + 1)

@@ -4,6 +4,7 @@ use crate::classes::FORBIDDEN;
 use crate::classes::OTHER;
 use crate::classes::class_of;
 use crate::classes::is_char;
+use crate::runs::words_end;
 use crate::strings::reference;
 use crate::strings::stands;
 ghost use mathlib.Core.Path.{_≡_};
@@ -113,7 +114,7 @@ pub fn data_end(text: &[u8], from: usize, classes: &[u8; 256]) -> Found
     requires classes { ⌜ Classes (now classes) ⌝ }
     ensures { λ q. ⌜ q ≡ found from (data-length (drop from (now (text .entry)))) ⌝ }
 {
-    let mut i = from;
+    let mut i = words_end(text, from, classes);
     while i < text.len() {
         let t = data_test(text, i, classes);
         if t == ENDS {
@@ -122,7 +123,7 @@ pub fn data_end(text: &[u8], from: usize, classes: &[u8; 256]) -> Found
         if t == BROKEN {
             return Found::Nothing;
         }
-        i += 1;
+        i = words_end(text, i + 1, classes);
     }
     Found::At(i)
 }

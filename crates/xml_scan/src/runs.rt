@@ -1,4 +1,7 @@
-// Runs of bytes of one class: spaces and names.
+// Runs of bytes of one class or some: spaces, names, and both.
+use crate::classes::FORBIDDEN;
+use crate::classes::OTHER;
+use crate::classes::class_of;
 use crate::classes::is_name_char;
 use crate::classes::is_name_start;
 use crate::classes::is_space;
@@ -8,6 +11,7 @@ ghost use lib.ListN.{length, drop};
 ghost use Rattle.xml.specs.Bytes.{is-space, is-name-char};
 ghost use Rattle.xml_scan.specs.Classes.{Classes};
 ghost use Rattle.xml.specs.Scan.{run, name-length};
+ghost use Rattle.xml_scan.specs.Post.{is-usual};
 
 // Where the spaces from a place on end.
 pub fn blank_end(text: &[u8], from: usize, classes: &[u8; 256]) -> usize
@@ -52,4 +56,25 @@ pub fn name_end(text: &[u8], from: usize, classes: &[u8; 256]) -> usize
         }
     }
     from
+}
+
+// Where the spaces and bytes of names from a place on end: most of a sheet's text is such bytes. Both tests answer alike, so
+// that the compiler can make one of them.
+pub fn words_end(text: &[u8], from: usize, classes: &[u8; 256]) -> usize
+    requires { ⌜ from ≤ length (now text) ⌝ }
+    requires classes { ⌜ Classes (now classes) ⌝ }
+    ensures { λ e. ⌜ e ≡ from + run is-usual (drop from (now (text .entry))) ⌝ }
+{
+    let mut i = from;
+    while i < text.len() {
+        let k = class_of(text[i], classes);
+        if k == OTHER {
+            return i;
+        }
+        if k == FORBIDDEN {
+            return i;
+        }
+        i += 1;
+    }
+    i
 }

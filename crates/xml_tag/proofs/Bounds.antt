@@ -1,8 +1,8 @@
 -- What scanners find lies within the text. Assumes nothing.
-use mathlib.Core.Path.{_≡_, refl}
+use mathlib.Core.Path.{_≡_}
 use mathlib.Core.Bool.{Bool, true}
 use mathlib.Core.List.{List, [], _∷_}
-use mathlib.Core.Option.{Option, none, some}
+use mathlib.Core.Option.{some}
 use Prim.Native.Nat.{ℕ, zero, suc, pred, _+_, _≤_, _<_}
 use native.Mathlib.Omega.{arith}
 use lib.Dec.{eqb}
@@ -11,7 +11,8 @@ use Rattle.lists.proofs.Tests.{by-test}
 use Rattle.calls.specs.Words.{starts-with}
 use Rattle.xml.specs.Bytes.{is-space, is-name-start, is-name-char}
 use Rattle.xml_scan.proofs.StringSteps.{starts-within}
-use Rattle.xml.specs.Scan.{run, name-length, later, value-step, value-length}
+use Rattle.xml_laws.proofs.Data.{later-some}
+use Rattle.xml.specs.Scan.{run, name-length, value-step, value-length}
 
 run-within : (f : ℕ → Bool) (cs : List ℕ) → run f cs ≤ length cs
 unfolding run
@@ -32,11 +33,6 @@ pub name-end-within : (text : List ℕ) (i : ℕ) → i ≤ length text → i + 
 name-end-within text i l = omega (arith, name-within (drop i text), length-drop i text)
 
 -- A VALUE stands before its quote
-later-some : (o : Option ℕ) (n : ℕ) → later o ≡ some n → (m : ℕ) × (o ≡ some m) × (n ≡ suc m)
-unfolding later
-later-some none n e = absurd (let z : _≡_ {A = ℕ} 0 1 = cc in omega arith)
-later-some (some m) n e = (m, refl, cc)
-
 pub value-within : (q m : ℕ) (cs : List ℕ) (n : ℕ) → value-length q m cs ≡ some n → n < length cs
 unfolding value-length
 value-within q m [] n e = absurd (let z : _≡_ {A = ℕ} 0 1 = cc in omega arith)

@@ -12,7 +12,7 @@ use Rattle.lists.specs.Lists.{same}
 use Rattle.lists.proofs.Tests.{by-test, fails}
 use Rattle.xml.specs.Grammar.{among}
 use Rattle.xml_tag.specs.Filter.{filter-places, filter-place}
-use Rattle.xml_tag.proofs.Names.{same-equal}
+use Rattle.lists.proofs.Same.{same-equal}
 
 pub place-within : (n : List ℕ) → filter-place n < filter-places
 unfolding filter-place

@@ -1,6 +1,6 @@
 -- Whole tags: a name behind < and what stands behind it. Assumes nothing.
 use mathlib.Core.Path.{_≡_, refl}
-use mathlib.Core.Bool.{Bool, false, cond}
+use mathlib.Core.Bool.{Bool, true, false, cond}
 use mathlib.Core.List.{List, []}
 use mathlib.Core.Option.{Option, none, some}
 use Prim.Native.Nat.{ℕ, suc, _+_}
@@ -10,7 +10,10 @@ use lib.Dec.{eqb}
 use lib.ListN.{drop}
 use lib.Seq.{drop-drop}
 use Rattle.lists.proofs.Tests.{either-way}
-use Rattle.xml.specs.Scan.{Ending, name-length, tail-at, sized-tag, tag-at}
+use Rattle.calls.specs.Words.{starts-with}
+use Rattle.xml.specs.Bytes.{is-space, tag-closes}
+use Rattle.xml.specs.Scan.{run, Ending, name-length, tail-at, sized-tag, tag-at}
+use Rattle.calls_laws.proofs.Reader.{rest-of}
 use Rattle.xml_tag.specs.Post.{end-found, tag-found}
 use Rattle.xml_tag.specs.declared.TagEnd.the-variants as behind
 use Rattle.xml_tag.specs.declared.TagRead.the-variants as tag
@@ -50,6 +53,17 @@ module _ (text : List ℕ) (at name : ℕ) (n : name ≡ at + 1 + name-length (d
   pub tag-nameless : name ≡ at + 1 → tag.Broken ≡ tag-found at (tag-at (drop at text))
   unfolding tag-found
   tag-nameless e = let z : name-length (drop (at + 1) text) ≡ 0 = omega arith in rw (tag-is, eq-eqb _ 0 z)
+
+  -- > right behind it
+  closed : starts-with tag-closes (drop name text) ≡ true → tail-at [] 0 (drop name text) ≡ some (record { used = 1; lone = false })
+  unfolding tail-at run is-space starts-with
+  closed e = rw (rest-of tag-closes (drop name text) e)
+
+  pub tag-closed : (name ≡ at + 1 → ⊥) → starts-with tag-closes (drop name text) ≡ true → tag.Whole name (name + 1) false ≡ tag-found at (tag-at (drop at text))
+  unfolding tag-found sized-tag
+  tag-closed h e =
+      let some-name : eqb (name-length (drop (at + 1) text)) 0 ≡ false = ne-eqb _ 0 (λ (z : name-length (drop (at + 1) text) ≡ 0). h (omega arith)) in
+      rw (tag-is, some-name, closed e) (whole-equal (omega arith) (ends (name + 1) 1 refl) refl)
 
   -- nothing right behind it
   pub tag-broken : behind.Broken ≡ end-found name (tail-at [] 0 (drop name text)) → tag.Broken ≡ tag-found at (tag-at (drop at text))

@@ -67,6 +67,14 @@ pub fn tag(text: &[u8], at: usize, classes: &[u8; 256]) -> TagRead
     if name == at + 1 {
         return TagRead::Broken;
     }
+    // Most tags have no attribute.
+    if stands(text, name, b">") {
+        return TagRead::Whole {
+            name,
+            end: name + 1,
+            lone: false,
+        };
+    }
     let TagEnd::Whole { end, lone } = tail(text, name, classes) else {
         return TagRead::Broken;
     };

@@ -1,5 +1,4 @@
 -- `xml_read::read` meets its contract, by content's from the first byte on. Assumes nothing.
-use native.Mathlib.Omega.{arith}
 use borrow.Author.Needs.{needs}
 use Rattle.xml_read.proofs.Sheet.{read-whole}
 use Rattle.xml_read.proofs.read.Statement.{statement}

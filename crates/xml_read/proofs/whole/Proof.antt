@@ -1,5 +1,5 @@
 -- `xml_read::whole` meets its contract, by the two cases of a part. Assumes nothing.
-use mathlib.Core.Path.{sym, ap, _∙_}
+use mathlib.Core.Path.{sym, ap}
 use borrow.Author.Needs.{needs}
 use borrow.Author.Tests.{lt-ltb, le-ltb}
 use Rattle.xml_read.specs.Outcome.{whole-part}

@@ -1,6 +1,6 @@
 -- `console::same_bytes` meets its contract. Assumes nothing.
 use borrow.Author.Needs.{needs}
-use Rattle.console.proofs.Scans.{same-told}
+use Rattle.lists.proofs.Same.{same-told}
 use Rattle.console.proofs.fields.same_bytes.Statement.{statement}
 use Rattle.console.proofs.fields.same_bytes.Tie as tie
 

@@ -1,15 +1,14 @@
 -- `xml_read::nesting::end_tag` meets its contract, test by test. Assumes nothing.
 use mathlib.Core.Path.{_≡_, sym, _∙_}
 use mathlib.Core.Bool.{true}
-use Prim.Native.Nat.{_+_, _≤_}
 use native.Mathlib.Omega.{arith}
 use borrow.Author.Needs.{needs}
 use borrow.Author.Tests.{not-true, not-false}
-use lib.ListN.{length, drop}
+use lib.ListN.{drop}
 use Rattle.calls.specs.Words.{starts-with}
-use Rattle.xml.specs.Bytes.{is-space, end-opens, tag-closes}
-use Rattle.xml_read.proofs.PieceLaws.{string-within}
-use Rattle.xml_read.proofs.EndLaws.{run-within, end-room, end-closed, end-unclosed, end-other, end-none}
+use Rattle.xml.specs.Bytes.{end-opens, tag-closes}
+use Rattle.xml_tag.proofs.Bounds.{spaces-within, stands-within}
+use Rattle.xml_read.proofs.EndLaws.{end-room, end-closed, end-unclosed, end-other, end-none}
 use Rattle.xml_read.proofs.nesting.end_tag.Statement.{statement}
 use Rattle.xml_read.proofs.nesting.end_tag.Tie as tie
 
@@ -27,12 +26,12 @@ returns c =
 add-from : tie.Need-add-from
 add-from c =
     let at = c .before .before .before .before .before in
-    omega (arith, string-within (at .args .text .now) (at .args .at) end-opens (at .pre .0) (sym (c .before .stands .ensures) ∙ not-false _ (c .if1 .left)))
+    omega (arith, stands-within end-opens (at .args .text .now) (at .args .at) (at .pre .0) (sym (c .before .stands .ensures) ∙ not-false _ (c .if1 .left)))
 
 stands-requires-2 : tie.Need-stands-requires-2
 stands-requires-2 c κs =
     let at = c .before .before .before .before .before in
-    string-within (at .args .text .now) (at .args .at) end-opens (at .pre .0) (sym (c .before .stands .ensures) ∙ not-false _ (c .if1 .left))
+    stands-within end-opens (at .args .text .now) (at .args .at) (at .pre .0) (sym (c .before .stands .ensures) ∙ not-false _ (c .if1 .left))
 
 returns-2 : tie.Need-returns-2
 returns-2 c =
@@ -62,7 +61,7 @@ stands-requires-3 c κs =
     let first = second .before .before in
     let at = first .before .before .before .before .before in
     let room = end-room (at .args .text .now) (at .args .name .now) (at .args .at) (sym (first .before .stands .ensures) ∙ not-false _ (first .if1 .left)) (sym (second .before .stands2 .ensures) ∙ not-false _ (second .if2 .left)) (at .pre .0) in
-    omega (arith, blank .blank-end .ensures, run-within (at .args .text .now) _ is-space room)
+    omega (arith, blank .blank-end .ensures, spaces-within (at .args .text .now) _ room)
 
 add-t18 : tie.Need-add-t18
 add-t18 c =
@@ -73,7 +72,7 @@ add-t18 c =
     let room = end-room (at .args .text .now) (at .args .name .now) (at .args .at) (sym (first .before .stands .ensures) ∙ not-false _ (first .if1 .left)) (sym (second .before .stands2 .ensures) ∙ not-false _ (second .if2 .left)) (at .pre .0) in
     let e = blank .blank-end .ensures in
     let closes : starts-with tag-closes (drop (blank .blank-end .result) (at .args .text .now)) ≡ true = sym (c .before .stands3 .ensures) ∙ c .if3 .taken in
-    omega (arith, string-within (at .args .text .now) (blank .blank-end .result) tag-closes (omega (arith, e, run-within (at .args .text .now) _ is-space room)) closes)
+    omega (arith, stands-within tag-closes (at .args .text .now) (blank .blank-end .result) (omega (arith, e, spaces-within (at .args .text .now) _ room)) closes)
 
 returns-3 : tie.Need-returns-3
 returns-3 c =

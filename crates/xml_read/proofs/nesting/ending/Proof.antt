@@ -1,6 +1,5 @@
 -- `xml_read::nesting::ending` meets its contract, by its end tag. Assumes nothing.
 use mathlib.Core.Path.{sym, _∙_}
-use native.Mathlib.Omega.{arith}
 use borrow.Author.Needs.{needs}
 use Rattle.xml_read.proofs.EndLaws.{ending-missing, ending-found}
 use Rattle.xml_read.proofs.nesting.ending.Statement.{statement}

@@ -3,9 +3,6 @@ use mathlib.Core.Path.{sym, _∙_, ap}
 use mathlib.Core.Bool.{not}
 use native.Mathlib.Omega.{arith}
 use borrow.Author.Needs.{needs}
-use lib.ListN.{drop}
-use lib.Seq.{drop-cons, drop-length}
-use Rattle.xml_read.specs.Pieces.{goes-on}
 use Rattle.xml_read.proofs.EndLaws.{over, goes-on-is}
 use Rattle.xml_read.proofs.nesting.goes_on.Statement.{statement}
 use Rattle.xml_read.proofs.nesting.goes_on.Tie as tie

@@ -2,7 +2,8 @@
 use mathlib.Core.Path.{sym, _∙_}
 use native.Mathlib.Omega.{arith}
 use borrow.Author.Needs.{needs}
-use Rattle.xml_read.proofs.PieceLaws.{string-within, instruction-refused, doctype-refused, declaration-refused}
+use Rattle.xml_tag.proofs.Bounds.{stands-within}
+use Rattle.xml_read.proofs.PieceLaws.{instruction-refused, doctype-refused, declaration-refused}
 use Rattle.xml_read.proofs.pieces.markup.Statement.{statement}
 use Rattle.xml_read.proofs.pieces.markup.Tie as tie
 
@@ -16,7 +17,7 @@ comment-requires : tie.Need-comment-requires
 comment-requires c κs =
     let at = c .before .before .before .before in
     let stands = sym (c .before .stands .ensures) ∙ c .if1 .taken in
-    ((string-within (at .args .text .now) (at .args .at) _ (omega (arith, at .pre .0 .0)) stands, stands), at .pre .1)
+    ((stands-within _ (at .args .text .now) (at .args .at) (omega (arith, at .pre .0 .0)) stands, stands), at .pre .1)
 
 returns : tie.Need-returns
 returns c = search needs
@@ -31,7 +32,7 @@ cdata-requires : tie.Need-cdata-requires
 cdata-requires c κs =
     let at = c .before .before .before .before .before .before .before in
     let stands = sym (c .before .stands2 .ensures) ∙ c .if2 .taken in
-    ((string-within (at .args .text .now) (at .args .at) _ (omega (arith, at .pre .0 .0)) stands, stands), at .pre .1)
+    ((stands-within _ (at .args .text .now) (at .args .at) (omega (arith, at .pre .0 .0)) stands, stands), at .pre .1)
 
 returns-2 : tie.Need-returns-2
 returns-2 c = search needs

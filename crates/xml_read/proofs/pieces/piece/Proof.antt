@@ -1,5 +1,4 @@
 -- `xml_read::pieces::piece` meets its contract, by what the construct at its place comes to. Assumes nothing.
-use native.Mathlib.Omega.{arith}
 use borrow.Author.Needs.{needs}
 use Rattle.xml_read.proofs.Outcomes.{text-on, comment-on, piece-refused}
 use Rattle.xml_read.proofs.pieces.piece.Statement.{statement}
@@ -26,7 +25,7 @@ same-length c = search needs
 returns : tie.Need-returns
 returns c d =
     let put = c .before .before .put-text in
-    let known = c .before .before .before .before .before in
+    let known = c .before .before .before .before .before .before in
     let construct = known .before .before in
     let at = construct .before .before .before in
     text-on (at .args .text .now) d (at .args .here) _ _ _ _ (at .pre .0 .0) (rw (known .e .given .1) at (construct .construct .ensures)) (put .ensures .0) (put .ensures .1)

@@ -1,6 +1,6 @@
 -- `xml_tag::same_name` meets its contract. Assumes nothing.
 use borrow.Author.Needs.{needs}
-use Rattle.xml_tag.proofs.Names.{same-told}
+use Rattle.lists.proofs.Same.{same-told}
 use Rattle.xml_tag.proofs.repeats.same_name.Statement.{statement}
 use Rattle.xml_tag.proofs.repeats.same_name.Tie as tie
 

@@ -1,12 +1,20 @@
 -- `xml_tag::tag` meets its contract: a name, and what stands behind it. Assumes nothing.
 use mathlib.Core.Path.{sym, _∙_}
-use Prim.Native.Nat.{_+_}
+use Prim.Native.Nat.{_+_, _≤_}
 use native.Mathlib.Omega.{arith}
 use borrow.Author.Needs.{needs}
-use Rattle.xml_tag.proofs.Bounds.{name-end-within}
-use Rattle.xml_tag.proofs.WholeTags.{tag-nameless, tag-broken, tag-whole}
+use lib.ListN.{length}
+use Rattle.xml.specs.Bytes.{tag-closes}
+use Rattle.xml_tag.proofs.Bounds.{name-end-within, stands-within}
+use Rattle.xml_tag.proofs.WholeTags.{tag-nameless, tag-closed, tag-broken, tag-whole}
 use Rattle.xml_tag.proofs.tags.tag.Statement.{statement}
 use Rattle.xml_tag.proofs.tags.tag.Tie as tie
+
+-- a name ends in the text
+named : (c : tie.Else1) → c .before .name-end .result ≤ length (c .before .before .before .args .text .now)
+named c =
+    let s = c .before .before .before in
+    omega (arith, c .before .name-end .ensures, name-end-within (s .args .text .now) (s .args .at + 1) (omega (arith, s .pre .0)))
 
 add-name-end : tie.Need-add-name-end
 add-name-end c = search needs
@@ -20,10 +28,26 @@ add-if1 c = search needs
 returns : tie.Need-returns
 returns c = tag-nameless _ _ _ (c .before .name-end .ensures) (c .if1 .taken)
 
+slice-aggregate-stands : tie.Need-slice-aggregate-stands
+slice-aggregate-stands c = search needs
+
+stands-requires : tie.Need-stands-requires
+stands-requires c κs = named (c .before)
+
+add-t13 : tie.Need-add-t13
+add-t13 c =
+    let e = c .before .before .before in
+    let s = e .before .before .before in
+    let l = stands-within tag-closes (s .args .text .now) (e .before .name-end .result) (named e) (sym (c .before .stands .ensures) ∙ c .if2 .taken) in
+    omega (arith, s)
+
+returns-2 : tie.Need-returns-2
+returns-2 c =
+    let e = c .before .before .before in
+    tag-closed _ _ _ (e .before .name-end .ensures) (e .if1 .left) (sym (c .before .stands .ensures) ∙ c .if2 .taken)
+
 tail-requires : tie.Need-tail-requires
-tail-requires c κs =
-    let s = c .before .before .before in
-    (omega (arith, c .before .name-end .ensures, name-end-within (s .args .text .now) (s .args .at + 1) (omega (arith, s .pre .0))), s .pre .1)
+tail-requires c κs = let e = c .before .before .before in (named e, e .before .before .before .pre .1)
 
 enum-known-end : tie.Need-enum-known-end
 enum-known-end c = search needs
@@ -31,14 +55,17 @@ enum-known-end c = search needs
 enum-told : tie.Need-enum-told
 enum-told c = search needs
 
-returns-2 : tie.Need-returns-2
-returns-2 c =
-    let t = c .before .before in tag-broken _ _ _ (t .before .before .name-end .ensures) (sym (c .enum-told .given .1) ∙ t .tail .ensures)
-
 returns-3 : tie.Need-returns-3
 returns-3 c =
+    let t = c .before .before in
+    let e = t .before .before .before .before in
+    tag-broken _ _ _ (e .before .name-end .ensures) (sym (c .enum-told .given .1) ∙ t .tail .ensures)
+
+returns-4 : tie.Need-returns-4
+returns-4 c =
     let t = c .before .before .before in
-    tag-whole _ _ _ (t .before .before .name-end .ensures) _ _ (t .before .if1 .left) (sym (c .before .end .given .1) ∙ t .tail .ensures)
+    let e = t .before .before .before .before in
+    tag-whole _ _ _ (e .before .name-end .ensures) _ _ (e .if1 .left) (sym (c .before .end .given .1) ∙ t .tail .ensures)
 
 pub tag-spec : {M : Type 1} → statement M
 tag-spec =
@@ -48,8 +75,12 @@ tag-spec =
     name-end-requires
     add-if1
     returns
+    slice-aggregate-stands
+    stands-requires
+    add-t13
+    returns-2
     tail-requires
     enum-known-end
     enum-told
-    returns-2
-    returns-3)
+    returns-3
+    returns-4)
