@@ -3,14 +3,14 @@
 use mathlib.Core.Path.{_≡_, sym, _∙_}
 use mathlib.Core.Bool.{true, false, _&&_, false≢true}
 use mathlib.Core.List.{List, [], _∷_}
-use Prim.Native.Nat.{ℕ, suc, _+_, _≤_, _<_}
+use Prim.Native.Nat.{ℕ, suc, _+_, _-_, _≤_, _<_}
 use native.Mathlib.Numerals.{add-one}
 use native.Mathlib.Omega.{arith}
 use borrow.Author.Tests.{eq-eqb, ne-eqb}
 use lib.Dec.{eqb}
-use lib.ListN.{length, getD, drop, drop-of-length-le}
+use lib.ListN.{length, getD, drop, drop-of-length-le, length-drop}
 use lib.Seq.{drop-cons}
-use Rattle.lists.proofs.Tests.{and-right}
+use Rattle.lists.proofs.Tests.{and-right, fails}
 use Rattle.calls.specs.Words.{starts-with}
 
 -- after k bytes of a string that is to stand at a place
@@ -38,11 +38,6 @@ module _ {text : List ℕ} {at : ℕ} {string : List ℕ} {k : ℕ} (h : Standin
   unfolding starts-with
   standing-end l = rw (drop-of-length-le string l) at (h .rest)
 
-  -- the text ends before it
-  pub standing-short : k < length string → length text ≤ at + k → false ≡ starts-with string (drop at text)
-  unfolding starts-with
-  standing-short l m = rw (drop-of-length-le text m, drop-cons string k 0 l) at (h .rest)
-
   -- a byte differs
   pub standing-other : k < length string → at + k < length text → (getD text (at + k) 0 ≡ getD string k 0 → ⊥) → false ≡ starts-with string (drop at text)
   standing-other l m n = sym (step text at string k l m ∙ rw (ne-eqb _ _ (λ e. n (sym e)))) ∙ h .rest
@@ -53,3 +48,8 @@ unfolding starts-with
 starts-within [] cs e = omega arith
 starts-within (x ∷ xs) [] e = absurd (false≢true e)
 starts-within (x ∷ xs) (c ∷ cs) e = omega (arith, starts-within xs cs (and-right (eqb x c) (starts-with xs cs) e))
+
+-- so what the text is too short for does not begin it
+pub starts-short : (string text : List ℕ) (at : ℕ) → length text - at < length string → false ≡ starts-with string (drop at text)
+starts-short string text at l =
+    sym (fails (starts-with string (drop at text)) (λ e. absurd (omega (arith, starts-within string (drop at text) e, length-drop at text))))

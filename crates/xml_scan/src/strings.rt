@@ -10,11 +10,11 @@ pub fn stands(text: &[u8], at: usize, string: &[u8]) -> bool
     requires { ⌜ at ≤ length (now text) ⌝ }
     ensures { λ t. ⌜ t ≡ starts-with (now (string .entry)) (drop at (now (text .entry))) ⌝ }
 {
+    if text.len() - at < string.len() {
+        return false;
+    }
     let mut k: usize = 0;
     while k < string.len() {
-        if text.len() - at <= k {
-            return false;
-        }
         if text[at + k] != string[k] {
             return false;
         }

@@ -3,7 +3,7 @@
 use Prim.Native.Nat.{_-_}
 use native.Mathlib.Omega.{arith}
 use lib.ListN.{length}
-use Rattle.xml_scan.proofs.StringSteps.{Standing, standing-start, standing-turn, standing-end, standing-short, standing-other}
+use Rattle.xml_scan.proofs.StringSteps.{Standing, standing-start, standing-turn, standing-end, standing-other, starts-short}
 use Rattle.xml_scan.proofs.strings.stands.Statement.{statement}
 use Rattle.xml_scan.proofs.strings.stands.Tie as tie
 
@@ -13,14 +13,14 @@ Inv-loop text at string k₀ k = Standing text at string k
 abbrev μ-loop : tie.MeasureT-loop
 μ-loop text at string k₀ k = length string - k
 
-loop-holds : tie.Need-loop-holds Inv-loop μ-loop
-loop-holds c = standing-start _ _ _
-
 sub-if1 : tie.Need-sub-if1 Inv-loop μ-loop
 sub-if1 c = omega arith
 
 returns : tie.Need-returns Inv-loop μ-loop
-returns c = standing-short (c .before .before .loop .inv) (c .before .loop-test .taken) (omega arith)
+returns c = let at = c .before in starts-short (at .args .string .now) (at .args .text .now) (at .args .at) (c .if1 .taken)
+
+loop-holds : tie.Need-loop-holds Inv-loop μ-loop
+loop-holds c = standing-start _ _ _
 
 add-if2 : tie.Need-add-if2 Inv-loop μ-loop
 add-if2 c = omega arith
@@ -32,7 +32,7 @@ shared-slice-read-if2-2 : tie.Need-shared-slice-read-if2-2 Inv-loop μ-loop
 shared-slice-read-if2-2 c = omega arith
 
 returns-2 : tie.Need-returns-2 Inv-loop μ-loop
-returns-2 c = standing-other (c .before .before .before .before .before .loop .inv) (c .before .before .before .before .loop-test .taken) (omega arith) (c .if2 .taken)
+returns-2 c = standing-other (c .before .before .before .before .loop .inv) (c .before .before .before .loop-test .taken) (omega arith) (c .if2 .taken)
 
 add-k : tie.Need-add-k Inv-loop μ-loop
 add-k c = omega arith
@@ -41,7 +41,7 @@ loop-less : tie.Need-loop-less Inv-loop μ-loop
 loop-less c = omega arith
 
 loop-again : tie.Need-loop-again Inv-loop μ-loop
-loop-again c = standing-turn (c .before .before .before .before .before .loop .inv) (c .before .before .before .before .loop-test .taken) (omega arith) (c .if2 .left)
+loop-again c = standing-turn (c .before .before .before .before .loop .inv) (c .before .before .before .loop-test .taken) (omega arith) (c .if2 .left)
 
 returns-3 : tie.Need-returns-3 Inv-loop μ-loop
 returns-3 c = standing-end (c .before .loop .inv) (c .loop-test .left)
@@ -52,9 +52,9 @@ stands-spec =
     (tie.spec
     Inv-loop
     μ-loop
-    loop-holds
     sub-if1
     returns
+    loop-holds
     add-if2
     shared-slice-read-if2
     shared-slice-read-if2-2
