@@ -80,6 +80,9 @@ usual-not-other b k l e four = rw (← usual-class b l, ← e, four)
 pub usual-not-forbidden : (b k : ℕ) → b < 256 → k ≡ class-of b → k ≡ 0 → is-usual b ≡ false
 usual-not-forbidden b k l e none = rw (← usual-class b l, ← e, none)
 
+pub usual-by-else : (b k : ℕ) → b < 256 → k ≡ class-of b → (k ≡ 4 → ⊥) → not (eqb k 0) ≡ is-usual b
+usual-by-else b k l e n = rw (← usual-class b l, ← e, ne-eqb k 4 n)
+
 pub usual-else : (b k : ℕ) → b < 256 → k ≡ class-of b → (k ≡ 4 → ⊥) → (k ≡ 0 → ⊥) → is-usual b ≡ true
 usual-else b k l e n m = rw (← usual-class b l, ← e, ne-eqb k 4 n, ne-eqb k 0 m)
 

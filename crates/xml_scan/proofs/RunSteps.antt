@@ -49,6 +49,10 @@ module _ {test : ℕ → Bool} {text : List ℕ} {from i : ℕ} (h : Running tes
   pub running-turn : i < length text → test (getD text i 0) ≡ true → Running test text from (i + 1)
   running-turn l e = record { within = omega arith; rest = omega (arith, h .rest, run-on test text i l e) }
 
+  -- the same, at a place that is the next by another name
+  pub running-next : (j : ℕ) → j ≡ i + 1 → i < length text → test (getD text i 0) ≡ true → Running test text from j
+  running-next j e l t = rw e (running-turn l t)
+
   pub running-stop : i < length text → test (getD text i 0) ≡ false → i ≡ from + run test (drop from text)
   running-stop l e = omega (arith, h .rest, run-none test text i l e)
 

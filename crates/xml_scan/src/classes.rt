@@ -3,6 +3,7 @@
 ghost use mathlib.Core.Path.{_≡_};
 ghost use Rattle.xml.specs.Bytes.{class-of, is-char, is-space, is-name-start, is-name-char};
 ghost use Rattle.xml_scan.specs.Classes.{Classes};
+ghost use Rattle.xml_scan.specs.Post.{is-usual};
 
 pub const FORBIDDEN: u8 = 0;
 
@@ -317,4 +318,16 @@ pub fn is_name_char(b: u8, classes: &[u8; 256]) -> bool
     } else {
         k == NAME_ONLY
     }
+}
+
+// A space or a byte of names. Both tests answer alike, so that the compiler can make one of them.
+pub fn is_usual(b: u8, classes: &[u8; 256]) -> bool
+    requires { ⌜ Classes (now classes) ⌝ }
+    ensures { λ t. ⌜ t ≡ is-usual b ⌝ }
+{
+    let k = class_of(b, classes);
+    if k == OTHER {
+        return false;
+    }
+    k != FORBIDDEN
 }

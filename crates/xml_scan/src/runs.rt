@@ -1,10 +1,8 @@
 // Runs of bytes of one class or some: spaces, names, and both.
-use crate::classes::FORBIDDEN;
-use crate::classes::OTHER;
-use crate::classes::class_of;
 use crate::classes::is_name_char;
 use crate::classes::is_name_start;
 use crate::classes::is_space;
+use crate::classes::is_usual;
 ghost use mathlib.Core.Path.{_≡_};
 ghost use Prim.Native.Nat.{_+_, _≤_};
 ghost use lib.ListN.{length, drop};
@@ -58,23 +56,42 @@ pub fn name_end(text: &[u8], from: usize, classes: &[u8; 256]) -> usize
     from
 }
 
-// Where the spaces and bytes of names from a place on end: most of a sheet's text is such bytes. Both tests answer alike, so
-// that the compiler can make one of them.
-pub fn words_end(text: &[u8], from: usize, classes: &[u8; 256]) -> usize
+fn few_words_end(text: &[u8], from: usize, classes: &[u8; 256]) -> usize
     requires { ⌜ from ≤ length (now text) ⌝ }
     requires classes { ⌜ Classes (now classes) ⌝ }
     ensures { λ e. ⌜ e ≡ from + run is-usual (drop from (now (text .entry))) ⌝ }
 {
     let mut i = from;
     while i < text.len() {
-        let k = class_of(text[i], classes);
-        if k == OTHER {
-            return i;
-        }
-        if k == FORBIDDEN {
+        if !is_usual(text[i], classes) {
             return i;
         }
         i += 1;
     }
     i
+}
+
+// Where the spaces and bytes of names from a place on end: most of a sheet's text is such bytes, so they go by four a turn.
+pub fn words_end(text: &[u8], from: usize, classes: &[u8; 256]) -> usize
+    requires { ⌜ from ≤ length (now text) ⌝ }
+    requires classes { ⌜ Classes (now classes) ⌝ }
+    ensures { λ e. ⌜ e ≡ from + run is-usual (drop from (now (text .entry))) ⌝ }
+{
+    let mut i = from;
+    while 4 <= text.len() - i {
+        if !is_usual(text[i], classes) {
+            return i;
+        }
+        if !is_usual(text[i + 1], classes) {
+            return i + 1;
+        }
+        if !is_usual(text[i + 2], classes) {
+            return i + 2;
+        }
+        if !is_usual(text[i + 3], classes) {
+            return i + 3;
+        }
+        i += 4;
+    }
+    few_words_end(text, i, classes)
 }
