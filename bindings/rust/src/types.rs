@@ -1,5 +1,6 @@
 //! What calls take and reply.
 
+use crate::refusal::Refusal;
 use std::error::Error;
 use std::fmt;
 
@@ -81,6 +82,15 @@ pub enum Kind {
     End = 2,
     /// A text.
     Text = 3,
+}
+
+/// The kind of a byte that [`kinds_of_xml`](crate::kinds_of_xml) wrote; any other byte is none, as load says of it.
+impl TryFrom<u8> for Kind {
+    type Error = Refusal;
+
+    fn try_from(byte: u8) -> Result<Kind, Refusal> {
+        [Kind::Begin, Kind::End, Kind::Text].into_iter().find(|kind| *kind as u8 == byte).ok_or(Refusal::Kind)
+    }
 }
 
 /// Where an insertion goes.

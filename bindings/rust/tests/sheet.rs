@@ -1,6 +1,6 @@
 //! The kinds of sheets, and every refusal of that call.
 
-use vekhturop::{Refusal, kinds_of_xml};
+use vekhturop::{Kind, Refusal, Store, kinds_of_xml, words_for};
 
 /// The kinds, with a list that is long enough.
 fn kinds(text: &str) -> Result<Vec<u8>, Refusal> {
@@ -45,4 +45,16 @@ fn a_list_is_written_whole_or_not_at_all() {
     assert_eq!(kinds_of_xml(b"<a>x</a>", &mut list), Ok(3));
     assert_eq!(list, [1, 3, 2, 9, 9]);
     assert_eq!(kinds_of_xml(b"", &mut []), Ok(0));
+}
+
+/// From a text to a book: what a sheet gives is what load takes.
+#[test]
+fn a_sheet_is_loaded() {
+    let bytes = kinds("<a>x<b/></a>").expect("a sheet");
+    let kinds: Vec<Kind> = bytes.iter().map(|byte| Kind::try_from(*byte).expect("a kind")).collect();
+    let mut words = vec![0; words_for(kinds.len())];
+    let loaded = Store::new(&mut words).load(2, 2, 7, &kinds).expect("a book");
+    assert_eq!((loaded.tags, loaded.height), (5, 2));
+    assert_eq!(Kind::try_from(0), Err(Refusal::Kind));
+    assert_eq!(Kind::try_from(17), Err(Refusal::Kind));
 }

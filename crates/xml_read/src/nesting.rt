@@ -83,7 +83,7 @@ fn opened(here: Cursor, end: usize, kinds: &mut [u8]) -> Cursor
     }
 }
 
-// An end tag's kind, or both of an empty-element tag's.
+// An end's kind: an end tag's, or the second of an empty-element tag's.
 fn closed(here: Cursor, end: usize, kinds: &mut [u8]) -> Part
     requires { ⌜ here .count + 1 < 2 ^ 64 ⌝ }
     ensures part { λ q. ⌜ q ≡ Part.On (behind end (here .count + 1) 0) ⌝ }

@@ -23,6 +23,7 @@ use xml_scan::bodies::data_end;
 use xml_scan::strings::reference;
 use xml_scan::strings::stands;
 
+// How many bytes the openers have, and either closer.
 const COMMENT_OPENER: usize = 4;
 
 const CDATA_OPENER: usize = 9;
