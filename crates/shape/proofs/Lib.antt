@@ -1,4 +1,5 @@
 pub mod TableLaws
+pub mod PowerLaws
 pub mod Fits
 pub mod HeaderLaws
 pub mod Sums

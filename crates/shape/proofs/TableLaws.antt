@@ -26,7 +26,7 @@ table-split : (v b top : ℕ) → table v b top ≡ powers v b top ++ (v * b ^ t
 unfolding table
 table-split v b top = rw (powers-more, append-assoc)
 
-powers-low : (v b n k : ℕ) → k < n → getD (powers v b n) k 0 ≡ v * b ^ k
+pub powers-low : (v b n k : ℕ) → k < n → getD (powers v b n) k 0 ≡ v * b ^ k
 unfolding powers
 powers-low v b zero k q = absurd (not-suc-le-zero q)
 powers-low v b (suc n) zero q = rw (pow-zero, mul-one)

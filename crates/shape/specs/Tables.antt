@@ -1,5 +1,6 @@
 -- Tables by height: powers of a base up to a height, from which the widths of labels, the least leaves of a node and its limit
 -- are made. Assumes nothing: these are definitions.
+use mathlib.Core.Path.{_≡_}
 use mathlib.Core.List.{List, [], _∷_, _++_}
 use Prim.Native.Nat.{ℕ, zero, suc, _*_, _-_, _^_, _≤_, _<_}
 use lib.ListN.{getD, replicate}
@@ -45,3 +46,7 @@ pub record Table-fits (v b top : ℕ) : Type 0 where
   pub height : top < table-length
   pub grows : 1 ≤ b
   pub last : v * b ^ top ≤ entry-limit
+
+-- with a degree that s and r both are, powers from 1 on of their base
+abbrev pub Of-degree : (degree v b : ℕ) → Type 0
+Of-degree d v b = 2 ≤ d → (v ≡ 1) × (b ≡ d * d - 1)

@@ -1,5 +1,6 @@
 // The shape of a store, s, r and H: the tables by height that they give, and the limits of the header and of the root
 // (document 01, "The book in words", "The tree").
+pub mod powers;
 pub mod tables;
 
 ghost use mathlib.Core.Path.{_≡_};
@@ -29,23 +30,22 @@ pub fn table(v: u64, b: u64, top: usize) -> [u64; TABLE_LENGTH]
     ensures { λ t. ⌜ t ≡ power-table v b top ⌝ }
 {
     let mut t = [0u64; TABLE_LENGTH];
-    t[0] = v;
-    let mut h: usize = 0;
-    while h < top {
-        t[h + 1] = t[h] * b;
-        h += 1;
-    }
+    powers::fill(&mut t, powers::NO_DEGREE, v, b, top);
     t
 }
 
-// The widths that a header gives: the powers of b, one less than f.
+// The widths that a header gives: the powers of b, one less than f, from a table where s and r have one.
 pub fn widths(words: &[u32]) -> [u64; TABLE_LENGTH]
     requires { ⌜ Widths-fit (now words) ⌝ }
     ensures { λ t. ⌜ t ≡ widths-of (now (words .entry)) ⌝ }
 {
-    let s = words[words::AT_S] as u64;
-    let r = words[words::AT_R] as u64;
-    table(1, s * r - 1, words[words::AT_HEIGHT] as usize)
+    let s = words[words::AT_S];
+    let r = words[words::AT_R];
+    let top = words[words::AT_HEIGHT] as usize;
+    let b = (s as u64) * (r as u64) - 1;
+    let mut t = [0u64; TABLE_LENGTH];
+    powers::fill(&mut t, powers::degree(s, r), 1, b, top);
+    t
 }
 
 // A number by what a label holds of it: all, in a sound store.
@@ -68,6 +68,10 @@ pub fn height_fits(s: u32, r: u32, h: u32) -> bool
     requires { ⌜ (4 ≤ s * r) × (s * r ≤ 256) ⌝ }
     ensures { λ t. ⌜ t ≡ power-fits s r h ⌝ }
 {
+    let known = powers::heights(s, r);
+    if known != 0 {
+        return (h as usize) < known;
+    }
     let b = (s as u64) * (r as u64) - 1;
     let mut p: u64 = 1;
     let mut i: u32 = 0;
