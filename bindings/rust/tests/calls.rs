@@ -109,6 +109,30 @@ fn loads_that_are_refused() {
     assert_eq!(store.load(16, 2, 0, &[Text; 127]).map(shape), Ok((127, 6)));
 }
 
+/// Where 15^H and 255^H pass 2^32: with (4, 4) and (16, 16) at 131,072 texts, with (8, 2) at 512.
+#[test]
+fn loads_up_to_the_last_power_of_b() {
+    let mut words = vec![0; words_for(131_072)];
+    let mut store = Store::new(&mut words);
+    let texts = vec![Text; 131_072];
+    for (s, r, most, height) in [(4, 4, 131_071, 8), (16, 16, 131_071, 4), (8, 2, 511, 8)] {
+        assert_eq!(store.load(s, r, 7, &texts[..most]).map(shape), Ok((most as u32, height)));
+        assert_eq!(store.load(s, r, 7, &texts[..most + 1]), Err(Refusal::OutOfLabels));
+    }
+}
+
+/// (4, 4), (2, 8) and (8, 2) have one base, and each its own tree: two nodes of r texts, 15 apart.
+#[test]
+fn labels_in_base_15() {
+    for (s, r) in [(4, 4), (2, 8), (8, 2)] {
+        let mut words = vec![0; words_for(16)];
+        let mut store = Store::new(&mut words);
+        assert_eq!(store.load(s, r, 7, &vec![Text; 2 * r as usize]).map(shape), Ok((2 * r, 2)));
+        let labels: Vec<u32> = listed(&store, Within::Book).iter().map(|it| it.1).collect();
+        assert_eq!(labels, (0..r).chain(15..15 + r).collect::<Vec<_>>());
+    }
+}
+
 #[test]
 fn calls_that_are_refused_change_nothing() {
     with_book(6, |store| {

@@ -1,6 +1,7 @@
 //! Calls beside the limits: what a load may be given, and refusals 6 and 7.
 
 use crate::call::Call;
+use crate::damage;
 use crate::kinds::{BEGIN, END, TEXT};
 use crate::session::{Failure, Session, Tally};
 use crate::shape;
@@ -27,25 +28,55 @@ fn tries(subject: &dyn Subject, tally: &mut Tally, rng: &mut Rng, start: &[u32],
 
 /// Sound stores with one to three tags less than a full root, at the greatest height and one below it; and loads at
 /// and beside the size that needs one height too many. Only books of at most so many tags.
+fn labels_of(
+    subject: &dyn Subject,
+    tally: &mut Tally,
+    rng: &mut Rng,
+    (s, r): (u32, u32),
+    most: usize,
+) -> Result<(), Failure> {
+    let top = shape::top(s, r);
+    for height in [top, top.saturating_sub(1).max(1)] {
+        let full = shape::leaves(s, r, height).1;
+        for n in (full.saturating_sub(2)..=full).filter(|_| full <= most) {
+            let labels = shape::labels(rng, s, r, height, n);
+            let mut start = shape::store(rng, s, r, height, &labels);
+            start.resize(HEADER + RECORD * (n + 3), 5);
+            tries(subject, tally, rng, &start, 2)?;
+        }
+    }
+    let least_over = 2 * (r as usize).pow(top);
+    for n in (least_over - 1..=least_over + 1).filter(|_| least_over < most) {
+        let mut session = Session::new(subject, tally, vec![3; HEADER + RECORD * (n + 2)]);
+        session.step(Call::Load { s, r, book: 4, kinds: vec![TEXT; n] })?;
+        session.step(Call::Insert { kind: TEXT, place: 0 })?;
+    }
+    Ok(())
+}
+
+/// Where labels run out, for all s and r.
 pub fn labels(subject: &dyn Subject, tally: &mut Tally, rng: &mut Rng, most: usize) -> Result<(), Failure> {
-    for s in 2..=16 {
-        for r in 2..=16 {
-            let top = shape::top(s, r);
-            for height in [top, top.saturating_sub(1).max(1)] {
-                let full = shape::leaves(s, r, height).1;
-                for n in (full.saturating_sub(2)..=full).filter(|_| full <= most) {
-                    let labels = shape::labels(rng, s, r, height, n);
-                    let mut start = shape::store(rng, s, r, height, &labels);
-                    start.resize(HEADER + RECORD * (n + 3), 5);
-                    tries(subject, tally, rng, &start, 2)?;
-                }
-            }
-            let least_over = 2 * (r as usize).pow(top);
-            for n in (least_over - 1..=least_over + 1).filter(|_| least_over < most) {
-                let mut session = Session::new(subject, tally, vec![3; HEADER + RECORD * (n + 2)]);
-                session.step(Call::Load { s, r, book: 4, kinds: vec![TEXT; n] })?;
-                session.step(Call::Insert { kind: TEXT, place: 0 })?;
-            }
+    (2..=16).flat_map(|s| (2..=16).map(move |r| (s, r))).try_for_each(|pair| labels_of(subject, tally, rng, pair, most))
+}
+
+/// The ends of the tables of powers that a book of 200,000 tags can meet: loads of 131,071 tags and more with (4, 4) and
+/// (16, 16), and the 65,536th tag, which raises H to 8 and to 4.
+pub fn tables(subject: &dyn Subject, tally: &mut Tally, rng: &mut Rng) -> Result<(), Failure> {
+    [(4, 4), (16, 16)].into_iter().try_for_each(|pair| labels_of(subject, tally, rng, pair, 140_000))
+}
+
+/// Stores sound but for H, which is that of the last power of b that fits, one or two more, or far more; also such that a
+/// part of the word alone would be the right H. With (2, 2), (4, 4) and (16, 16) powers come from a table, with the others
+/// not, of which two have the base of (4, 4).
+pub fn heights(subject: &dyn Subject, tally: &mut Tally, rng: &mut Rng) -> Result<(), Failure> {
+    for (s, r) in [(2, 2), (4, 4), (16, 16), (3, 3), (2, 8), (8, 2)] {
+        let sound = shape::any(rng, s, r, 40);
+        let (right, top) = (sound[3], shape::top(s, r));
+        let parts = [8, 16, 31].map(|bits| right + (1 << bits));
+        for height in [top, top + 1, top + 2, u32::MAX].into_iter().chain(parts) {
+            let mut words = sound.clone();
+            words[3] = height;
+            damage::flawed(subject, tally, rng, &words)?;
         }
     }
     Ok(())

@@ -88,8 +88,13 @@ pub fn calls(subject: &dyn Subject, tally: &mut Tally, seed: u64, size: usize) -
     damages(subject, tally, rng, size / 8 + 4)?;
     flaws(subject, tally, rng, size)?;
     limits::run_from_k(subject, tally, rng)?;
+    limits::heights(subject, tally, rng)?;
     // With 225 or more the run is meant to meet all pairs; the great stores then come too.
-    limits::labels(subject, tally, rng, if size < 225 { 5_000 } else { 20_000 })?;
+    let great = 225 <= size;
+    limits::labels(subject, tally, rng, if great { 20_000 } else { 5_000 })?;
+    if great {
+        limits::tables(subject, tally, rng)?;
+    }
     limits::tags(subject, tally, rng)
 }
 

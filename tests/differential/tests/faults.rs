@@ -2,6 +2,7 @@
 
 use differential::call::{Call, Case, Reply};
 use differential::flaw::{Flaw, flawed};
+use differential::limits;
 use differential::plan;
 use differential::program::due;
 use differential::report;
@@ -150,6 +151,63 @@ fn writing_where_a_call_must_not_is_caught() {
     });
     let failure = histories(&into_the_kinds, 5).expect_err("a load wrote into its kinds");
     assert_eq!(failure.what, "the store wrote into the kinds");
+}
+
+/// The reference, but where this gives a reply for a call on some words, that one.
+struct Elsewhere(fn(&Call, &[u32]) -> Option<Reply>);
+
+impl Subject for Elsewhere {
+    fn call(&self, call: &Call, lent: Lent) -> Reply {
+        (self.0)(call, lent.words).unwrap_or_else(|| Reference::right().call(call, lent))
+    }
+}
+
+/// A table of powers that ends one height too early or too late must show at its end: at loads, and at the insertion that
+/// raises H to the last height.
+#[test]
+fn a_table_of_powers_that_ends_elsewhere_is_caught() {
+    const OUT_OF_LABELS: Reply = [7, 0, 0, 0, 0];
+    let ends = |wrong: fn(&Call, &[u32]) -> Option<Reply>| {
+        let caught = limits::tables(&Elsewhere(wrong), &mut Tally::new(), &mut Rng::new(7));
+        caught.expect_err("a table ended elsewhere").what
+    };
+    let early = ends(|call, _| {
+        matches!(call, Call::Load { s: 4, r: 4, kinds, .. } if kinds.len() == 131_071).then_some(OUT_OF_LABELS)
+    });
+    assert_eq!(early, "reply [7, 0, 0, 0, 0], the reference says [0, 131071, 8, 0, 0]");
+    let late = ends(|call, _| match call {
+        Call::Load { s: 16, r: 16, kinds, .. } if kinds.len() == 131_072 => Some([0, 131_072, 5, 0, 0]),
+        _ => None,
+    });
+    assert_eq!(late, "reply [0, 131072, 5, 0, 0], the reference says [7, 0, 0, 0, 0]");
+    let raised = ends(|call, words| {
+        let last_of_height_3 = matches!(words, [1, 16, 16, 3, 65_535, ..]);
+        (matches!(call, Call::Insert { .. }) && last_of_height_3).then_some(OUT_OF_LABELS)
+    });
+    assert!(raised.starts_with("reply [7, 0, 0, 0, 0], the reference says [0, 65535, "), "{raised}");
+}
+
+/// No height at the end of a table of powers, or past it, is that of a small book; and one of which only a part is read
+/// must show.
+#[test]
+fn heights_past_the_powers_are_refused() {
+    struct Cut;
+
+    impl Subject for Cut {
+        fn call(&self, call: &Call, lent: Lent) -> Reply {
+            let mut words = lent.words.to_vec();
+            if let Some(height) = words.get_mut(3) {
+                *height %= 256;
+            }
+            Reference::right().call(call, Lent { words: &mut words, ..lent })
+        }
+    }
+
+    let mut tally = Tally::new();
+    limits::heights(&Reference::right(), &mut tally, &mut Rng::new(8)).expect("no difference");
+    assert!(tally.keys().all(|(_, refusal)| *refusal == 2), "{tally:?}");
+    let caught = limits::heights(&Cut, &mut Tally::new(), &mut Rng::new(8)).expect_err("the store was served");
+    assert!(caught.what.ends_with("the reference says [2, 0, 0, 0, 0]"), "{}", caught.what);
 }
 
 /// A soundness test that overlooks one clause must be caught by stores that are not sound, and by nothing else.

@@ -80,6 +80,27 @@ fn k_l_loads_at_the_limit_of_labels() {
     assert_eq!(store.load(16, 2, 7, &[TEXT; 128]), Err(Refusal::Labels));
 }
 
+/// Where 15^H and 255^H pass 2^32: with (4, 4) and (16, 16) at 131,072 texts, with (8, 2) at 512.
+#[test]
+fn loads_up_to_the_last_power_of_b() {
+    let mut store = store_for(131_072);
+    let texts = vec![TEXT; 131_072];
+    for (s, r, most, height) in [(4, 4, 131_071, 8), (16, 16, 131_071, 4), (8, 2, 511, 8)] {
+        assert_eq!(store.load(s, r, 7, &texts[..most]), Ok(Loaded { tags: most as u32, height }));
+        assert_eq!(store.load(s, r, 7, &texts[..most + 1]), Err(Refusal::Labels));
+    }
+}
+
+/// (4, 4), (2, 8) and (8, 2) have one base, and each its own tree.
+#[test]
+fn labels_in_base_15() {
+    for (s, r) in [(4, 4), (2, 8), (8, 2)] {
+        let store = loaded(s, r, &"T".repeat(2 * r as usize), 16);
+        assert_eq!(height(&store), 2);
+        assert_eq!(listed(&store).1, (0..r).chain(15..15 + r).collect::<Vec<_>>());
+    }
+}
+
 /// The run of document 01 from K, with texts added at one place, at the front, at the end, and at changing places.
 #[test]
 fn run_from_k_to_1023_tags() {
