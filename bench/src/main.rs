@@ -5,7 +5,7 @@ use bench::books::{SHEETS, Sheet};
 use bench::calls::{Bench, Case, SHAPES, SIZES, Times};
 use bench::report::{Section, calls, filled, targets};
 use bench::table::thousands;
-use bench::{bits, branches, moved, others, picture, plot, store, xml};
+use bench::{bits, branches, moved, others, picture, plot, small, store, xml};
 use std::path::{Path, PathBuf};
 use std::process::ExitCode;
 
@@ -71,6 +71,8 @@ fn main() -> ExitCode {
         return ExitCode::from(2);
     }
     let (times, note) = times();
+    eprintln!("holding on small books");
+    let small = small::times(1_001);
     eprintln!("reading sheets");
     let speeds = xml::speeds(201);
     eprintln!("counting moved tags");
@@ -96,6 +98,7 @@ fn main() -> ExitCode {
             title: "Plain call / bare walk",
             body: calls(&times, |it, i| it.plain[i] / it.bare),
         },
+        Section { name: "small", title: "Small books", body: small::tables(&small) },
         Section { name: "sheets", title: "Sheets", body: xml::table(&speeds) },
         Section { name: "branches", title: "A branch on the kind", body: branches::table(&branches::ratios(1_000)) },
         Section { name: "moved", title: "Moved tags per insertion", body: moved::tables(&moved) },

@@ -6,7 +6,7 @@ use bench::plain::Plain;
 use bench::report::{Section, filled, targets};
 use bench::store::Store;
 use bench::words::*;
-use bench::{bits, books, moved, xml};
+use bench::{bits, books, moved, small, xml};
 use draw::Rng;
 
 fn listed(words: &[u32], n: usize) -> (Vec<u32>, Vec<u32>) {
@@ -74,6 +74,14 @@ fn sheets_are_timed() {
     assert_eq!(speeds.iter().map(|it| it.judged).collect::<Vec<_>>(), [true, true, true, false]);
     assert_eq!(xml::table(&speeds).lines().count(), 2 + speeds.len());
     assert_eq!(targets(&[], &speeds).lines().count(), 2 + 3);
+}
+
+/// Every hold is accepted, which `times` asserts, and a table has a row for each pair of s and r.
+#[test]
+fn small_books_are_timed() {
+    let all = small::times(3);
+    assert!(all.iter().all(|it| it.verified > 0.0 && it.plain > 0.0));
+    assert_eq!(small::tables(&all).lines().count(), 2 + 4);
 }
 
 #[test]
