@@ -4,7 +4,7 @@ use mathlib.Core.Path.{_≡_, ap, sym, _∙_}
 use mathlib.Core.Bool.{Bool, true, _&&_, cond}
 use mathlib.Core.List.{List}
 use Prim.Native.Nat.{ℕ, suc, pred, _+_, _*_, _-_, _^_, _≤_, _<_}
-use native.Mathlib.Nat.{pow-suc, mul-assoc, mul-le-mul, pow-le-pow-right}
+use native.Mathlib.Nat.{mul-le-mul, pow-le-pow-right}
 use native.Mathlib.Numerals.{add-one}
 use native.Mathlib.Omega.{arith}
 use borrow.Author.Tests.{eqb-true, ltb-true, ltb-false, leb-true, le-leb, lt-leb}
@@ -14,8 +14,8 @@ use Rattle.lists.proofs.Tests.{by-test, and-left, and-right}
 use Rattle.store_types.specs.Limits.{label-limit}
 use Rattle.tree.specs.Book.{base, power-width}
 use Rattle.calls.specs.Store.{labels-fit, power-fits}
-use Rattle.shape.specs.Tables.{Of-degree, table-length, powers, table}
-use Rattle.shape.proofs.TableLaws.{powers-low, table-at, table-more}
+use Rattle.shape.specs.Tables.{shared-degree, Of-degree, table-length, powers, table}
+use Rattle.shape.proofs.TableLaws.{powers-low, table-next, table-more}
 
 -- AN ENTRY is its power
 pub powers-entry : (v b : ℕ) (t : List ℕ) → t ≡ powers v b (length t) → (k : ℕ) → k < length t → getD t k 0 ≡ v * b ^ k
@@ -27,13 +27,10 @@ known-powers asked is some t right = let e = asked (omega (arith, is)) in rw (e 
 
 -- A STEP of the table by height: the entry, or b times the power below where the table has ended
 module _ (v b : ℕ) (t : List ℕ) (e : t ≡ powers v b (length t)) (h : ℕ) where
-  next : getD (table v b h) h 0 * b ≡ v * b ^ (h + 1)
-  next = rw (table-at v b h h (omega arith), mul-assoc, add-one h, pow-suc b h)
-
   either : cond (ltb (h + 1) (length t)) (getD t (h + 1) 0) (getD (table v b h) h 0 * b) ≡ getD (table v b h) h 0 * b
   either =
       by-test (ltb (h + 1) (length t))
-      (λ yes. rw yes (powers-entry v b t e (h + 1) (ltb-true (h + 1) (length t) yes) ∙ sym next))
+      (λ yes. rw (yes, table-next v b h, add-one h) (powers-entry v b t e (suc h) (rw (add-one h) at (ltb-true (h + 1) (length t) yes))))
       (λ no. rw no)
 
   pub fill-more : suc h < table-length →
@@ -59,7 +56,7 @@ count-decides b count some e h =
     rw (no, lt-leb (b ^ h) label-limit (omega (arith, next, pow-le-pow-right {n = b} some (ltb-false h count no)))))
 
 -- A PAIR of one degree d has the base d·d − 1
-module _ (s r : ℕ) {d : ℕ} (e : d ≡ cond (eqb s r) s 0) (some : 2 ≤ d) where
+module _ (s r : ℕ) {d : ℕ} (e : d ≡ shared-degree s r) (some : 2 ≤ d) where
   pub pair-base : s * r - 1 ≡ d * d - 1
   pair-base =
       by-test (eqb s r)

@@ -58,13 +58,17 @@ table-set v b h p =
     rw (table-open v b h, table-split v b (suc h))
     (set-at (powers v b (suc h)) 0 (replicate (table-length - suc (suc h)) 0) (v * b ^ suc h) (suc h) (length-powers v b (suc h)))
 
+-- b times a power is the next one
+pub table-next : (v b h : ℕ) → getD (table v b h) h 0 * b ≡ v * b ^ suc h
+table-next v b h = rw (table-at v b h h (omega arith), mul-assoc, pow-suc b h)
+
 pub table-more : (v b h : ℕ) → suc h < table-length → set (table v b h) (h + 1) (getD (table v b h) h 0 * b) ≡ table v b (h + 1)
-table-more v b h p = rw (table-at v b h h (omega arith), mul-assoc, ← pow-suc b h, add-one h) (table-set v b h p)
+table-more v b h p = rw (table-next v b h, add-one h) (table-set v b h p)
 
 -- what is written fits
 pub table-fits : (v b h top : ℕ) → 1 ≤ b → h < top → getD (table v b h) h 0 * b ≤ v * b ^ top
 table-fits v b h top p q =
-    rw (table-at v b h h (omega arith), mul-assoc, ← pow-suc b h) (mul-le-mul-left v (pow-le-pow-right p q))
+    rw (table-next v b h) (mul-le-mul-left v (pow-le-pow-right p q))
 
 pub noughts : (n i : ℕ) → getD {A = ℕ} (replicate n 0) i 0 ≡ 0
 noughts zero i = refl

@@ -1,8 +1,10 @@
 -- Tables by height: powers of a base up to a height, from which the widths of labels, the least leaves of a node and its limit
 -- are made. Assumes nothing: these are definitions.
 use mathlib.Core.Path.{_≡_}
+use mathlib.Core.Bool.{cond}
 use mathlib.Core.List.{List, [], _∷_, _++_}
 use Prim.Native.Nat.{ℕ, zero, suc, _*_, _-_, _^_, _≤_, _<_}
+use lib.Dec.{eqb}
 use lib.ListN.{getD, replicate}
 use Rattle.store_types.specs.Layout.{at-s, at-r, at-height, word-at}
 
@@ -47,6 +49,10 @@ pub record Table-fits (v b top : ℕ) : Type 0 where
   pub grows : 1 ≤ b
   pub last : v * b ^ top ≤ entry-limit
 
--- with a degree that s and r both are, powers from 1 on of their base
+-- POWERS FROM A TABLE (document 02, CR 2): the degree that s and r both are, which picks the table, 0 where they differ; and what
+-- powers by height are with a degree: those from 1 on of its pair's base
+abbrev pub shared-degree : (s r : ℕ) → ℕ
+shared-degree s r = cond (eqb s r) s 0
+
 abbrev pub Of-degree : (degree v b : ℕ) → Type 0
 Of-degree d v b = 2 ≤ d → (v ≡ 1) × (b ≡ d * d - 1)

@@ -3,10 +3,10 @@
 ghost use mathlib.Core.Path.{_≡_};
 ghost use mathlib.Core.Bool.{cond};
 ghost use Prim.Native.Nat.{ℕ, _*_, _≤_};
-ghost use lib.Dec.{eqb, ltb};
+ghost use lib.Dec.{ltb};
 ghost use lib.ListN.{length, getD, replicate};
 ghost use Rattle.calls.specs.Store.{power-fits};
-ghost use Rattle.shape.specs.Tables.{Table-fits, Of-degree, entry-limit, table-length, powers as powers-of, table as power-table};
+ghost use Rattle.shape.specs.Tables.{Table-fits, Of-degree, shared-degree, entry-limit, table-length, powers as powers-of, table as power-table};
 use crate::TABLE_LENGTH;
 
 // For (2, 2).
@@ -59,7 +59,7 @@ pub const NO_DEGREE: u32 = 0;
 // The degree that s and r both are, none where they differ. It picks the table, and not the base, since (2, 8) has the base of
 // (4, 4) and no table.
 pub fn degree(s: u32, r: u32) -> u32
-    ensures { λ d. ⌜ d ≡ cond (eqb s r) s 0 ⌝ }
+    ensures { λ d. ⌜ d ≡ shared-degree s r ⌝ }
 {
     if s == r {
         return s;
