@@ -16,11 +16,12 @@ use Rattle.store_types.specs.declared.MarkReply.the-variants as mark-said
 use Rattle.store_types.specs.declared.HoldReply.{HoldReply}
 use Rattle.store_types.specs.declared.QuestionReply.{QuestionReply}
 use Rattle.store_types.specs.declared.ListReply.{ListReply}
+use Rattle.store_types.specs.declared.WriteReply.{WriteReply}
 use Rattle.calls.specs.Store.{Store}
 use Rattle.calls.specs.Load.{load-refusal, load-store}
 use Rattle.calls.specs.Insert.{insert-kinds, insert-refusal, insert-store, insert-moved}
 use Rattle.calls.specs.Mark.{section-refusal, mark-store}
-use Rattle.calls.specs.Replies.{load-reply, load-words, insert-reply, insert-words, mark-reply, mark-words, hold-reply, question-reply, list-reply, list-tags, list-labels}
+use Rattle.calls.specs.Replies.{load-reply, load-words, insert-reply, insert-words, mark-reply, mark-words, hold-reply, question-reply, list-reply, list-tags, list-labels, write-reply, write-bytes}
 
 -- the calls that may change a store; their arguments are words
 pub data Call : Type 0 where
@@ -60,8 +61,8 @@ unfoldable pub All-fit : List Call → Type 0
 All-fit [] = Unit {0}
 All-fit (c ∷ cs) = Fits c × All-fit cs
 
--- ON WORDS: a call with its reply; of a list also what the two lent lists held before it and hold now. Hold, question and
--- list may come in between; they write no word of the store
+-- ON WORDS: a call with its reply; of a list, and of writing a file, also what the lent lists and bytes held before it and hold
+-- now. Hold, question, list and writing a file may come in between; they write no word of the store
 pub data Event : Type 0 where
   loads : (s r number : ℕ) → (kinds : List ℕ) → LoadReply → Event
   inserts : (kind place : ℕ) → InsertReply → Event
@@ -69,6 +70,7 @@ pub data Event : Type 0 where
   holds : (section : ℕ) → HoldReply → Event
   asks : HeldPair → (d : ℕ) → QuestionReply → Event
   lists : (section : ℕ) → (tags labels tags-now labels-now : List ℕ) → ListReply → Event
+  writes : (bytes bytes-now : List ℕ) → WriteReply → Event
 
 -- the entries' contracts: what the reply is, and what the words then hold
 unfoldable pub Happens : Event → (before after : List ℕ) → Type 0
@@ -79,6 +81,7 @@ Happens (holds x q) ws vs = (q ≡ hold-reply x ws) × (vs ≡ ws)
 Happens (asks p d q) ws vs = (q ≡ question-reply p d ws) × (vs ≡ ws)
 Happens (lists x ts ls us ms q) ws vs =
     (q ≡ list-reply x ws ts ls) × (us ≡ list-tags x ws ts ls) × (ms ≡ list-labels x ws ts ls) × (vs ≡ ws)
+Happens (writes bs cs q) ws vs = (q ≡ write-reply ws bs) × (cs ≡ write-bytes ws bs) × (vs ≡ ws)
 
 -- events one after the other, from words to words
 unfoldable pub Run : (before : List ℕ) → List Event → (after : List ℕ) → Type 0
@@ -111,6 +114,7 @@ told (marks x q ∷ es) = record { call = mark x; accepted = mark-accepted q } �
 told (holds x q ∷ es) = told es
 told (asks p d q ∷ es) = told es
 told (lists x ts ls us ms q ∷ es) = told es
+told (writes bs cs q ∷ es) = told es
 
 unfoldable pub calls-of : List Event → List Call
 calls-of es = map (λ t. t .call) (told es)
@@ -132,6 +136,7 @@ total-moved t (marks x q ∷ es) = total-moved t es
 total-moved t (holds x q ∷ es) = total-moved t es
 total-moved t (asks p d q ∷ es) = total-moved t es
 total-moved t (lists x ts ls us ms q ∷ es) = total-moved t es
+total-moved t (writes bs cs q ∷ es) = total-moved t es
 
 -- the same by the definitions, from a store on
 unfoldable pub moved-by : Call → Store → (total : ℕ) → ℕ

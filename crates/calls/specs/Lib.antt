@@ -8,8 +8,10 @@ pub mod Mark
 pub mod Held
 pub mod Listing
 pub mod Words
+pub mod File
 pub mod Replies
 pub mod Calls
 pub mod Reference
 pub mod Promise
 pub mod Specimens
+pub mod FileSpecimens

@@ -1,19 +1,22 @@
--- What is promised of the store (demands 2 and 3). Each statement is a type; docs/THEOREMS.md names its proof or says
+-- What is promised of the store (demands 2 and 3), and of its files (document 02, CR 3). Each statement is a type; docs/THEOREMS.md names its proof or says
 -- that it is owed. Assumes nothing.
 use mathlib.Core.Path.{_≡_}
-use mathlib.Core.Bool.{true, false}
+use mathlib.Core.Bool.{Bool, true, false, _&&_}
 use mathlib.Core.List.{List, _∷_, _++_, map}
 use mathlib.Core.Option.{some}
 use mathlib.Core.Logic.{_↔_, _⊎_}
 use Prim.Native.Nat.{ℕ, _*_, _-_, _^_, _≤_, _<_}
-use lib.Dec.{ltb}
-use lib.ListN.{length}
+use lib.Dec.{ltb, eqb}
+use lib.ListN.{length, take}
 use Rattle.store_types.specs.Limits.{word-limit, most-levels}
 use Rattle.store_types.specs.declared.HeldPair.{HeldPair}
 use Rattle.store_types.specs.declared.Answer.the-variants.{Yes, No, Stale}
 use Rattle.store_types.specs.declared.LoadReply.the-variants.{Loaded}
 use Rattle.store_types.specs.declared.QuestionReply.the-variants.{Answered}
-use Rattle.store_types.specs.Layout.{at-s, at-r, at-height, at-count, at-first, word-at, label-at}
+use Rattle.store_types.specs.declared.WriteReply.the-variants.{Written}
+use Rattle.store_types.specs.Layout.{at-s, at-r, at-height, at-count, at-first, at-book, header-words, word-at, words-for, label-at}
+use Rattle.store_types.specs.FileLayout.{row-words}
+use Rattle.lists.specs.Lists.{all-hold}
 use Rattle.tree.specs.Row.{rises}
 use Rattle.tree.specs.Book.{height, labels-of}
 use Rattle.tree.specs.Reach.{account-bound}
@@ -25,7 +28,9 @@ use Rattle.calls.specs.Load.{load-refusal, load-store}
 use Rattle.calls.specs.Insert.{labels-end, labels-run-out, row-refusal, insert-store}
 use Rattle.calls.specs.Mark.{section-refusal, mark-store}
 use Rattle.calls.specs.Held.{question}
-use Rattle.calls.specs.Words.{words-of, Says, follow, read}
+use Rattle.calls.specs.Words.{words-of, Says, follow, read, in-front}
+use Rattle.calls.specs.File.{form, file-of, formed, read-file}
+use Rattle.calls.specs.Replies.{write-reply, write-bytes, read-reply, read-words}
 use Rattle.calls.specs.Calls.{Call, load, after, All-fit, judged, moved-after, Event, loads, Happens, Run, told, calls-of, total-moved}
 use Rattle.calls.specs.Reference.{Reference, total, reference-load, reference-after}
 
@@ -158,3 +163,44 @@ unfoldable pub Runs-keep : Type 0
 Runs-keep =
     (s r b n h : ℕ) (ks old ws end : List ℕ) (es : List Event) → Happens (loads s r b ks (Loaded n h)) old ws → Run ws es end →
     Whole-run (length old) (load-store s r b ks) (reference-load s r (length ks)) es end
+
+-- FILES (document 02, CR 3). A list of seven words; bytes written by the form from seven words, of which the fourth counts the
+-- rows, and any rows of seven words
+unfoldable pub is-row : List ℕ → Bool
+is-row ws = eqb (length ws) row-words && all-hold (λ w. ltb w word-limit) ws
+
+pub record Of-the-form (bs : List ℕ) : Type 0 where
+  pub head : List ℕ
+  pub rows : List (List ℕ)
+  pub head-fits : is-row head ≡ true
+  pub rows-fit : all-hold is-row rows ≡ true
+  pub counted : word-at (1 ∷ head) at-count ≡ length rows
+  pub written : bs ≡ form head rows
+
+unfoldable pub Formed-right : Type 0
+Formed-right = (bs : List ℕ) → (formed bs ≡ true) ↔ Of-the-form bs
+
+-- a file is read as a store if and only if the store is sound and this is its file. A store of the definitions may have any
+-- book number, a file only a word: the file of book number 2^32 is that of book number 0
+unfoldable pub File-reader-right : Type 0
+File-reader-right = (bs : List ℕ) (st : Store) → (read-file bs ≡ some st) ↔ ((sound st ≡ true) × (st .number < word-limit) × (bs ≡ file-of st))
+
+-- what writing leaves in the first bytes is read into any words that suffice: it replies n and H, and the words in front are
+-- those that were written
+unfoldable pub Files-read-back : Type 0
+Files-read-back =
+    (ws bs vs : List ℕ) (k : ℕ) → word-at ws at-book < word-limit → write-reply ws bs ≡ Written k → words-for header-words (word-at ws at-count) ≤ length vs →
+    (read-reply (take k (write-bytes ws bs)) vs ≡ Loaded (word-at ws at-count) (word-at ws at-height))
+    × (read-words (take k (write-bytes ws bs)) vs ≡ in-front (take (words-for header-words (word-at ws at-count)) ws) vs)
+
+-- two files that are read as the same words are the same bytes
+unfoldable pub Files-differ : Type 0
+Files-differ =
+    (bs cs ws vs : List ℕ) (n h : ℕ) → read-reply bs ws ≡ Loaded n h → read-reply cs vs ≡ Loaded n h →
+    take (words-for header-words n) (read-words bs ws) ≡ take (words-for header-words n) (read-words cs vs) → bs ≡ cs
+
+-- what holds of the words before a shutdown holds of those that are read back from the file
+unfoldable pub Shutdowns-keep : Type 0
+Shutdowns-keep =
+    (ws bs vs : List ℕ) (k : ℕ) (st : Store) (a : Reference) → Words-kept ws st a → word-at ws at-book < word-limit → write-reply ws bs ≡ Written k →
+    words-for header-words (word-at ws at-count) ≤ length vs → Words-kept (read-words (take k (write-bytes ws bs)) vs) st a

@@ -1,6 +1,6 @@
 -- What each call replies, and what the lent words then hold: for every input, words of any length and content
 -- (document 01, "Calls and their replies"). Assumes nothing: these are definitions.
-use mathlib.Core.Bool.{cond}
+use mathlib.Core.Bool.{not, cond}
 use mathlib.Core.List.{List, [], _∷_}
 use mathlib.Core.Option.{Option, none, some}
 use Prim.Native.Nat.{ℕ, zero, suc}
@@ -21,7 +21,11 @@ use Rattle.store_types.specs.declared.QuestionReply.{QuestionReply}
 use Rattle.store_types.specs.declared.QuestionReply.the-variants as asked
 use Rattle.store_types.specs.declared.ListReply.{ListReply}
 use Rattle.store_types.specs.declared.ListReply.the-variants as list
-use Rattle.store_types.specs.Layout.{header-words}
+use Rattle.store_types.specs.declared.WriteReply.{WriteReply}
+use Rattle.store_types.specs.declared.WriteReply.the-variants as write
+use Rattle.store_types.specs.Layout.{header-words, words-for}
+use Rattle.store_types.specs.FileLayout.{file-bytes}
+use Rattle.lists.specs.Lists.{first}
 use Rattle.tree.specs.Book.{height, loaded}
 use Rattle.calls.specs.Store.{Store, count}
 use Rattle.calls.specs.Load.{load-refusal, load-store}
@@ -30,8 +34,10 @@ use Rattle.calls.specs.Mark.{section-refusal, mark-store, mark-count}
 use Rattle.calls.specs.Held.{hold-pair, question}
 use Rattle.calls.specs.Listing.{list-refusal, listed-tags, listed-labels}
 use Rattle.calls.specs.Words.{words-of, read, in-front}
+use Rattle.calls.specs.File.{file-of, count-in, formed, read-file}
 
--- 1 and 2 come first on every call but load: under 8 words; no store is said. Then the refusal of the store that is
+-- 1 and 2 come first on every call but load and the reading of a file: under 8 words; no store is said. Then the refusal of the
+-- store that is
 unfoldable pub on-store : Option Store → (refusal : Store → ℕ) → ℕ
 on-store none f = 2
 on-store (some st) f = f st
@@ -104,6 +110,31 @@ list-tags x ws ts ls = written (list-refused x ws ts ls) (listed-tags x (said ws
 unfoldable pub list-labels : (section : ℕ) → (words tags labels : List ℕ) → List ℕ
 list-labels x ws ts ls = written (list-refused x ws ts ls) (listed-labels x (said ws)) ls
 
+-- WRITING A FILE into lent bytes (document 02, CR 3): 16 where so many are too few
+unfoldable pub write-refusal : (lent : ℕ) → Store → ℕ
+write-refusal lent st = cond (ltb lent (file-bytes (count st))) 16 0
+
+unfoldable pub write-refused : (words bytes : List ℕ) → ℕ
+write-refused ws bs = refusal-over ws (write-refusal (length bs))
+
+unfoldable pub write-reply : (words bytes : List ℕ) → WriteReply
+write-reply ws bs = replied write.Refused (write-refused ws bs) (write.Written (file-bytes (count (said ws))))
+
+unfoldable pub write-bytes : (words bytes : List ℕ) → List ℕ
+write-bytes ws bs = written (write-refused ws bs) (file-of (said ws)) bs
+
+-- READING A FILE into lent words: 15, 1 as on load, 2
+unfoldable pub file-refusal : (lent : ℕ) → (bytes : List ℕ) → ℕ
+file-refusal lent bs =
+    first ((not (formed bs), 15) ∷ (ltb lent (words-for header-words (count-in bs)), 1) ∷ []) (on-store (read-file bs) (λ st. 0))
+
+unfoldable pub read-reply : (bytes words : List ℕ) → LoadReply
+read-reply bs ws =
+    let st = store-or (read-file bs) in replied load.Refused (file-refusal (length ws) bs) (load.Loaded (count st) (height (st .book)))
+
+unfoldable pub read-words : (bytes words : List ℕ) → List ℕ
+read-words bs ws = written (file-refusal (length ws) bs) (words-of (store-or (read-file bs))) ws
+
 -- THE NUMBERS OF A REPLY, as document 01 gives them: 0 (ok) and the reply's values in its order, or the refusal alone
 unfoldable pub load-numbers : LoadReply → List ℕ
 load-numbers (load.Loaded n h) = 0 ∷ n ∷ h ∷ []
@@ -134,3 +165,7 @@ question-numbers (asked.Refused k) = k ∷ []
 unfoldable pub list-numbers : ListReply → List ℕ
 list-numbers (list.Listed n) = 0 ∷ n ∷ []
 list-numbers (list.Refused k) = k ∷ []
+
+unfoldable pub write-numbers : WriteReply → List ℕ
+write-numbers (write.Written n) = 0 ∷ n ∷ []
+write-numbers (write.Refused k) = k ∷ []

@@ -1,1 +1,1 @@
-// The six calls as definitions: specs/ says what they are, proofs/ what holds of them.
+// The calls as definitions: specs/ says what they are, proofs/ what holds of them.

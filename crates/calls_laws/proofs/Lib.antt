@@ -10,8 +10,12 @@ pub mod Inserts
 pub mod Steps
 pub mod Pairs
 pub mod Fields
+pub mod FileRecords
+pub mod FileForm
 pub mod Reader
 pub mod WordSteps
+pub mod Files
 pub mod Replies
+pub mod FileCalls
 pub mod ListsKeep
 pub mod RunsKeep

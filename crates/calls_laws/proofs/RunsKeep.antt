@@ -26,7 +26,7 @@ use Rattle.calls.specs.Insert.{insert-kinds, position, book-after, insert-refus
 use Rattle.calls.specs.Mark.{section-refusal, mark-store}
 use Rattle.calls.specs.Words.{words-of, Says, in-front}
 use Rattle.calls.specs.Replies.{refusal-over, written, replied, load-reply, load-words, insert-refused, insert-reply, insert-words, mark-reply, mark-words}
-use Rattle.calls.specs.Calls.{Call, load, insert, mark, refusal, changed, accepts, after-one, after, Event, loads, inserts, marks, holds, asks, lists, Happens, Run, Told, load-accepted, insert-accepted, mark-accepted, told, calls-of, total-after-load, total-after-insert, total-moved, moved-by, moved-after, judged}
+use Rattle.calls.specs.Calls.{Call, load, insert, mark, refusal, changed, accepts, after-one, after, Event, loads, inserts, marks, holds, asks, lists, writes, Happens, Run, Told, load-accepted, insert-accepted, mark-accepted, told, calls-of, total-after-load, total-after-insert, total-moved, moved-by, moved-after, judged}
 use Rattle.calls.specs.Reference.{Reference}
 use Rattle.calls.specs.Promise.{Load-sound, Kept, Lists-keep, Words-kept, Runs-keep}
 use Rattle.calls_laws.proofs.Tests.{sane, facts-of}
@@ -176,6 +176,7 @@ ran w (marks x q ∷ es) ws end st t l h (us, here, rest) =
 ran w (holds x q ∷ es) ws end st t l h (us, here, rest) = ran w es ws end st t l h (rw (here .1) at rest)
 ran w (asks p d q ∷ es) ws end st t l h (us, here, rest) = ran w es ws end st t l h (rw (here .1) at rest)
 ran w (lists x ts ls ts′ ls′ q ∷ es) ws end st t l h (us, here, rest) = ran w es ws end st t l h (rw (here .3) at rest)
+ran w (writes bs cs q ∷ es) ws end st t l h (us, here, rest) = ran w es ws end st t l h (rw (here .2) at rest)
 
 -- words that say a kept store hold what the reference list says
 words-kept : {ws : List ℕ} {st : Store} {a : Reference} {t : ℕ} → Says ws st → Kept st a t → Words-kept ws st a

@@ -1,1 +1,1 @@
-// Laws of the six calls (crate calls): proofs/ holds them.
+// Laws of the calls (crate calls): proofs/ holds them.

@@ -1,4 +1,4 @@
--- Demand 1 over any words: what each of the six calls leaves. Assumes nothing.
+-- Demand 1 over any words: what each of the calls leaves. Assumes nothing.
 use mathlib.Core.Path.{_≡_, refl, ap, sym, _∙_}
 use mathlib.Core.Bool.{Bool, true, false, _&&_, _||_, not, true≢false}
 use mathlib.Core.List.{List}
@@ -11,6 +11,7 @@ use lib.Seq.{take-append-seam, drop-append-seam}
 use Rattle.lists.specs.Lists.{first}
 use Rattle.store_types.specs.Limits.{no-tag}
 use Rattle.store_types.specs.declared.ListReply.the-variants.{Listed, Refused}
+use Rattle.store_types.specs.declared.WriteReply.the-variants as writing
 use Rattle.lists.proofs.Tests.{or-left-false, or-right-false}
 use Rattle.calls.specs.Kind.{is-begin}
 use Rattle.calls.specs.Store.{Store, fact, count, label}
@@ -20,16 +21,19 @@ use Rattle.calls.specs.Insert.{insert-kinds, insert-refusal, insert-store}
 use Rattle.calls.specs.Mark.{section-refusal, mark-store}
 use Rattle.calls.specs.Listing.{listed-tags, listed-labels, inside-tests, list-refusal}
 use Rattle.calls.specs.Words.{words-of, Says, in-front}
-use Rattle.calls.specs.Replies.{said, refusal-over, replied, written, load-reply, load-words, insert-refused, insert-reply, insert-words, mark-reply, mark-words, list-refused, list-reply, list-tags, list-labels}
-use Rattle.calls.specs.Calls.{Call, insert, mark, refusal, changed, loads, inserts, marks, holds, asks, lists, Happens, load-accepted, insert-accepted, mark-accepted}
+use Rattle.calls.specs.File.{file-of}
+use Rattle.calls.specs.Replies.{said, refusal-over, replied, written, load-reply, load-words, insert-refused, insert-reply, insert-words, mark-reply, mark-words, list-refused, list-reply, list-tags, list-labels, write-refused, write-reply, write-bytes}
+use Rattle.calls.specs.Calls.{Call, insert, mark, refusal, changed, loads, inserts, marks, holds, asks, lists, writes, Happens, load-accepted, insert-accepted, mark-accepted}
 use Rattle.calls.specs.Promise.{Load-sound}
 use Rattle.calls_laws.proofs.Tests.{passes}
 use Rattle.calls_laws.proofs.Steps.{load-sound, changed-sound}
 use Rattle.calls_laws.proofs.WordSteps.{words-fit, refusal-passed, length-in-front}
 use Rattle.calls_laws.proofs.Replies.{replied-told}
+use Rattle.calls_laws.proofs.Files.{length-file}
+use Rattle.calls_laws.proofs.FileCalls.{file-fits}
 use Rattle.calls_laws.proofs.RunsKeep.{load-fits, changed-fits, load-told, insert-told, mark-told}
 use Rattle.demands.specs.Words.{Fronted}
-use Rattle.demands.specs.Promise.{listed, accepted, changes, Lists-stay, Lists-hold, Every-call}
+use Rattle.demands.specs.Promise.{listed, filed, accepted, changes, Lists-stay, Lists-hold, Every-call}
 
 -- A RESULT IN FRONT, where it fits
 fronted : (new old : List ℕ) → length new ≤ length old → Fronted new old (in-front new old)
@@ -92,9 +96,19 @@ list-fits t l x st z =
     let f = passes (ltb t n || ltb l n) 10 0 (c .1) .0 in
     (ltb-false t n (or-left-false (ltb t n) (ltb l n) f), ltb-false l n (or-right-false (ltb t n) (ltb l n) f))
 
+-- A FILE
+write-told : (k n : ℕ) → filed (replied writing.Refused k (writing.Written n)) ≡ eqb k 0
+unfolding filed
+write-told k n = replied-told writing.Refused filed k (writing.Written n) refl (λ i. refl)
+
+-- an accepted file fits the lent bytes
+write-fits : (ws bs : List ℕ) → write-refused ws bs ≡ 0 → length (file-of (said ws)) ≤ length bs
+unfolding Says
+write-fits ws bs z = let (says, room) = file-fits ws bs z in omega (arith, length-file (said ws) (says .0))
+
 -- EVERY CALL
 pub every-call : Every-call
-unfolding Every-call Happens accepted changes Lists-stay Lists-hold load-reply load-words insert-reply insert-words insert-refused mark-reply mark-words list-reply list-tags list-labels list-refused listed-labels refusal changed
+unfolding Every-call Happens accepted changes Lists-stay Lists-hold load-reply load-words insert-reply insert-words insert-refused mark-reply mark-words list-reply list-tags list-labels list-refused listed-labels write-reply write-bytes refusal changed
 every-call (loads s r b cs q) ws vs (reply, new) =
     let k = load-refusal (length ws) s r cs in
     let told = ap load-accepted reply ∙ load-told k _ _ in
@@ -146,4 +160,14 @@ every-call (lists x ts ls us ms q) ws vs (reply, tags, labels, same) =
         rw tags (written-fronted k (listed q) told new ts (λ z. fits z .0) e),
         rw labels (written-fronted k (listed q) told (listed-labels x (said ws)) ls (λ z. omega (arith, fits z .1, length-map new (label (said ws)))) e),
       );
+    }
+every-call (writes bs cs q) ws vs (reply, bytes, same) =
+    let k = write-refused ws bs in
+    let told = ap filed reply ∙ write-told k _ in
+    let new = file-of (said ws) in
+    record {
+      refused = λ e. (same, bytes ∙ written-stays k (filed q) told new bs e);
+      changed = λ _ e. absurd (true≢false (sym e));
+      reads = λ _. same;
+      writes-lists = λ e. rw bytes (written-fronted k (filed q) told new bs (write-fits ws bs) e);
     }

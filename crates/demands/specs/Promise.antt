@@ -16,18 +16,21 @@ use Rattle.store_types.specs.declared.QuestionReply.{QuestionReply}
 use Rattle.store_types.specs.declared.QuestionReply.the-variants as question-said
 use Rattle.store_types.specs.declared.ListReply.{ListReply}
 use Rattle.store_types.specs.declared.ListReply.the-variants as list-said
+use Rattle.store_types.specs.declared.WriteReply.{WriteReply}
+use Rattle.store_types.specs.declared.WriteReply.the-variants as write-said
 use Rattle.store_types.specs.Layout.{at-count, at-book, header-words, at-mate, at-kind, word-at, field, label-at}
 use Rattle.calls.specs.Store.{Store}
 use Rattle.calls.specs.Sound.{sound}
 use Rattle.calls.specs.Listing.{listed-tags, listed-labels}
 use Rattle.calls.specs.Words.{words-of, Says}
+use Rattle.calls.specs.File.{file-of}
 use Rattle.calls.specs.Replies.{said, refusal-over, insert-reply, insert-words, mark-reply, mark-words, hold-reply, question-reply, list-reply, list-tags, list-labels}
-use Rattle.calls.specs.Calls.{Event, loads, inserts, marks, holds, asks, lists, Happens, Run, load-accepted, insert-accepted, mark-accepted, told}
+use Rattle.calls.specs.Calls.{Event, loads, inserts, marks, holds, asks, lists, writes, Happens, Run, load-accepted, insert-accepted, mark-accepted, told}
 use Rattle.calls.specs.Reference.{Reference, total, reference-load, reference-after}
 use Rattle.demands.specs.Sound.{Sound-words}
 use Rattle.demands.specs.Words.{Book-row, Stand, is-marked, unmarked-of, Inside, Fronted, labels-changed, became-marked}
 
--- DEMAND 1, of any words and each of the six calls. Whether a call was accepted, and whether it is one that changes the store
+-- DEMAND 1, of any words and each of the calls. Whether a call was accepted, and whether it is one that changes the store
 unfoldable pub held : HoldReply → Bool
 held (hold-said.Held p) = true
 held (hold-said.Refused k) = false
@@ -40,6 +43,10 @@ unfoldable pub listed : ListReply → Bool
 listed (list-said.Listed n) = true
 listed (list-said.Refused k) = false
 
+unfoldable pub filed : WriteReply → Bool
+filed (write-said.Written n) = true
+filed (write-said.Refused k) = false
+
 unfoldable pub accepted : Event → Bool
 accepted (loads s r b cs q) = load-accepted q
 accepted (inserts c y q) = insert-accepted q
@@ -47,6 +54,7 @@ accepted (marks x q) = mark-accepted q
 accepted (holds x q) = held q
 accepted (asks p d q) = answered q
 accepted (lists x ts ls us ms q) = listed q
+accepted (writes bs cs q) = filed q
 
 unfoldable pub changes : Event → Bool
 changes (loads s r b cs q) = true
@@ -55,8 +63,9 @@ changes (marks x q) = true
 changes (holds x q) = false
 changes (asks p d q) = false
 changes (lists x ts ls us ms q) = false
+changes (writes bs cs q) = false
 
--- the lent lists of a list: as they were, or with the result in front
+-- the lent lists of a list and the lent bytes of a file: as they were, or with the result in front
 unfoldable pub Lists-stay : Event → Type 0
 Lists-stay (loads s r b cs q) = Unit {0}
 Lists-stay (inserts c y q) = Unit {0}
@@ -64,6 +73,7 @@ Lists-stay (marks x q) = Unit {0}
 Lists-stay (holds x q) = Unit {0}
 Lists-stay (asks p d q) = Unit {0}
 Lists-stay (lists x ts ls us ms q) = (us ≡ ts) × (ms ≡ ls)
+Lists-stay (writes bs cs q) = cs ≡ bs
 
 unfoldable pub Lists-hold : Event → (words : List ℕ) → Type 0
 Lists-hold (loads s r b cs q) ws = Unit {0}
@@ -72,6 +82,7 @@ Lists-hold (marks x q) ws = Unit {0}
 Lists-hold (holds x q) ws = Unit {0}
 Lists-hold (asks p d q) ws = Unit {0}
 Lists-hold (lists x ts ls us ms q) ws = Fronted (listed-tags x (said ws)) ts us × Fronted (listed-labels x (said ws)) ls ms
+Lists-hold (writes bs cs q) ws = Fronted (file-of (said ws)) bs cs
 
 pub record Call-right (e : Event) (ws vs : List ℕ) : Type 0 where
   pub refused : accepted e ≡ false → (vs ≡ ws) × Lists-stay e
@@ -108,6 +119,7 @@ pub data Request : Type 0 where
   hold : (section : ℕ) → Request
   ask : HeldPair → (d : ℕ) → Request
   list : (section : ℕ) → (tags labels : List ℕ) → Request
+  write : (bytes : List ℕ) → Request
 
 unfoldable pub request : Event → Request
 request (loads s r b cs q) = load s r b cs
@@ -116,6 +128,7 @@ request (marks x q) = mark x
 request (holds x q) = hold x
 request (asks p d q) = ask p d
 request (lists x ts ls us ms q) = list x ts ls
+request (writes bs cs q) = write bs
 
 -- a run from words in which just these requests were made, in their order
 pub record Ran-so (ws : List ℕ) (qs : List Request) : Type 0 where
@@ -194,7 +207,7 @@ List-right = (x n : ℕ) (ws ts ls : List ℕ) → list-reply x ws ts ls ≡ lis
 unfoldable pub Sound-says : Type 0
 Sound-says = (ws : List ℕ) → Sound-words ws ↔ Says-some ws
 
--- by every call that is not a load, whatever it refuses besides
+-- by every call that begins with a store, whatever it refuses besides
 unfoldable pub Unsound-two : Type 0
 Unsound-two =
     (ws : List ℕ) (refusal : Store → ℕ) → header-words ≤ length ws → ((st : Store) → refusal st ≡ 2 → ⊥) →

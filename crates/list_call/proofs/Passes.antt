@@ -6,6 +6,7 @@ use Prim.Native.Nat.{ℕ, suc, _+_, _-_, _≤_, _<_}
 use native.Mathlib.Omega.{arith}
 use lib.ListN.{length, set, length-append, length-map}
 use lib.Seq.{sets, length-sets}
+use Rattle.lists.proofs.Sets.{sets-append}
 use Rattle.store_types.specs.Limits.{most-tags}
 use Rattle.store_types.specs.Layout.{at-next, field}
 use Rattle.calls.specs.Store.{place-of, label}
@@ -45,12 +46,6 @@ pub counting-end : {ws : List ℕ} {x₀ y x k : ℕ} → Counting ws x₀ y x k
 counting-end {ws} {x₀} {y} {x} h e =
     let none : unmarked-between (said ws) x y ≡ [] = rw e (between-done (said ws) y) in omega (arith, h .rest, ap length none)
 
--- A RUN OF STORES in two
-sets-append : (us vs l : List ℕ) (i : ℕ) → sets l i (us ++ vs) ≡ sets (sets l i us) (i + length us) vs
-sets-append [] vs l i = let e : i + 0 ≡ i = omega arith in rw e
-sets-append (u ∷ us) vs l i =
-    let e : i + suc (length us) ≡ suc i + length us = omega arith in rw e (sets-append us vs (set l i u) (suc i))
-
 -- WRITING vs to a list from place i on, where all of it is vs₀ to l₀ from its front
 pub record Left (vs l : List ℕ) (i : ℕ) (vs₀ l₀ : List ℕ) : Type 0 where
   pub fits : i + length vs ≤ length l
@@ -64,7 +59,7 @@ left-turn : (us vs : List ℕ) {l vs₀ l₀ : List ℕ} {i : ℕ} → Left (us 
 left-turn us vs {l} {vs₀} {l₀} {i} h =
     record {
       fits = omega (arith, h .fits, length-append us vs, length-sets l i us);
-      rest = sym (sets-append us vs l i) ∙ h .rest;
+      rest = sets-append us vs l i ∙ h .rest;
       same = length-sets l i us ∙ h .same;
     }
 

@@ -17,7 +17,7 @@ pub const TABLE_LENGTH: usize = 24;
 pub const PACKED_LENGTH: usize = 4 * TABLE_LENGTH;
 
 // No sound store is higher: its tags would be more than 200,000.
-const MOST_LEVELS: u32 = 17;
+pub const MOST_LEVELS: u32 = 17;
 
 // Document 01: s and r are each from 2 to 16.
 const LEAST_DEGREE: u32 = 2;

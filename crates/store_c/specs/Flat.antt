@@ -10,15 +10,17 @@ use Rattle.store_types.specs.declared.MarkReply.{MarkReply}
 use Rattle.store_types.specs.declared.HoldReply.{HoldReply}
 use Rattle.store_types.specs.declared.QuestionReply.{QuestionReply}
 use Rattle.store_types.specs.declared.ListReply.{ListReply}
+use Rattle.store_types.specs.declared.WriteReply.{WriteReply}
 use Rattle.xml.specs.declared.SheetReply.{SheetReply}
 use Rattle.xml.specs.Replies.{sheet-numbers}
-use Rattle.calls.specs.Replies.{load-numbers, insert-numbers, mark-numbers, hold-numbers, question-numbers, list-numbers}
+use Rattle.calls.specs.Replies.{load-numbers, insert-numbers, mark-numbers, hold-numbers, question-numbers, list-numbers, write-numbers}
 use Rattle.store_c.specs.declared.flat.Loaded.{Loaded}
 use Rattle.store_c.specs.declared.flat.Inserted.{Inserted}
 use Rattle.store_c.specs.declared.flat.Marked.{Marked}
 use Rattle.store_c.specs.declared.flat.Held.{Held}
 use Rattle.store_c.specs.declared.flat.Answered.{Answered}
 use Rattle.store_c.specs.declared.flat.Listed.{Listed}
+use Rattle.store_c.specs.declared.flat.Written.{Written}
 use Rattle.store_c.specs.declared.flat.Kinds.{Kinds}
 
 -- number i of a reply, from 0; 0 where it has no more
@@ -46,6 +48,9 @@ c-answered q = let ns = question-numbers q in record { refusal = nth 0 ns; answe
 
 unfoldable pub c-listed : ListReply → Listed
 c-listed q = let ns = list-numbers q in record { refusal = nth 0 ns; count = nth 1 ns }
+
+unfoldable pub c-written : WriteReply → Written
+c-written q = let ns = write-numbers q in record { refusal = nth 0 ns; bytes = nth 1 ns }
 
 unfoldable pub c-kinds : SheetReply → Kinds
 c-kinds q = let ns = sheet-numbers q in record { refusal = nth 0 ns; count = nth 1 ns }

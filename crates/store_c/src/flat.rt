@@ -1,7 +1,7 @@
 // The replies as C structs: the refusal, 0 where the call is accepted, then the reply's values, 0 where it is refused.
 ghost use mathlib.Core.Path.{_≡_};
 ghost use Rattle.calls.specs.Replies.{answer-number};
-ghost use Rattle.store_c.specs.Flat.{c-loaded, c-inserted, c-marked, c-held, c-answered, c-listed, c-kinds};
+ghost use Rattle.store_c.specs.Flat.{c-loaded, c-inserted, c-marked, c-held, c-answered, c-listed, c-written, c-kinds};
 use store_types::Answer;
 use store_types::HoldReply;
 use store_types::InsertReply;
@@ -9,6 +9,7 @@ use store_types::ListReply;
 use store_types::LoadReply;
 use store_types::MarkReply;
 use store_types::QuestionReply;
+use store_types::WriteReply;
 use xml::SheetReply;
 
 #[repr(C)]
@@ -51,6 +52,12 @@ pub struct Answered {
 pub struct Listed {
     pub refusal: u32,
     pub count: u32,
+}
+
+#[repr(C)]
+pub struct Written {
+    pub refusal: u32,
+    pub bytes: u32,
 }
 
 #[repr(C)]
@@ -165,6 +172,18 @@ pub fn of_list(reply: ListReply) -> Listed
         ListReply::Refused(k) => Listed {
             refusal: k,
             count: 0,
+        },
+    }
+}
+
+pub fn of_write(reply: WriteReply) -> Written
+    ensures { λ c. ⌜ c ≡ c-written reply ⌝ }
+{
+    match reply {
+        WriteReply::Written(bytes) => Written { refusal: 0, bytes },
+        WriteReply::Refused(k) => Written {
+            refusal: k,
+            bytes: 0,
         },
     }
 }

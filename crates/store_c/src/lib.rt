@@ -1,10 +1,10 @@
-// The six calls on a store and the one on a sheet for C, as include/vekhturop.h declares them: a lent slice is a pointer and a
-// length there, a reply a struct of words. Each contract is that of the entry it calls, through the flat form of the reply; none has a `requires`.
+// The calls on a store, those on its file and the one on a sheet for C, as include/vekhturop.h declares them: a lent slice is a
+// pointer and a length there, a reply a struct of words. Each contract is that of the entry it calls, through the flat form of the reply; none has a `requires`.
 mod flat;
 
 ghost use mathlib.Core.Path.{_≡_};
-ghost use Rattle.calls.specs.Replies.{load-reply, load-words, insert-reply, insert-words, mark-reply, mark-words, hold-reply, question-reply, list-reply, list-tags, list-labels};
-ghost use Rattle.store_c.specs.Flat.{c-loaded, c-inserted, c-marked, c-held, c-answered, c-listed, c-kinds, pair-of};
+ghost use Rattle.calls.specs.Replies.{load-reply, load-words, insert-reply, insert-words, mark-reply, mark-words, hold-reply, question-reply, list-reply, list-tags, list-labels, write-reply, write-bytes, read-reply, read-words};
+ghost use Rattle.store_c.specs.Flat.{c-loaded, c-inserted, c-marked, c-held, c-answered, c-listed, c-written, c-kinds, pair-of};
 ghost use Rattle.xml.specs.Replies.{sheet-reply, sheet-list};
 use flat::Answered;
 use flat::Held;
@@ -13,6 +13,7 @@ use flat::Kinds;
 use flat::Listed;
 use flat::Loaded;
 use flat::Marked;
+use flat::Written;
 use store_types::HeldPair;
 use store_types::Label;
 use store_types::TagId;
@@ -75,6 +76,22 @@ pub extern "C" fn vk_list(begin: u32, words: &[u32], tags: &mut [u32], labels: &
     ensures labels { λ _. ⌜ now (labels .exit) ≡ list-labels begin (now (words .entry)) (now (tags .entry)) (now (labels .entry)) ⌝ }
 {
     flat::of_list(store::list(TagId(begin), words, tags, labels))
+}
+
+#[no_mangle]
+pub extern "C" fn vk_write_file(words: &[u32], bytes: &mut [u8]) -> Written
+    ensures reply { λ c. ⌜ c ≡ c-written (write-reply (now (words .entry)) (now (bytes .entry))) ⌝ }
+    ensures bytes { λ _. ⌜ now (bytes .exit) ≡ write-bytes (now (words .entry)) (now (bytes .entry)) ⌝ }
+{
+    flat::of_write(store::write_file(words, bytes))
+}
+
+#[no_mangle]
+pub extern "C" fn vk_read_file(bytes: &[u8], words: &mut [u32]) -> Loaded
+    ensures reply { λ c. ⌜ c ≡ c-loaded (read-reply (now (bytes .entry)) (now (words .entry))) ⌝ }
+    ensures words { λ _. ⌜ now (words .exit) ≡ read-words (now (bytes .entry)) (now (words .entry)) ⌝ }
+{
+    flat::of_load(store::read_file(bytes, words))
 }
 
 #[no_mangle]

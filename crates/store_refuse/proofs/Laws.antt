@@ -1,4 +1,4 @@
--- Words and the refusals that every call but load begins with: which refusal they give by the walk's verdict, and what each
+-- Words and the refusals that every call on a store begins with: which refusal they give by the walk's verdict, and what each
 -- word of accepted words says of their store. Assumes nothing.
 use mathlib.Core.Path.{_≡_, refl, sym, _∙_}
 use mathlib.Core.Bool.{Bool, true, false, cond}

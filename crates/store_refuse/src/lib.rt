@@ -1,4 +1,4 @@
-// The refusals that every call but load begins with (document 01, "Calls and their replies").
+// The refusals that every call begins with but load and the reading of a file (document 01, "Calls and their replies").
 ghost use mathlib.Core.Path.{_≡_};
 ghost use Rattle.calls.specs.Mark.{section-refusal};
 ghost use Rattle.calls.specs.Replies.{refusal-over};
@@ -7,7 +7,7 @@ use shape::PACKED_LENGTH;
 use shape::TABLE_LENGTH;
 use store_types::TagId;
 
-// 1 and 2, which come first on every call but load; 0 where the words say a store. Then `tables` has the tables of their
+// 1 and 2, which come first on every such call; 0 where the words say a store. Then `tables` has the tables of their
 // header with the numbers of the ancestors of a place, and `sizes` the leaves of each of these below the root, by height.
 pub fn words_refused_at(
     words: &[u32],

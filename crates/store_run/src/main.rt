@@ -1,5 +1,5 @@
-// Runs every entry, and meets every refusal from 1 to 11. What it writes is compared with the file stdout, which is worked
-// out by hand from document 01.
+// Runs every entry, and meets every refusal from 1 to 11, and 15 and 16. What it writes is compared with the file stdout, which is
+// worked out by hand from documents 01 and 02.
 use libc::STDOUT_FILENO;
 use store_types::Answer;
 use store_types::HeldPair;
@@ -11,6 +11,8 @@ use store_types::LoadReply;
 use store_types::MarkReply;
 use store_types::QuestionReply;
 use store_types::TagId;
+use store_types::WriteReply;
+use store_types::file;
 
 fn number(n: u32) {
     io::write_all(STDOUT_FILENO, b" ");
@@ -130,6 +132,29 @@ fn list(begin: TagId, words: &[u32], tags: &mut [u32], labels: &mut [u32]) {
     }
 }
 
+fn write(words: &[u32], bytes: &mut [u8]) {
+    io::write_all(STDOUT_FILENO, b"write");
+    match store::write_file(words, bytes) {
+        WriteReply::Written(n) => {
+            number(n);
+            end();
+        }
+        WriteReply::Refused(k) => refused(k),
+    }
+}
+
+fn read(bytes: &[u8], words: &mut [u32]) {
+    io::write_all(STDOUT_FILENO, b"read");
+    match store::read_file(bytes, words) {
+        LoadReply::Loaded { tags, height } => {
+            number(tags);
+            number(height);
+            end();
+        }
+        LoadReply::Refused(k) => refused(k),
+    }
+}
+
 // Specimens H, I and J: pairs held before the printed case of document 01.
 fn holds(words: &mut [u32]) {
     load(2, 2, b"\x01\x01\x02\x01\x02\x02", words);
@@ -148,12 +173,16 @@ fn insertions(words: &mut [u32]) {
     ask(7, 0, 0, 7, 6, words);
 }
 
-// Words for the tags of each part: 8, 3 and 128.
+// Words for the tags of each part: 8, 3 and 128; and the bytes of the file of the printed load, and where its stamp is.
 const PRINTED_WORDS: usize = words::HEADER_WORDS + words::TAG_WORDS * 8;
 
 const FEW_WORDS: usize = words::HEADER_WORDS + words::TAG_WORDS * 3;
 
 const LIMIT_WORDS: usize = words::HEADER_WORDS + words::TAG_WORDS * 128;
+
+const LOADED_BYTES: usize = file::ROW_BYTES + file::ROW_BYTES * 6 + file::END_BYTES;
+
+const STAMP_BYTE: usize = file::FRONT_BYTES + file::WORD_BYTES * 6;
 
 // The printed case of document 01.
 fn printed() {
@@ -221,8 +250,27 @@ fn limits() {
     load(12, 2, &kinds, &mut words);
 }
 
+// The printed load as a file, and back into other words; then the refusals of both.
+fn files() {
+    let mut words = [0u32; PRINTED_WORDS];
+    let mut bytes = [0u8; LOADED_BYTES];
+    load(2, 2, b"\x01\x01\x02\x01\x02\x02", &mut words);
+    write(&words, &mut bytes);
+    write(&words, &mut bytes[..LOADED_BYTES - 1]);
+    let mut back = [0u32; PRINTED_WORDS];
+    read(&bytes, &mut back);
+    hold(TagId(3), &back);
+    read(&bytes[..LOADED_BYTES - 1], &mut back);
+    read(&bytes, &mut back[..43]);
+    bytes[STAMP_BYTE] = 7;
+    read(&bytes, &mut back);
+    bytes[STAMP_BYTE] = 6;
+    read(&bytes, &mut back);
+}
+
 fn main() {
     printed();
     refusals();
     limits();
+    files();
 }

@@ -1,4 +1,6 @@
-// The two kinds of number, held pairs, and the replies of the six calls.
+// The two kinds of number, held pairs, and the replies of the calls.
+pub mod file;
+
 ghost use mathlib.Core.Path.{_≡_};
 ghost use lib.Dec.{eqb};
 ghost use Rattle.store_types.specs.Limits.{no-tag};
@@ -93,5 +95,10 @@ pub enum QuestionReply {
 
 pub enum ListReply {
     Listed(u32),
+    Refused(u32),
+}
+
+pub enum WriteReply {
+    Written(u32),
     Refused(u32),
 }

@@ -228,6 +228,13 @@ module _ (ws : List ℕ) (n o x : ℕ) where
       let all = simp and-eq-true-iff at e in
       ((λ z. false≢true (rw (eq-eqb o no-tag z) at (all .0 .0))), eqb-true (field ws x at-up) (field ws o at-up) (all .1 .0 .0))
 
+  -- by the whole test of its kind
+  pub end-open : (c : ℕ) → kind-fits ws n o x c ≡ true → c % 16 ≡ 2 → (o ≡ no-tag → ⊥) × (field ws x at-up ≡ field ws o at-up)
+  unfolding kind-fits
+  end-open c e is-end =
+      end-up c
+      (last-test (leb 32 c) (eqb (c % 16) 2) (end-fits ws n o x c) (rw (ne-eqb (c % 16) 3 (λ f. omega arith), ne-eqb (c % 16) 1 (λ f. omega arith)) at e))
+
   -- the begins that are open behind any tag that fits
   open-kept : x < n → Open ws n o → kind-fits ws n o x (field ws x at-kind) ≡ true → Open ws n (open-after ws o x (field ws x at-kind))
   unfolding kind-fits open-after
@@ -239,7 +246,7 @@ module _ (ws : List ℕ) (n o x : ℕ) where
       (λ one. rw (ne-eqb (c % 16) 3 no-text, eq-eqb (c % 16) 1 one)
       (begin below (begin-of c kind one) (rw (inner-up ws n o x c e (λ z. omega arith)) around)))
       (λ no-begin. rw (ne-eqb (c % 16) 3 no-text, ne-eqb (c % 16) 1 no-begin)
-      (let up = end-up c (last-test (leb 32 c) (eqb (c % 16) 2) (end-fits ws n o x c) (rw (ne-eqb (c % 16) 3 no-text, ne-eqb (c % 16) 1 no-begin) at e)) in
+      (let up = end-open c e (omega (arith, kind)) in
       rw (up .1) (⊎-elim (λ z. absurd (up .0 z)) (λ p. p .2) (open-cases around)))))
 
 -- what a tag that passes says

@@ -15,21 +15,21 @@ use store_types::TagId;
 use words::Offset;
 
 // How many tags the book has, and the height of the root's children.
-struct Extent {
-    n: u32,
-    under: usize,
+pub struct Extent {
+    pub n: u32,
+    pub under: usize,
 }
 
 // Where the pass stands: its place, which is the tags so far, marked ones too; the next tag and where its record stands, the
 // tag before it, the innermost open begin, the marked tags so far, and the label that the next child is to have.
-struct State {
-    place: u32,
-    tag: TagId,
-    at: Offset,
-    prior: TagId,
-    parent: TagId,
-    marks: u32,
-    expect: u64,
+pub struct State {
+    pub place: u32,
+    pub tag: TagId,
+    pub at: Offset,
+    pub prior: TagId,
+    pub parent: TagId,
+    pub marks: u32,
+    pub expect: u64,
 }
 
 // One tag's number and its label: of the next child of the open node of height 1, or of the first leaf of new nodes.
@@ -81,7 +81,7 @@ fn passed(words: &[u32], n: u32, end: u64, v: State) -> State
 }
 
 // Behind the last tag: none follows, none is open, every open node is within its limits, and the stamp is.
-fn ends_well(
+pub fn ends_well(
     words: &[u32],
     size: Extent,
     v: State,

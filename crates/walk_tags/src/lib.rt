@@ -27,7 +27,7 @@ pub fn pairs() -> [u32; 32]
     t
 }
 
-fn may_stand(pairs: &[u32; 32], kind: u32, around: u32) -> bool
+pub fn may_stand(pairs: &[u32; 32], kind: u32, around: u32) -> bool
     requires { ⌜ kind < 32 ⌝ }
     ensures { λ t. ⌜ t ≡ bit-of (getD (now (pairs .entry)) kind 0) around ⌝ }
 {

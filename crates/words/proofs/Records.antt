@@ -5,7 +5,7 @@ use mathlib.Core.List.{List, [], _∷_, _++_, append-assoc, flatMap}
 use Prim.Native.Nat.{ℕ, zero, suc, _+_, _*_, _≤_, _<_}
 use native.Mathlib.Nat.{zero-add, add-zero, not-suc-le-zero, le-of-suc-le-suc}
 use native.Mathlib.Omega.{arith}
-use lib.ListN.{length, getD, set, drop, length-append, List·getD-append}
+use lib.ListN.{length, getD, set, take, drop, length-append, List·getD-append}
 use lib.Seq.{getD-append-add, drop-cons}
 use Rattle.lists.specs.Lists.{numbers}
 use Rattle.lists.proofs.Numbers.{length-numbers, getD-numbers}
@@ -105,6 +105,11 @@ record-of ws x =
 record-window : (ws : List ℕ) (x : ℕ) → window ws (words-for header-words x) 0 tag-words ≡ record-of ws x
 unfolding label-at field records-at words-for
 record-window ws x = rw (add-zero (header-words + tag-words * x))
+
+-- which is that part of the words
+pub record-part : (ws : List ℕ) (x : ℕ) → words-for header-words x + tag-words ≤ length ws →
+    take tag-words (drop (words-for header-words x) ws) ≡ record-of ws x
+record-part ws x l = ap (take tag-words) (drop-part ws (words-for header-words x) tag-words l) ∙ record-window ws x
 
 module _ (ws head : List ℕ) (f : ℕ → List ℕ) (n : ℕ) (header : head ≡ header-of ws) (records : (x : ℕ) → x < n → f x ≡ record-of ws x)
     (room : words-for header-words n ≤ length ws) where

@@ -1,0 +1,4 @@
+pub mod TagRows
+pub mod OpenLaws
+pub mod JudgeLaws
+pub mod WholeLaws
