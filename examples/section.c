@@ -1,5 +1,6 @@
 /* A session on one section of a book: it holds the section's pair of labels, shows it with a write, finds it stale once the
- * book has been relabelled, and holds it again. Then the book is listed, and once more with a part of it marked.
+ * book has been relabelled, and holds it again. Then the book is listed, and once more with a part of it marked. Last it is
+ * saved as a file, and read back into other words.
  *
  *     ./install PREFIX && export PKG_CONFIG_PATH=PREFIX/lib/pkgconfig
  *     cc examples/section.c $(pkg-config --cflags --libs vekhturop) -o section
@@ -7,6 +8,7 @@
 #include <inttypes.h>
 #include <stdio.h>
 #include <stdlib.h>
+#include <string.h>
 #include <vekhturop.h>
 
 #define MOST 100
@@ -59,6 +61,23 @@ static void list(void)
     printf("\n");
 }
 
+/* A program that keeps the book writes the file's bytes to disk here, and reads them when it starts again. */
+static void save_and_read(void)
+{
+    static uint8_t file[VK_FILE_BYTES(MOST)];
+    static uint32_t again[VK_WORDS(MOST)];
+    vk_written written = vk_write_file(words, len, file, sizeof file);
+    vk_loaded loaded;
+    int same;
+
+    accept("write", written.refusal);
+    printf("saved %" PRIu32 " bytes\n", written.bytes);
+    loaded = vk_read_file(file, written.bytes, again, len);
+    accept("read", loaded.refusal);
+    same = memcmp(words, again, VK_WORDS(loaded.tags) * sizeof *words) == 0;
+    printf("read %" PRIu32 " tags, height %" PRIu32 ": %s words\n", loaded.tags, loaded.height, same ? "the same" : "other");
+}
+
 int main(void)
 {
     static const uint8_t kinds[] = { VK_BEGIN, VK_BEGIN, VK_END, VK_BEGIN, VK_END, VK_END };
@@ -82,5 +101,6 @@ int main(void)
     accept("mark", marked.refusal);
     printf("marked %" PRIu32 "\n", marked.marked);
     list();
+    save_and_read();
     return 0;
 }

@@ -1,14 +1,22 @@
 /* Vekhturop: a verified label store, for C and C++.
  *
  * A book is a row of tags (begins, ends, texts). Each tag has a number for life and a label for now; labels rise along the
- * book. A tag number is an index, a label is only compared: never pass one as the other. Six calls are on a store; one more,
- * vk_xml_kinds, reads the kinds that a book is loaded from out of a sheet of XML.
+ * book. A tag number is an index, a label is only compared: never pass one as the other. Six calls are on a store; two more,
+ * vk_write_file and vk_read_file, keep its book as the bytes of a file; and vk_xml_kinds reads the kinds that a book is
+ * loaded from out of a sheet of XML.
  *
  * WORDS. A store lives in words that the caller lends to each call: 8 + 6n of them for n tags, VK_WORDS(n). Nothing else
- * is kept between calls, nothing is allocated, and the words may be copied or written to a file as they are.
+ * is kept between calls, nothing is allocated, and the words may be copied as they are.
  *   words 0 to 7        1; s; r; height H; tags issued n; first tag or VK_NO_TAG; book number; stamp (changes since load)
  *   six a tag, from 0   label; next; prior; mate; up; kind (1 begin, 2 end, 3 text; 17, 18, 19 the same when marked)
- * Every call on a store but vk_load first checks that the words say a sound one, in one pass over all tags.
+ * Every call on a store but vk_load and vk_read_file first checks that the words say a sound one, in one pass over all tags.
+ *
+ * FILES. The bytes of a book are the same on every machine: records, each a 32-bit length of what follows it, a 16-bit kind,
+ * then words, all little-endian. 44 + 34n of them for n tags, VK_FILE_BYTES(n).
+ *   kind 1, length 30   s; r; H; n; first tag or VK_NO_TAG; book number; stamp
+ *   kind 2, length 30   a tag's number; label; next; prior; mate; up; kind: one record a tag, in book order
+ *   kind 3, length 6    n; this record is the last
+ * A book that was written reads back to the same words, and no two files read as the same book.
  *
  * REPLIES. The first field of every reply is the refusal: 0 where the call is accepted. Where it is not 0, every other
  * field is 0 and no lent word or byte is changed. An accepted call changes no word or byte behind those it writes.
@@ -33,6 +41,9 @@ extern "C" {
 /* How many words a store of n tags needs. */
 #define VK_WORDS(n) ((size_t)8 + (size_t)6 * (size_t)(n))
 
+/* How many bytes the file of a book of n tags has. */
+#define VK_FILE_BYTES(n) ((size_t)44 + (size_t)34 * (size_t)(n))
+
 /* The most tags of a book, marked ones counted. */
 #define VK_MOST_TAGS 200000
 
@@ -50,8 +61,8 @@ extern "C" {
 
 /* Refusals. "All" are the six calls on a store. */
 #define VK_ACCEPTED 0
-#define VK_TOO_FEW_WORDS 1   /* all: under 8 words; load: under 8 + 6n */
-#define VK_NOT_SOUND 2       /* all but load: the words say no sound store */
+#define VK_TOO_FEW_WORDS 1   /* all, write_file: under 8 words; load, read_file: under 8 + 6n */
+#define VK_NOT_SOUND 2       /* all but load, write_file: the words say no sound store; read_file: the file says none */
 #define VK_DEGREE 3          /* load: s or r outside 2 to 16 */
 #define VK_KIND 4            /* load, insert: a kind not allowed there */
 #define VK_NESTING 5         /* load: kinds not properly nested */
@@ -64,6 +75,8 @@ extern "C" {
 #define VK_NOT_A_SHEET 12    /* xml_kinds: the text is not in the grammar */
 #define VK_TOO_DEEP 13       /* xml_kinds: a whole tag would open a 65th element */
 #define VK_NOT_READ 14       /* xml_kinds: a construct begins with <? or <!DOCTYPE */
+#define VK_NOT_A_FILE 15     /* read_file: the lengths, kinds or counts of the records are not a file's */
+#define VK_TOO_FEW_BYTES 16  /* write_file: under 44 + 34n bytes */
 
 /* Answers of vk_question. */
 #define VK_NO 0
@@ -106,6 +119,11 @@ typedef struct vk_listed {
     uint32_t count; /* how many tags were written */
 } vk_listed;
 
+typedef struct vk_written {
+    uint32_t refusal;
+    uint32_t bytes; /* how many bytes the file has */
+} vk_written;
+
 typedef struct vk_kinds {
     uint32_t refusal;
     size_t count; /* how many kinds were written */
@@ -137,6 +155,17 @@ vk_answered vk_question(uint32_t book, uint32_t tag, uint32_t start, uint32_t en
  * tags, labels into labels. Elements behind them stay as they are. Refusals: 1, 2, 8, 9, 10, 11. */
 vk_listed vk_list(uint32_t begin, const uint32_t *words, size_t words_len, uint32_t *tags, size_t tags_len,
                   uint32_t *labels, size_t labels_len);
+
+/* Writes the book of the words as a file. Bytes behind it stay as they are. VK_FILE_BYTES(n) bytes suffice for a book of n
+ * tags. Refusals: 1, 2, 16. */
+vk_written vk_write_file(const uint32_t *words, size_t words_len, uint8_t *bytes, size_t bytes_len);
+
+/* Makes the words the store of a file, whatever they held before, its stamp too; words behind it stay as they are. The bytes
+ * must be the whole file and nothing behind it: where they came out of a longer buffer, lend as many as writing replied.
+ * Refusals: 15, by the bytes alone; 1; then 2, which is everything else: also tags out of order, doubled or unknown, and
+ * over VK_MOST_TAGS of them. A file is judged before a word is written. For that the call takes about 32 KB of stack, and
+ * about 0.43 MB for a file in which more than 1,024 begins are open at once. */
+vk_loaded vk_read_file(const uint8_t *bytes, size_t bytes_len, uint32_t *words, size_t words_len);
 
 /* Reads a sheet and writes its kinds (VK_BEGIN, VK_END, VK_TEXT) in book order; bytes behind them stay as they are. A list
  * of text_len bytes suffices for every sheet. There is no limit of VK_MOST_TAGS here: vk_load has it.

@@ -2,7 +2,7 @@
 //! within a repetition, so that what disturbs the machine disturbs all alike.
 
 use crate::books::{self, Sheet};
-use crate::plain::Plain;
+use crate::plain::{Plain, bytes_for};
 use crate::store::{Store, Verified};
 use crate::words::*;
 use draw::Rng;
@@ -23,10 +23,22 @@ pub enum Call {
     Question,
     List,
     Load,
+    /// Of a file.
+    Write,
+    Read,
 }
 
-pub const CALLS: [Call; 7] =
-    [Call::Hold, Call::Text, Call::Element, Call::Mark, Call::Question, Call::List, Call::Load];
+pub const CALLS: [Call; 9] = [
+    Call::Hold,
+    Call::Text,
+    Call::Element,
+    Call::Mark,
+    Call::Question,
+    Call::List,
+    Call::Load,
+    Call::Write,
+    Call::Read,
+];
 
 #[derive(Clone, Copy, PartialEq, Eq)]
 pub struct Case {
@@ -93,6 +105,7 @@ struct Lent {
     words: Vec<u32>,
     tags: Vec<u32>,
     labels: Vec<u32>,
+    file: Vec<u8>,
 }
 
 fn reply<const N: usize>(words: [u32; N]) -> [u32; 5] {
@@ -111,6 +124,8 @@ fn perform<S: Store>(call: Call, lent: &mut Lent, draw: &Draw) -> [u32; 5] {
         Call::Question => reply(S::question(draw.pair, draw.d, words)),
         Call::List => reply(S::list(NO_TAG, words, &mut lent.tags, &mut lent.labels)),
         Call::Load => reply(S::load(words[1], words[2], words[BOOK], &lent.kinds, words)),
+        Call::Write => reply(S::write_file(words, &mut lent.file)),
+        Call::Read => reply(S::read_file(&lent.file, words)),
     }
 }
 
@@ -132,6 +147,7 @@ pub struct Bench {
     case: Case,
     rng: Rng,
     book: Vec<u32>,
+    file: Vec<u8>,
     lent: Lent,
     bare: Vec<Duration>,
     verified: [Vec<Duration>; CALLS.len()],
@@ -147,27 +163,42 @@ impl Bench {
         if case.shuffled {
             book = books::shuffled(&book, &mut rng);
         }
-        let lent = Lent { kinds, words: book.clone(), tags: vec![0; case.n], labels: vec![0; case.n] };
-        Some(Bench { case, rng, book, lent, bare: vec![], verified: Default::default(), plain: Default::default() })
+        let mut file = vec![0; bytes_for(case.n)];
+        assert_eq!(Plain::write_file(&book, &mut file), [0, file.len() as u32], "a book that is loaded is written");
+        let (words, tags, labels) = (book.clone(), vec![0; case.n], vec![0; case.n]);
+        let lent = Lent { kinds, words, tags, labels, file: file.clone() };
+        let (verified, plain) = Default::default();
+        Some(Bench { case, rng, book, file, lent, bare: vec![], verified, plain })
+    }
+
+    /// What a call is lent, as it was.
+    fn make_ready(&mut self, call: Call) {
+        // The file first: the words are then just copied for every call, whether it takes a file or not.
+        if matches!(call, Call::Write | Call::Read) {
+            self.lent.file.copy_from_slice(&self.file);
+        }
+        self.lent.words.copy_from_slice(&self.book);
+    }
+
+    fn time<S: Store>(&mut self, call: Call, draw: &Draw) -> (Duration, [u32; 5]) {
+        self.make_ready(call);
+        timed(|| perform::<S>(call, black_box(&mut self.lent), draw))
     }
 
     /// Times everything once.
     pub fn repeat(&mut self) {
         let draw = Draw::new(&self.book, &mut self.rng);
-        let lent = &mut self.lent;
         // Everything timed finds the words just copied, so that nothing is warmer in the cache than another.
-        lent.words.copy_from_slice(&self.book);
+        self.lent.words.copy_from_slice(&self.book);
         // SAFETY: the words of a book just loaded, or of one whose tags were renumbered.
-        self.bare.push(timed(|| unsafe { bare_walk(black_box(&lent.words)) }).0);
+        self.bare.push(timed(|| unsafe { bare_walk(black_box(&self.lent.words)) }).0);
         for k in 0..CALLS.len() {
             // Each time another call comes first: a processor guesses better what it has just walked.
             let i = (k + self.bare.len()) % CALLS.len();
             let call = CALLS[i];
-            lent.words.copy_from_slice(&self.book);
-            let (time, mine) = timed(|| perform::<Verified>(call, black_box(lent), &draw));
+            let (time, mine) = self.time::<Verified>(call, &draw);
             self.verified[i].push(time);
-            lent.words.copy_from_slice(&self.book);
-            let (time, theirs) = timed(|| perform::<Plain>(call, black_box(lent), &draw));
+            let (time, theirs) = self.time::<Plain>(call, &draw);
             self.plain[i].push(time);
             assert!(mine[0] == 0 && mine == theirs, "replies {mine:?} and {theirs:?}");
         }

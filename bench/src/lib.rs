@@ -1,9 +1,9 @@
 //! The benchmark of the label store. Times are given as ratios, of medians of one run; for sheets as MB/s too.
 //!
 //! `plain` is the unverified version that the verified store is held against, `verified` the C interface, `calls` what
-//! is timed and how, `small` the same of a book of eight tags and `xml` of sheets, `branches` what a branch on the kind
-//! costs, `moved` and `bits` the figures by which s and r are chosen, `others` what could be chosen in place of the L-Tree.
-//! `report` puts all of it into tables, `plot` draws heat maps and `picture` trees.
+//! is timed and how, files too, `small` the same of a book of eight tags and `xml` of sheets, `branches` what a branch on
+//! the kind costs, `moved` and `bits` the figures by which s and r are chosen, `others` what could be chosen in place of
+//! the L-Tree. `report` puts all of it into tables, `plot` draws heat maps and `picture` trees.
 
 pub mod bits;
 pub mod books;

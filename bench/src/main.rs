@@ -3,7 +3,7 @@
 
 use bench::books::{SHEETS, Sheet};
 use bench::calls::{Bench, Case, SHAPES, SIZES, Times};
-use bench::report::{Section, calls, filled, targets};
+use bench::report::{Section, calls, files, filled, targets};
 use bench::table::thousands;
 use bench::{bits, branches, moved, others, picture, plot, small, store, xml};
 use std::path::{Path, PathBuf};
@@ -98,6 +98,7 @@ fn main() -> ExitCode {
             title: "Plain call / bare walk",
             body: calls(&times, |it, i| it.plain[i] / it.bare),
         },
+        Section { name: "files", title: "Files", body: files(&times) },
         Section { name: "small", title: "Small books", body: small::tables(&small) },
         Section { name: "sheets", title: "Sheets", body: xml::table(&speeds) },
         Section { name: "branches", title: "A branch on the kind", body: branches::table(&branches::ratios(1_000)) },

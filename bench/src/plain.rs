@@ -1,6 +1,7 @@
 //! A plain unverified version of the store: the same calls on the same words and texts, as a Rust programmer would write
 //! them for speed. It is what the verified store's speed is held against; tests compare it with the reference.
 
+mod file;
 mod insert;
 mod load;
 mod read;
@@ -10,6 +11,7 @@ mod spread;
 mod xml;
 
 use crate::store::{Reader, Store};
+pub use file::bytes_for;
 
 pub struct Plain;
 
@@ -36,6 +38,14 @@ impl Store for Plain {
 
     fn list(begin: u32, words: &[u32], tags: &mut [u32], labels: &mut [u32]) -> [u32; 2] {
         read::list(begin, words, tags, labels)
+    }
+
+    fn write_file(words: &[u32], bytes: &mut [u8]) -> [u32; 2] {
+        file::write(words, bytes)
+    }
+
+    fn read_file(bytes: &[u8], words: &mut [u32]) -> [u32; 3] {
+        file::read(bytes, words)
     }
 }
 

@@ -3,7 +3,10 @@
 use crate::books::{SHEETS, Sheet};
 use crate::calls::{CALLS, Call, Times};
 use crate::table::{table, thousands};
-use crate::xml::{MOST, Speed};
+use crate::xml::Speed;
+
+/// The most that a verified reading of a sheet, or a reading or writing of a file, may take in plain ones.
+const MOST: f64 = 1.3;
 
 /// A generated piece of the document, which stands there between `<!-- bench:NAME -->` and `<!-- end -->`.
 pub struct Section {
@@ -12,26 +15,55 @@ pub struct Section {
     pub body: String,
 }
 
-/// One row a case, one column a call: what `figure` makes of the case and the call's place in CALLS.
+/// One row a case, with these figures of it; a dash where it has none.
+fn cases<const N: usize>(all: &[Times], names: [&str; N], figures: impl Fn(&Times) -> [Option<f64>; N]) -> String {
+    let shown = |figure: Option<f64>| figure.map_or("–".into(), |it| format!("{it:.2}"));
+    let row = |times: &Times| {
+        let case = times.case;
+        let order = if case.shuffled { "shuffled" } else { "in order" };
+        let of = [thousands(case.n), name(case.sheet).into(), order.into(), format!("{}, {}", case.s, case.r)];
+        of.into_iter().chain(figures(times).map(shown)).collect()
+    };
+    let head: Vec<String> = ["tags", "kinds", "in memory", "s, r"].into_iter().chain(names).map(String::from).collect();
+    table(4, &head, &all.iter().map(row).collect::<Vec<_>>())
+}
+
+/// Document 01's calls, as their tables show them.
+const COLUMNS: [(Call, &str); 7] = [
+    (Call::Hold, "walk (hold)"),
+    (Call::Text, "text"),
+    (Call::Element, "element"),
+    (Call::Mark, "mark"),
+    (Call::Question, "question"),
+    (Call::List, "list"),
+    (Call::Load, "load"),
+];
+
+/// One column a call: what `figure` makes of the case and the call's place in CALLS.
 pub fn calls(all: &[Times], figure: impl Fn(&Times, usize) -> f64) -> String {
-    let head =
-        ["tags", "kinds", "in memory", "s, r", "walk (hold)", "text", "element", "mark", "question", "list", "load"];
-    let rows: Vec<Vec<String>> = all
-        .iter()
-        .map(|times| {
-            let case = times.case;
-            let order = if case.shuffled { "shuffled" } else { "in order" };
-            let mut row =
-                vec![thousands(case.n), name(case.sheet).into(), order.into(), format!("{}, {}", case.s, case.r)];
-            row.extend((0..CALLS.len()).map(|i| {
-                // A load puts tags in order, whatever the words held before.
-                let out = CALLS[i] == Call::Load && case.shuffled;
-                if out { "–".into() } else { format!("{:.2}", figure(times, i)) }
-            }));
-            row
-        })
-        .collect();
-    table(4, &head.map(String::from), &rows)
+    cases(all, COLUMNS.map(|(_, name)| name), |times| {
+        // A load puts tags in order, whatever the words held before.
+        COLUMNS.map(|(call, _)| (call != Call::Load || !times.case.shuffled).then(|| figure(times, place(call))))
+    })
+}
+
+/// Files beside the walk and beside plain ones.
+pub fn files(all: &[Times]) -> String {
+    let names = ["write / walk", "read / walk", "write, verified / plain", "read, verified / plain"];
+    cases(all, names, |it| {
+        [over_walk(it, Call::Write), over_walk(it, Call::Read), over_plain(it, Call::Write), over_plain(it, Call::Read)]
+            .map(Some)
+    })
+}
+
+/// A verified call in walks.
+fn over_walk(times: &Times, call: Call) -> f64 {
+    times.verified[place(call)] / times.verified[place(Call::Hold)]
+}
+
+/// A verified call in plain ones.
+fn over_plain(times: &Times, call: Call) -> f64 {
+    times.verified[place(call)] / times.plain[place(call)]
 }
 
 fn name(sheet: Sheet) -> &'static str {
@@ -62,7 +94,14 @@ pub fn targets(all: &[Times], speeds: &[Speed]) -> String {
     for (call, name) in [(Call::Text, "text"), (Call::Element, "element")] {
         for it in just_loaded() {
             let what = format!("20,000 tags just loaded, {}: insert {name} / walk", kinds(it));
-            row(what, it.verified[place(call)] / it.verified[walk], 1.2);
+            row(what, over_walk(it, call), 1.2);
+        }
+    }
+    for (call, name, most) in [(Call::Write, "write", 2.0), (Call::Read, "read", 3.0)] {
+        for it in just_loaded() {
+            let of = |what| format!("20,000 tags just loaded, {}: {name} file{what}", kinds(it));
+            row(of(" / walk"), over_walk(it, call), most);
+            row(of(", verified / plain"), over_plain(it, call), MOST);
         }
     }
     for it in all.iter().filter(|it| it.case.n > 20_000 && it.case.shuffled) {

@@ -1,4 +1,5 @@
-//! What is measured: anything that makes document 01's six calls on lent slices, and anything that reads sheets.
+//! What is measured: anything that makes document 01's six calls on lent slices and keeps books as files, and anything that
+//! reads sheets.
 
 /// A reply is a row of words: the refusal's number or 0, then the fields in document 01's order.
 pub trait Store {
@@ -9,6 +10,8 @@ pub trait Store {
     /// The pair is book, tag, start and end label. Answers: 0 no, 1 yes, 2 stale.
     fn question(pair: [u32; 4], d: u32, words: &[u32]) -> [u32; 2];
     fn list(begin: u32, words: &[u32], tags: &mut [u32], labels: &mut [u32]) -> [u32; 2];
+    fn write_file(words: &[u32], bytes: &mut [u8]) -> [u32; 2];
+    fn read_file(bytes: &[u8], words: &mut [u32]) -> [u32; 3];
 }
 
 pub trait Reader {

@@ -1,11 +1,12 @@
 //! The verified store through its C interface.
 
 use crate::store::{Reader, Store};
-use vekhturop_sys::{vk_hold, vk_insert, vk_list, vk_load, vk_mark, vk_question, vk_xml_kinds};
+use vekhturop_sys::{vk_hold, vk_insert, vk_list, vk_load, vk_mark, vk_question};
+use vekhturop_sys::{vk_read_file, vk_write_file, vk_xml_kinds};
 
 pub struct Verified;
 
-// SAFETY, for all seven: every pointer and length is that of a slice lent for the call.
+// SAFETY, for all nine: every pointer and length is that of a slice lent for the call.
 impl Store for Verified {
     fn load(s: u32, r: u32, book: u32, kinds: &[u8], words: &mut [u32]) -> [u32; 3] {
         unsafe { vk_load(s, r, book, kinds.as_ptr(), kinds.len(), words.as_mut_ptr(), words.len()) }.into()
@@ -31,6 +32,14 @@ impl Store for Verified {
         let (words, len) = (words.as_ptr(), words.len());
         let (tags, tags_len) = (tags.as_mut_ptr(), tags.len());
         unsafe { vk_list(begin, words, len, tags, tags_len, labels.as_mut_ptr(), labels.len()) }.into()
+    }
+
+    fn write_file(words: &[u32], bytes: &mut [u8]) -> [u32; 2] {
+        unsafe { vk_write_file(words.as_ptr(), words.len(), bytes.as_mut_ptr(), bytes.len()) }.into()
+    }
+
+    fn read_file(bytes: &[u8], words: &mut [u32]) -> [u32; 3] {
+        unsafe { vk_read_file(bytes.as_ptr(), bytes.len(), words.as_mut_ptr(), words.len()) }.into()
     }
 }
 

@@ -11,9 +11,6 @@ use std::time::Duration;
 /// The bytes of a sheet, but for the one tag.
 pub const SIZE: usize = 1_000_000;
 
-/// The most that a verified reading may take, in plain ones.
-pub const MOST: f64 = 1.3;
-
 /// Attributes of the one tag.
 const MANY: usize = 1_000;
 

@@ -1,9 +1,9 @@
 //! The books that are measured on, and what is made of the figures.
 
 use bench::books::{SHEETS, Sheet};
-use bench::calls::{Bench, Case};
+use bench::calls::{Bench, Case, Times};
 use bench::plain::Plain;
-use bench::report::{Section, filled, targets};
+use bench::report::{Section, files, filled, targets};
 use bench::store::Store;
 use bench::words::*;
 use bench::{bits, books, moved, small, xml};
@@ -37,16 +37,40 @@ fn a_regular_sheet_is_sections_of_passes() {
     assert_eq!(letters, format!("{section}{section}TT"));
 }
 
+fn timed(case: Case, repetitions: usize) -> Times {
+    let mut bench = Bench::new(case).expect("labels fit");
+    (0..repetitions).for_each(|_| bench.repeat());
+    bench.times()
+}
+
 /// Every call is accepted and both subjects reply alike, which `repeat` asserts; a book that does not fit is left out.
 #[test]
 fn cases_are_timed_or_left_out() {
     for (sheet, _) in SHEETS {
         for shuffled in [false, true] {
-            let mut bench = Bench::new(Case { n: 300, s: 4, r: 4, sheet, shuffled }).expect("labels fit");
-            (0..50).for_each(|_| bench.repeat());
-            assert!(bench.times().bare > 0.0);
+            assert!(timed(Case { n: 300, s: 4, r: 4, sheet, shuffled }, 50).bare > 0.0);
         }
         assert!(Bench::new(Case { n: 300, s: 16, r: 2, sheet, shuffled: false }).is_none());
+    }
+}
+
+/// Files have a table of their own, and for books of 20,000 tags just loaded they are judged twice each: beside the walk, and
+/// beside plain ones. A book of another size is only told.
+#[test]
+fn files_are_judged() {
+    let case = |n, shuffled| Case { n, s: 2, r: 2, sheet: Sheet::Random, shuffled };
+    let all = [case(300, false), case(20_000, false), case(20_000, true)].map(|case| timed(case, 3));
+    assert_eq!(files(&all).lines().count(), 2 + all.len());
+    let judged: Vec<String> =
+        targets(&all, &[]).lines().filter(|row| row.contains(" file")).map(String::from).collect();
+    assert_eq!(judged.len(), 4, "{judged:?}");
+    for (row, (what, most)) in judged.iter().zip([
+        ("write file / walk ", "2.0"),
+        ("write file, verified / plain ", "1.3"),
+        ("read file / walk ", "3.0"),
+        ("read file, verified / plain ", "1.3"),
+    ]) {
+        assert!(row.contains(what) && row.contains(&format!(" {most} ")), "{row}");
     }
 }
 

@@ -1,5 +1,5 @@
 //! The plain version gives the same replies, words and kinds as the reference: random histories, sound stores of random
-//! shape, damaged stores, the limits of document 01, sheets and texts that are nearly sheets.
+//! shape, damaged stores, the limits of document 01, files and damaged ones, sheets and texts that are nearly sheets.
 
 use bench::plain::Plain;
 use bench::store::{Reader, Store};
@@ -20,14 +20,16 @@ fn reply<const N: usize>(words: [u32; N]) -> Reply {
 
 impl Subject for PlainSubject {
     fn call(&self, call: &Call, lent: Lent) -> Reply {
-        let Lent { kinds, words, tags, labels } = lent;
+        let Lent { given, words, tags, labels, bytes } = lent;
         match *call {
-            Call::Load { s, r, book, .. } => reply(Plain::load(s, r, book, kinds, words)),
+            Call::Load { s, r, book, .. } => reply(Plain::load(s, r, book, given, words)),
             Call::Insert { kind, place } => reply(Plain::insert(kind, place, words)),
             Call::Mark { tag } => reply(Plain::mark(tag, words)),
             Call::Hold { tag } => reply(Plain::hold(tag, words)),
             Call::Question { book, tag, start, end, d } => reply(Plain::question([book, tag, start, end], d, words)),
             Call::List { begin, .. } => reply(Plain::list(begin, words, tags, labels)),
+            Call::Write { .. } => reply(Plain::write_file(words, bytes)),
+            Call::Read { .. } => reply(Plain::read_file(given, words)),
         }
     }
 }
@@ -35,6 +37,11 @@ impl Subject for PlainSubject {
 #[test]
 fn the_plain_version_agrees_with_the_reference() {
     plan::calls(&PlainSubject, &mut Tally::new(), 5, 60).expect("no difference");
+}
+
+#[test]
+fn plain_files_agree_with_the_reference() {
+    plan::files(&PlainSubject, &mut Tally::new(), 5, 40).expect("no difference");
 }
 
 impl SheetReader for PlainSubject {

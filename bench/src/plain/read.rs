@@ -20,7 +20,7 @@ fn section_refused(tag: u32, words: &[u32]) -> u32 {
     }
 }
 
-fn store_refused(words: &[u32]) -> u32 {
+pub(super) fn store_refused(words: &[u32]) -> u32 {
     if words.len() < HEADER {
         return 1;
     }

@@ -15,7 +15,7 @@ pub struct Sound {
 
 /// Bit k of entry c: a tag of kind word c may stand in, or close, an open begin of kind word k, or beside itself where
 /// none is open. Takes the place of the tests of kind and mark.
-static PAIRS: [u32; 32] = pairs();
+pub(super) static PAIRS: [u32; 32] = pairs();
 
 const fn pairs() -> [u32; 32] {
     let mut table = [0; 32];
@@ -29,23 +29,29 @@ const fn pairs() -> [u32; 32] {
 }
 
 /// No label: labels are below it.
-const NO_LABEL: u64 = 1 << 32;
+pub(super) const NO_LABEL: u64 = 1 << 32;
 
 /// The open nodes by height.
-struct Levels<'a> {
+pub(super) struct Levels<'a> {
     shape: &'a Shape,
     /// The height of the root's children.
     under: usize,
     /// The number behind the open node, and the place of its first leaf.
-    ends: Table,
+    pub(super) ends: Table,
     firsts: [u32; HEIGHTS],
     /// The number behind the watched tag's ancestor.
     watched: Table,
     leaves: [u32; HEIGHTS],
 }
 
-impl Levels<'_> {
-    fn close(&mut self, h: usize, place: u32) -> Option<()> {
+impl<'a> Levels<'a> {
+    /// Before the first label.
+    pub(super) fn new(shape: &'a Shape, height: usize, watched: Table) -> Levels<'a> {
+        let (firsts, leaves) = ([0; HEIGHTS], [0; HEIGHTS]);
+        Levels { shape, under: height - 1, ends: shape.widths, firsts, watched, leaves }
+    }
+
+    pub(super) fn close(&mut self, h: usize, place: u32) -> Option<()> {
         let leaves = place - self.firsts[h];
         self.leaves[h] = if self.ends[h] == self.watched[h] { leaves } else { self.leaves[h] };
         let leaves = u64::from(leaves);
@@ -53,7 +59,7 @@ impl Levels<'_> {
     }
 
     /// A label that does not go on in the open node of height 1: nodes close, and new ones begin at it.
-    fn settle(&mut self, label: u64, place: u32) -> Option<()> {
+    pub(super) fn settle(&mut self, label: u64, place: u32) -> Option<()> {
         let mut h = 1;
         let mut meets = false;
         while h <= self.under && self.ends[h] <= label {
@@ -67,19 +73,27 @@ impl Levels<'_> {
     }
 }
 
+/// The shape of a tree of this height with n tags; None where there is none.
+pub(super) fn shape_of(s: u32, r: u32, height: u32, n: u32) -> Option<Shape> {
+    let shape = Shape::new(s, r)?;
+    let (height, n) = (height as usize, u64::from(n));
+    if height < 1 || !shape.fits(height) || n > MAX_TAGS as u64 {
+        return None;
+    }
+    let few = height > 1 && n < 2 * shape.least[height - 1];
+    (n < shape.limits[height] && !few).then_some(shape)
+}
+
 /// None where the words are not sound. There must be at least 8 of them.
 pub fn sound(words: &[u32], watched: u32) -> Option<Sound> {
-    let shape = Shape::new(words[1], words[2])?;
-    let (height, n) = (words[HEIGHT] as usize, words[COUNT] as usize);
-    if words[0] != 1 || height < 1 || !shape.fits(height) || n > MAX_TAGS || words.len() < words_for(n) {
+    let (height, n) = (words[HEIGHT], words[COUNT]);
+    let shape = shape_of(words[1], words[2], height, n)?;
+    if words[0] != 1 || words.len() < words_for(n as usize) {
         return None;
     }
-    let count = n as u64;
-    if shape.limits[height] <= count || height > 1 && count < 2 * shape.least[height - 1] {
-        return None;
-    }
-    let leaves = pass(words, &shape, height, n as u32, watched)?;
-    Some(Sound { shape, height, n: n as u32, leaves })
+    let height = height as usize;
+    let leaves = pass(words, &shape, height, n, watched)?;
+    Some(Sound { shape, height, n, leaves })
 }
 
 /// The numbers behind a label's ancestors.
@@ -92,14 +106,7 @@ fn pass(words: &[u32], shape: &Shape, height: usize, n: u32, watched: u32) -> Op
     // beside it is x or a begin that was passed.
     let field = |x: u32, k: usize| unsafe { *words.get_unchecked(at(x, k)) };
     let label = if watched < n { u64::from(field(watched, LABEL)) } else { 0 };
-    let mut levels = Levels {
-        shape,
-        under: height - 1,
-        ends: shape.widths,
-        firsts: [0; HEIGHTS],
-        watched: behind(shape, label),
-        leaves: [0; HEIGHTS],
-    };
+    let mut levels = Levels::new(shape, height, behind(shape, label));
     let (mut x, mut before, mut parent) = (words[FIRST], NO_TAG, NO_TAG);
     let (mut expect, mut marks) = (0, 0);
     for place in 0..n {

@@ -88,6 +88,14 @@ reply!(
     } 2
 );
 
+reply!(
+    /// `vk_written`.
+    Written {
+        /// How many bytes the file has.
+        bytes
+    } 2
+);
+
 /// `vk_kinds`. Where the refusal is not 0, the count is 0. It stands apart from the other replies: its count is no word.
 #[repr(C)]
 #[derive(Clone, Copy, PartialEq, Eq, Debug)]
@@ -129,5 +137,7 @@ extern "C" {
         labels: *mut u32,
         labels_len: usize,
     ) -> Listed;
+    pub fn vk_write_file(words: *const u32, words_len: usize, bytes: *mut u8, bytes_len: usize) -> Written;
+    pub fn vk_read_file(bytes: *const u8, bytes_len: usize, words: *mut u32, words_len: usize) -> Loaded;
     pub fn vk_xml_kinds(text: *const u8, text_len: usize, kinds: *mut u8, kinds_len: usize) -> Kinds;
 }

@@ -1,9 +1,12 @@
 //! A session on one section of a book: it holds the section's pair of labels, shows it with a write, finds it stale once the
-//! book has been relabelled, and holds it again. Then the book is listed, and once more with a part of it marked.
+//! book has been relabelled, and holds it again. Then the book is listed, and once more with a part of it marked. Last it is
+//! saved as a file, and read back into other words.
 //!
 //! Writes what examples/section.c of the repository writes.
 
-use vekhturop::{Answer, HeldPair, Kind, Place, Refusal, Store, Tag, Within, words_for};
+use vekhturop::{Answer, HeldPair, Kind, Place, Refusal, Store, Tag, Within, bytes_for, words_for};
+
+const MOST: usize = 100;
 
 fn tag(number: u32) -> Tag {
     Tag::new(number).expect("a tag")
@@ -41,9 +44,22 @@ fn list(store: &Store) -> Result<(), Refusal> {
     Ok(())
 }
 
+/// A program that keeps the book writes the file's bytes to disk here, and reads them when it starts again.
+fn save_and_read(store: &Store) -> Result<(), Refusal> {
+    let mut file = vec![0; bytes_for(MOST)];
+    let bytes = store.write_to(&mut file)?;
+    println!("saved {bytes} bytes");
+    let mut words = vec![0; words_for(MOST)];
+    let (again, loaded) = Store::read_from(&file[..bytes], &mut words)?;
+    let book = ..words_for(loaded.tags as usize);
+    let same = if again.words()[book] == store.words()[book] { "the same" } else { "other" };
+    println!("read {} tags, height {}: {same} words", loaded.tags, loaded.height);
+    Ok(())
+}
+
 fn main() -> Result<(), Refusal> {
     use Kind::{Begin, End};
-    let mut words = vec![0; words_for(100)];
+    let mut words = vec![0; words_for(MOST)];
     let mut store = Store::new(&mut words);
     let loaded = store.load(2, 2, 7, &[Begin, Begin, End, Begin, End, End])?;
     println!("loaded {} tags, height {}", loaded.tags, loaded.height);
@@ -58,5 +74,6 @@ fn main() -> Result<(), Refusal> {
     list(&store)?;
 
     println!("marked {}", store.mark(tag(3))?);
-    list(&store)
+    list(&store)?;
+    save_and_read(&store)
 }

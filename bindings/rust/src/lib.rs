@@ -23,7 +23,8 @@
 //! # }
 //! ```
 //!
-//! [`kinds_of_xml`] reads a sheet of XML as the kinds that a book is loaded from.
+//! [`Store::write_to`] keeps a book as the bytes of a file, and [`Store::read_from`] brings it back. [`kinds_of_xml`] reads
+//! a sheet of XML as the kinds that a book is loaded from.
 
 #![warn(missing_docs)]
 
@@ -34,5 +35,5 @@ mod types;
 
 pub use refusal::Refusal;
 pub use sheet::kinds_of_xml;
-pub use store::{Store, words_for};
+pub use store::{Store, bytes_for, words_for};
 pub use types::{Answer, HeldPair, Inserted, Kind, Label, Loaded, NotATag, Place, Tag, Within};

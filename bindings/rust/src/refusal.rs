@@ -7,9 +7,9 @@ use std::fmt;
 #[derive(Clone, Copy, PartialEq, Eq, Hash, Debug)]
 #[non_exhaustive]
 pub enum Refusal {
-    /// 1: under 8 words; on load, under 8 + 6n words for n kinds.
+    /// 1: under 8 words; on load and on reading a file, under 8 + 6n words for n tags.
     TooFewWords,
-    /// 2: the words say no sound store. (Any words may be loaded over.)
+    /// 2: the words say no sound store (any words may be loaded over, or read over), or the file that is read says none.
     NotSound,
     /// 3: on load, s or r outside 2 to 16.
     Degree,
@@ -35,12 +35,16 @@ pub enum Refusal {
     TooDeep,
     /// 14: the sheet has a processing instruction or a document type declaration, which are not read.
     NotRead,
+    /// 15: the bytes are no file: the lengths, kinds or counts of their records are not one's.
+    NotAFile,
+    /// 16: under 44 + 34n bytes are lent for the file of n tags.
+    TooFewBytes,
     /// A number that this crate does not know: the library is newer.
     Other(u32),
 }
 
 /// The refusals by their numbers, from 1 on.
-const KNOWN: [Refusal; 14] = [
+const KNOWN: [Refusal; 16] = [
     Refusal::TooFewWords,
     Refusal::NotSound,
     Refusal::Degree,
@@ -55,6 +59,8 @@ const KNOWN: [Refusal; 14] = [
     Refusal::NotASheet,
     Refusal::TooDeep,
     Refusal::NotRead,
+    Refusal::NotAFile,
+    Refusal::TooFewBytes,
 ];
 
 impl Refusal {
@@ -80,7 +86,7 @@ impl fmt::Display for Refusal {
         f.write_str(match self {
             Refusal::TooFewWords => "too few words are lent: a store of n tags needs words_for(n) of them",
             Refusal::NotSound => {
-                "the words say no sound store: load a book into them, or bring back a copy of sound words"
+                "the words, or the file, say no sound store: load a book, or bring back sound words or a whole file"
             }
             Refusal::Degree => "s and r must each be from 2 to 16",
             Refusal::Kind => "a kind is not allowed there: load takes begins, ends and texts, insert a begin or a text",
@@ -104,6 +110,10 @@ impl fmt::Display for Refusal {
             }
             Refusal::TooDeep => "the sheet is too deep: at most 64 elements may be open at once",
             Refusal::NotRead => "the sheet has a <? or a <!DOCTYPE, which are not read: take it out",
+            Refusal::NotAFile => {
+                "the bytes are no file: give the whole file and nothing behind it, as many bytes as writing replied"
+            }
+            Refusal::TooFewBytes => "too few bytes are lent: the file of n tags has bytes_for(n) of them",
             Refusal::Other(number) => {
                 return write!(
                     f,
@@ -126,7 +136,7 @@ mod tests {
         for number in 1..=40 {
             let refusal = Refusal::check(number).expect_err("it is refused");
             assert_eq!(refusal.number(), number);
-            assert_eq!(matches!(refusal, Refusal::Other(_)), number > 14, "{refusal:?}");
+            assert_eq!(matches!(refusal, Refusal::Other(_)), number > 16, "{refusal:?}");
         }
         assert_eq!(Refusal::check(9), Err(Refusal::TagMarked));
         assert_eq!(Refusal::check(u32::MAX), Err(Refusal::Other(u32::MAX)));
@@ -134,9 +144,9 @@ mod tests {
 
     #[test]
     fn every_refusal_says_something_else() {
-        let mut said: Vec<String> = (1..=15).map(|it| Refusal::check(it).expect_err("refused").to_string()).collect();
+        let mut said: Vec<String> = (1..=17).map(|it| Refusal::check(it).expect_err("refused").to_string()).collect();
         said.sort();
         said.dedup();
-        assert_eq!(said.len(), 15);
+        assert_eq!(said.len(), 17);
     }
 }

@@ -1,4 +1,4 @@
-//! The six calls over lent words.
+//! The six calls over lent words, and the two that keep a book as a file.
 
 use crate::refusal::Refusal;
 use crate::types::{Answer, HeldPair, Inserted, Kind, Label, Loaded, Place, Tag, Within};
@@ -13,8 +13,14 @@ pub const fn words_for(tags: usize) -> usize {
     HEADER + RECORD * tags
 }
 
-/// A store over lent words. It keeps nothing outside them: words that were copied, or written to a file and read again,
-/// are the same store. Words that say no sound store are refused by every call but [`Store::load`].
+/// How many bytes the file of a book of so many tags has.
+pub const fn bytes_for(tags: usize) -> usize {
+    44 + 34 * tags
+}
+
+/// A store over lent words. It keeps nothing outside them: words that were copied, or written to a file and read again
+/// ([`Store::write_to`], [`Store::read_from`]), are the same store. Words that say no sound store are refused by every call
+/// but [`Store::load`].
 #[derive(Debug)]
 pub struct Store<'a> {
     words: &'a mut [u32],
@@ -24,6 +30,36 @@ impl<'a> Store<'a> {
     /// A store over words of any content, with room for `(words.len() - 8) / 6` tags ([`words_for`]).
     pub fn new(words: &'a mut [u32]) -> Store<'a> {
         Store { words }
+    }
+
+    /// The store of a file over lent words, whatever they held before, and how many tags and what height it has. Words
+    /// behind the book stay; where the file is refused, all stay.
+    ///
+    /// The bytes are the whole file and nothing behind it: of a longer buffer, as many as [`Store::write_to`] replied. The
+    /// call takes about 32 KB of stack, and about 0.43 MB for a file in which more than 1,024 begins are open at once.
+    ///
+    /// ```
+    /// use vekhturop::{Kind, Store, bytes_for, words_for};
+    ///
+    /// # fn main() -> Result<(), vekhturop::Refusal> {
+    /// let (mut words, mut file) = ([0; words_for(3)], [0; bytes_for(3)]);
+    /// let mut store = Store::new(&mut words);
+    /// store.load(2, 2, 7, &[Kind::Begin, Kind::Text, Kind::End])?;
+    /// let bytes = store.write_to(&mut file)?;
+    ///
+    /// let mut others = [0; words_for(100)];
+    /// let (again, loaded) = Store::read_from(&file[..bytes], &mut others)?;
+    /// assert_eq!(loaded.tags, 3);
+    /// assert_eq!(again.words()[..words_for(3)], *store.words());
+    /// # Ok(())
+    /// # }
+    /// ```
+    pub fn read_from(bytes: &[u8], words: &'a mut [u32]) -> Result<(Store<'a>, Loaded), Refusal> {
+        // SAFETY: both pointers and lengths are those of slices, of which one is lent mutably and one is only read.
+        let reply =
+            unsafe { vekhturop_sys::vk_read_file(bytes.as_ptr(), bytes.len(), words.as_mut_ptr(), words.len()) };
+        Refusal::check(reply.refusal)?;
+        Ok((Store { words }, Loaded { tags: reply.tags, height: reply.height }))
     }
 
     /// The words as they stand.
@@ -137,5 +173,15 @@ impl<'a> Store<'a> {
         };
         Refusal::check(reply.refusal)?;
         Ok(reply.count as usize)
+    }
+    /// Writes the book as a file, and replies how many bytes it has: [`bytes_for`] the tags issued. Bytes behind it stay. The
+    /// file is the same on every machine, and [`Store::read_from`] makes the same words of it.
+    pub fn write_to(&self, bytes: &mut [u8]) -> Result<usize, Refusal> {
+        // SAFETY: both pointers and lengths are those of slices, of which one is lent mutably and one is only read.
+        let reply = unsafe {
+            vekhturop_sys::vk_write_file(self.words.as_ptr(), self.words.len(), bytes.as_mut_ptr(), bytes.len())
+        };
+        Refusal::check(reply.refusal)?;
+        Ok(reply.bytes as usize)
     }
 }

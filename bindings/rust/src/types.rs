@@ -111,7 +111,7 @@ pub enum Within {
     Section(Tag),
 }
 
-/// The reply of a load.
+/// The reply of a load, and of reading a file.
 #[derive(Clone, Copy, PartialEq, Eq, Hash, Debug)]
 #[non_exhaustive]
 pub struct Loaded {

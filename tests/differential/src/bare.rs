@@ -4,7 +4,7 @@
 
 use crate::call::{Call, Reply};
 use crate::kinds::{BEGIN, END, TEXT};
-use reference::{HEADER, NO_TAG, RECORD};
+use reference::{HEADER, NO_TAG, RECORD, bytes_for};
 
 pub struct Bare {
     pub(crate) s: u64,
@@ -50,6 +50,9 @@ impl Bare {
                 if reply[1] != count {
                     return Err(format!("bare list: {} became marked, not {count}", reply[1]));
                 }
+            }
+            Call::Write { .. } if reply[1] as usize != bytes_for(self.list.len()) => {
+                return Err(format!("bare list: a file of {} bytes for {} tags", reply[1], self.list.len()));
             }
             _ => {}
         }

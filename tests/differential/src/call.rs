@@ -31,6 +31,15 @@ pub enum Call {
         tags: usize,
         labels: usize,
     },
+    /// A file is written, into so many lent bytes.
+    Write {
+        bytes: usize,
+    },
+    /// A file is read: over the words as they are, or over words that a stop has cleared, all to the same.
+    Read {
+        file: Vec<u8>,
+        cleared: Option<u32>,
+    },
 }
 
 /// Refusal number or 0, then the fields of the reply in the header's order, then zeros.
@@ -45,14 +54,24 @@ impl Call {
             Call::Hold { .. } => "hold",
             Call::Question { .. } => "question",
             Call::List { .. } => "list",
+            Call::Write { .. } => "write",
+            Call::Read { .. } => "read",
         }
     }
 
-    /// The kinds that the call lends.
-    pub fn kinds(&self) -> &[u8] {
+    /// The bytes that the call is given to read: kinds or a file.
+    pub fn given(&self) -> &[u8] {
         match self {
-            Call::Load { kinds, .. } => kinds,
+            Call::Load { kinds: given, .. } | Call::Read { file: given, .. } => given,
             _ => &[],
+        }
+    }
+
+    /// The words that the call is lent, where a store has come to these.
+    pub fn over(&self, words: &[u32]) -> Vec<u32> {
+        match self {
+            Call::Read { cleared: Some(word), .. } => vec![*word; words.len()],
+            _ => words.to_vec(),
         }
     }
 
@@ -61,6 +80,14 @@ impl Call {
         match self {
             Call::List { tags, labels, .. } => (*tags, *labels),
             _ => (0, 0),
+        }
+    }
+
+    /// How many bytes the call lends to be written.
+    pub fn bytes(&self) -> usize {
+        match self {
+            Call::Write { bytes } => *bytes,
+            _ => 0,
         }
     }
 }

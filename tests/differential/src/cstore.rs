@@ -3,7 +3,8 @@
 use crate::call::{Call, Reply};
 use crate::sheet::SheetReader;
 use crate::subject::{Lent, Subject};
-use vekhturop_sys::{vk_hold, vk_insert, vk_list, vk_load, vk_mark, vk_question, vk_xml_kinds};
+use vekhturop_sys::{vk_hold, vk_insert, vk_list, vk_load, vk_mark, vk_question};
+use vekhturop_sys::{vk_read_file, vk_write_file, vk_xml_kinds};
 
 pub struct CStore;
 
@@ -15,15 +16,16 @@ fn reply<const N: usize>(words: impl Into<[u32; N]>) -> Reply {
 
 impl Subject for CStore {
     fn call(&self, call: &Call, lent: Lent) -> Reply {
-        // Words and kinds are lent through mutable pointers even where the header says const: a store that writes where
-        // it must not is then seen in the comparison, and the compiler cannot assume that nothing changed.
-        let Lent { kinds, words, tags, labels } = lent;
+        // Words, kinds and files are lent through mutable pointers even where the header says const: a store that writes
+        // where it must not is then seen in the comparison, and the compiler cannot assume that nothing changed.
+        let Lent { given, words, tags, labels, bytes } = lent;
+        let (from, from_len) = (given.as_mut_ptr(), given.len());
         let (to, len) = (words.as_mut_ptr(), words.len());
         // SAFETY: every pointer and length is that of one of the slices lent to this function, which do not overlap
         // since all are lent mutably.
         unsafe {
             match *call {
-                Call::Load { s, r, book, .. } => reply(vk_load(s, r, book, kinds.as_mut_ptr(), kinds.len(), to, len)),
+                Call::Load { s, r, book, .. } => reply(vk_load(s, r, book, from, from_len, to, len)),
                 Call::Insert { kind, place } => reply(vk_insert(kind, place, to, len)),
                 Call::Mark { tag } => reply(vk_mark(tag, to, len)),
                 Call::Hold { tag } => reply(vk_hold(tag, to, len)),
@@ -32,6 +34,8 @@ impl Subject for CStore {
                     let (tags, tags_len) = (tags.as_mut_ptr(), tags.len());
                     reply(vk_list(begin, to, len, tags, tags_len, labels.as_mut_ptr(), labels.len()))
                 }
+                Call::Write { .. } => reply(vk_write_file(to, len, bytes.as_mut_ptr(), bytes.len())),
+                Call::Read { .. } => reply(vk_read_file(from, from_len, to, len)),
             }
         }
     }

@@ -9,22 +9,23 @@ use crate::subject::Subject;
 use draw::Rng;
 use reference::{HEADER, NO_TAG, RECORD};
 
-const LABEL: usize = 0;
-const NEXT: usize = 1;
+pub(crate) const LABEL: usize = 0;
+pub(crate) const NEXT: usize = 1;
 const PRIOR: usize = 2;
-const MATE: usize = 3;
-const KIND: usize = 5;
+pub(crate) const MATE: usize = 3;
+pub(crate) const UP: usize = 4;
+pub(crate) const KIND: usize = 5;
 
-fn at(tag: usize, field: usize) -> usize {
+pub(crate) fn at(tag: usize, field: usize) -> usize {
     HEADER + RECORD * tag + field
 }
 
-fn tags(words: &[u32]) -> usize {
+pub(crate) fn tags(words: &[u32]) -> usize {
     words[4] as usize
 }
 
 /// The tags of a sound store in book order.
-fn order(words: &[u32]) -> Vec<usize> {
+pub(crate) fn order(words: &[u32]) -> Vec<usize> {
     let mut order = Vec::new();
     let mut here = words[5];
     while here != NO_TAG {

@@ -4,7 +4,7 @@
 use crate::bare::Bare;
 use crate::call::Call;
 use crate::kinds::{BEGIN, END, TEXT};
-use reference::{HEADER, NO_TAG, RECORD};
+use reference::{HEADER, NO_TAG, RECORD, bytes_for};
 
 const LABELS: u64 = 1 << 32;
 const MOST_TAGS: usize = 200_000;
@@ -45,7 +45,8 @@ pub fn load_refusal(s: u32, r: u32, kinds: &[u8], words: usize) -> u32 {
 }
 
 impl Bare {
-    /// Of a call on a sound store of so many words. None for a question, whose answer is a matter of labels.
+    /// Of a call on a sound store of so many words. None for a question, whose answer is a matter of labels, and for a
+    /// reading, which is one of the file.
     pub fn refusal(&self, call: &Call, words: usize) -> Option<u32> {
         match *call {
             Call::Load { s, r, ref kinds, .. } => Some(load_refusal(s, r, kinds, words)),
@@ -54,7 +55,8 @@ impl Bare {
                 Some(first(&[(self.no_tag(tag), 8), (self.is_marked(tag), 9), (self.kind(tag) == END, 10)]))
             }
             Call::List { begin, tags, labels } => Some(self.list_refusal(begin, tags.min(labels))),
-            Call::Question { .. } => None,
+            Call::Write { bytes } => Some(first(&[(bytes < bytes_for(self.list.len()), 16)])),
+            Call::Question { .. } | Call::Read { .. } => None,
         }
     }
 

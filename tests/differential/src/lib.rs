@@ -8,6 +8,9 @@
 //! By lines: `program` names what is compared, `process` starts the book program and `pieces` cuts what is written to
 //! it, `near`, `scripts` and `writer` make the lines, and `shorten` and `edit` make a failure short.
 //!
+//! By files: calls too, which `files` chooses, with the bytes that `file_damage` makes; `kept` sets each file beside the
+//! one before it.
+//!
 //! By sheets: `sheet` names what is compared and makes a failure short, `printed` prints trees, and `sheets` draws texts
 //! that are nearly sheets.
 //!
@@ -20,8 +23,11 @@ pub mod cstore;
 pub mod damage;
 pub mod due;
 pub mod edit;
+pub mod file_damage;
+pub mod files;
 pub mod flaw;
 pub mod history;
+pub mod kept;
 pub mod kinds;
 pub mod limits;
 pub mod near;

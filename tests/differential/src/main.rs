@@ -1,15 +1,16 @@
-//! `cargo run --release -p differential -- SEED SIZE [calls|lines|sheets]`: compares the verified store with the reference,
-//! by calls of the C interface, by lines of the book program and by sheets that are read, or only by one of them.
+//! `cargo run --release -p differential -- SEED SIZE [calls|files|lines|sheets]`: compares the verified store with the
+//! reference, by calls of the C interface, by files, by lines of the book program and by sheets that are read, or only by
+//! one of them.
 //!
 //! SIZE is the number of random histories of each, and of trees; 225 meet every s and r. A difference is printed as a short
-//! script or text and ends the run with status 1. The library is linked (vekhturop-sys); the program is the one that VEKHTUROP_BOOK names,
-//! or target/bin/book of the repository.
+//! script or text and ends the run with status 1. The library is linked (vekhturop-sys); the program is the one that
+//! VEKHTUROP_BOOK names, or target/bin/book of the repository.
 
 use differential::plan;
 use differential::process::Process;
 use differential::program::LineProgram;
 use differential::report;
-use differential::session::Tally;
+use differential::session::{Failure, Tally};
 use differential::sheet::{self, SheetReader};
 use differential::shorten::shorten;
 use differential::shrink::shrink;
@@ -19,24 +20,34 @@ use std::fmt::Display;
 use std::process::ExitCode;
 use std::time::Instant;
 
-struct Arguments {
+/// What may be compared alone.
+const PARTS: [&str; 4] = ["calls", "files", "sheets", "lines"];
+
+struct Run {
     seed: u64,
     size: usize,
-    calls: bool,
-    lines: bool,
-    sheets: bool,
+    part: Option<String>,
 }
 
-fn arguments() -> Option<Arguments> {
-    let all: Vec<String> = std::env::args().skip(1).collect();
-    let (seed, size, part) = match &all[..] {
-        [seed, size] => (seed, size, None),
-        [seed, size, part] if ["calls", "lines", "sheets"].contains(&part.as_str()) => (seed, size, Some(part)),
-        _ => return None,
-    };
-    let has = |name: &str| part.is_none_or(|part| part == name);
-    let (calls, lines, sheets) = (has("calls"), has("lines"), has("sheets"));
-    Some(Arguments { seed: seed.parse().ok()?, size: size.parse().ok()?, calls, lines, sheets })
+impl Run {
+    fn of_arguments() -> Option<Run> {
+        let all: Vec<String> = std::env::args().skip(1).collect();
+        let (seed, size, part) = match &all[..] {
+            [seed, size] => (seed, size, None),
+            [seed, size, part] if PARTS.contains(&part.as_str()) => (seed, size, Some(part.clone())),
+            _ => return None,
+        };
+        Some(Run { seed: seed.parse().ok()?, size: size.parse().ok()?, part })
+    }
+
+    fn has(&self, part: &str) -> bool {
+        self.part.as_ref().is_none_or(|it| it == part)
+    }
+
+    /// For a report.
+    fn name(&self) -> String {
+        format!("seed-{}-size-{}", self.seed, self.size)
+    }
 }
 
 /// Says what was alike, and how often which reply came.
@@ -66,35 +77,52 @@ fn replies(tally: Tally) -> impl Iterator<Item = (&'static str, String, u64)> {
     tally.into_iter().map(|((name, refusal), count)| (name, refusal.to_string(), count))
 }
 
-fn by_calls(subject: &dyn Subject, seed: u64, size: usize, run: &str) -> Result<(), String> {
+/// A plan of calls of the C interface.
+type Calls = fn(&dyn Subject, &mut Tally, u64, usize) -> Result<(), Failure>;
+
+fn by_calls(what: &str, plan: Calls, subject: &dyn Subject, run: &Run) -> Result<(), String> {
     let since = Instant::now();
     let mut tally = Tally::new();
-    if let Err(failure) = plan::calls(subject, &mut tally, seed, size) {
+    if let Err(failure) = plan(subject, &mut tally, run.seed, run.size) {
         let (case, what) = shrink(subject, failure.case, failure.what);
-        return Err(report::of_calls(&case, &what, run));
+        return Err(report::of_calls(&case, &what, &run.name()));
     }
-    alike("calls", since, replies(tally));
+    alike(what, since, replies(tally));
     Ok(())
 }
 
-fn by_lines(program: &dyn LineProgram, seed: u64, size: usize, run: &str) -> Result<(), String> {
+fn by_lines(program: &dyn LineProgram, run: &Run) -> Result<(), String> {
     let since = Instant::now();
     let mut tally = LineTally::new();
-    if let Err(found) = plan::lines(program, &mut tally, seed, size) {
-        return Err(report::of_lines(&shorten(program, found), run));
+    if let Err(found) = plan::lines(program, &mut tally, run.seed, run.size) {
+        return Err(report::of_lines(&shorten(program, found), &run.name()));
     }
     alike("lines", since, tally.into_iter().map(|((name, reply), count)| (name, reply, count)));
     Ok(())
 }
 
-fn by_sheets(reader: &dyn SheetReader, seed: u64, size: usize, run: &str) -> Result<(), String> {
+fn by_sheets(reader: &dyn SheetReader, run: &Run) -> Result<(), String> {
     let since = Instant::now();
     let mut tally = Tally::new();
-    if let Err(found) = plan::sheets(reader, &mut tally, seed, size) {
-        return Err(report::of_sheet(&sheet::shorten(reader, found), run));
+    if let Err(found) = plan::sheets(reader, &mut tally, run.seed, run.size) {
+        return Err(report::of_sheet(&sheet::shorten(reader, found), &run.name()));
     }
     alike("texts", since, replies(tally));
     Ok(())
+}
+
+/// All that the run has, up to the first difference.
+fn compare(verified: &dyn Verified, program: Option<&dyn LineProgram>, run: &Run) -> Result<(), String> {
+    if run.has("calls") {
+        by_calls("calls", plan::calls, verified, run)?;
+    }
+    if run.has("files") {
+        by_calls("calls about files", plan::files, verified, run)?;
+    }
+    if run.has("sheets") {
+        by_sheets(verified, run)?;
+    }
+    program.map_or(Ok(()), |program| by_lines(program, run))
 }
 
 fn stop(status: u8, what: impl Display) -> ExitCode {
@@ -103,26 +131,18 @@ fn stop(status: u8, what: impl Display) -> ExitCode {
 }
 
 fn main() -> ExitCode {
-    let Some(Arguments { seed, size, calls, lines, sheets }) = arguments() else {
-        return stop(2, "usage: differential SEED SIZE [calls|lines|sheets]");
+    let Some(run) = Run::of_arguments() else {
+        return stop(2, format!("usage: differential SEED SIZE [{}]", PARTS.join("|")));
     };
     let verified = match verified() {
         Ok(verified) => verified,
         Err(missing) => return stop(2, missing),
     };
-    let program = match Process::of_environment() {
-        Err(missing) if lines => return stop(2, missing),
-        program => program,
+    let program = match run.has("lines").then(Process::of_environment).transpose() {
+        Ok(program) => program,
+        Err(missing) => return stop(2, missing),
     };
-    let run = format!("seed-{seed}-size-{size}");
-    let mut result = if calls { by_calls(&*verified, seed, size, &run) } else { Ok(()) };
-    if result.is_ok() && sheets {
-        result = by_sheets(&*verified, seed, size, &run);
-    }
-    if let (Ok(()), Ok(program), true) = (&result, &program, lines) {
-        result = by_lines(program, seed, size, &run);
-    }
-    match result {
+    match compare(&*verified, program.as_ref().map(|it| it as &dyn LineProgram), &run) {
         Ok(()) => ExitCode::SUCCESS,
         Err(failure) => {
             println!("{failure}");

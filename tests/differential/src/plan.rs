@@ -1,8 +1,11 @@
 //! A whole run: what a seed and a size stand for.
 
+use crate::call::Call;
 use crate::damage;
+use crate::files;
 use crate::flaw::{self, Flaw};
 use crate::history::{ground, history, walk};
+use crate::kinds;
 use crate::limits;
 use crate::pieces::Pieces;
 use crate::printed;
@@ -51,30 +54,42 @@ pub fn shapes(subject: &dyn Subject, tally: &mut Tally, rng: &mut Rng, size: usi
     Ok(())
 }
 
-/// So many sound stores, each damaged in all ways. Half of them have the smallest s and r, where few tags make a tree
-/// of some height.
-pub fn damages(subject: &dyn Subject, tally: &mut Tally, rng: &mut Rng, size: usize) -> Result<(), Failure> {
+/// What is done with a store.
+type Each<'a> = &'a mut dyn FnMut(&mut Rng, &[u32]) -> Result<(), Failure>;
+
+/// So many small sound stores. Half of them have the smallest s and r, where few tags make a tree of some height.
+fn small_stores(rng: &mut Rng, size: usize, each: Each) -> Result<(), Failure> {
     for (i, &(s, r)) in pairs(rng).iter().cycle().take(size).enumerate() {
         let (s, r) = if i % 2 == 0 { (2 + rng.below(2) as u32, 2) } else { (s, r) };
         let most = rng.pick(&[0, 1, 4, 6, 9, 9, 40]);
         let sound = shape::any(rng, s, r, most);
-        damage::damage(subject, tally, rng, &sound)?;
+        each(rng, &sound)?;
     }
     Ok(())
 }
 
 /// Stores with each flaw in their trees, for so many of s and r.
-pub fn flaws(subject: &dyn Subject, tally: &mut Tally, rng: &mut Rng, size: usize) -> Result<(), Failure> {
+fn flawed_stores(rng: &mut Rng, size: usize, each: Each) -> Result<(), Failure> {
     for &(s, r) in pairs(rng).iter().cycle().take(size) {
         for flaw in Flaw::ALL {
             // A full node needs s·r^2 leaves.
             let most = if matches!(flaw, Flaw::Full | Flaw::FullRoot) { 6_000 } else { 400 };
             if let Some(words) = flaw::flawed(rng, s, r, flaw, most) {
-                damage::flawed(subject, tally, rng, &words)?;
+                each(rng, &words)?;
             }
         }
     }
     Ok(())
+}
+
+/// So many sound stores, each damaged in all ways.
+pub fn damages(subject: &dyn Subject, tally: &mut Tally, rng: &mut Rng, size: usize) -> Result<(), Failure> {
+    small_stores(rng, size, &mut |rng, sound| damage::damage(subject, tally, rng, sound))
+}
+
+/// Stores with flaws, for so many of s and r.
+pub fn flaws(subject: &dyn Subject, tally: &mut Tally, rng: &mut Rng, size: usize) -> Result<(), Failure> {
+    flawed_stores(rng, size, &mut |rng, words| damage::flawed(subject, tally, rng, words))
 }
 
 /// The comparison by calls.
@@ -96,6 +111,49 @@ pub fn calls(subject: &dyn Subject, tally: &mut Tally, seed: u64, size: usize) -
         limits::tables(subject, tally, rng)?;
     }
     limits::tags(subject, tally, rng)
+}
+
+/// So many histories, each with stops in it, from sound stores of random shape and from loads over them.
+pub fn stops(subject: &dyn Subject, tally: &mut Tally, rng: &mut Rng, size: usize) -> Result<(), Failure> {
+    for &(s, r) in pairs(rng).iter().cycle().take(size) {
+        let (most, more) = (rng.pick(&[0, 8, 40, 300]), rng.below(120));
+        let start = [shape::any(rng, s, r, most), ground(rng, more)].concat();
+        let mut session = Session::new(subject, tally, start);
+        if rng.percent(60) {
+            let n = kinds::size(rng, s, r, more);
+            session.step(Call::Load { s, r, book: rng.word(), kinds: kinds::nested(rng, n) })?;
+        }
+        for _ in 0..4 {
+            let steps = rng.pick(&[0, 3, 12]);
+            walk(&mut session, rng, steps)?;
+            files::stop(&mut session, rng)?;
+        }
+    }
+    Ok(())
+}
+
+/// So many small sound stores as files, with slices of all lengths, and damaged in all ways.
+pub fn damaged_files(subject: &dyn Subject, tally: &mut Tally, rng: &mut Rng, size: usize) -> Result<(), Failure> {
+    small_stores(rng, size, &mut |rng, sound| {
+        files::lengths(subject, tally, rng, sound)?;
+        files::damage(subject, tally, rng, sound)
+    })
+}
+
+/// Stores with flaws, as words and as files, for so many of s and r.
+pub fn flawed_files(subject: &dyn Subject, tally: &mut Tally, rng: &mut Rng, size: usize) -> Result<(), Failure> {
+    flawed_stores(rng, size, &mut |_, words| files::flawed(subject, tally, words))
+}
+
+/// The comparison by files.
+pub fn files(subject: &dyn Subject, tally: &mut Tally, seed: u64, size: usize) -> Result<(), Failure> {
+    let mut rng = Rng::new(seed.rotate_left(16));
+    let rng = &mut rng;
+    stops(subject, tally, rng, size)?;
+    damaged_files(subject, tally, rng, size / 3 + 4)?;
+    flawed_files(subject, tally, rng, size / 2 + 4)?;
+    files::deep(subject, tally)?;
+    files::great(subject, tally, rng)
 }
 
 /// Runs a script on the program, cut into pieces by chance.

@@ -49,6 +49,17 @@ pub fn input(case: &Case) -> Option<String> {
     starts_as_the_program(case).then(|| lines.join("\n") + "\n")
 }
 
+/// A call that no line says. A file's bytes stand as C and Rust write them in hexadecimal, without spaces.
+fn said(call: &Call) -> String {
+    match call {
+        Call::Read { file, cleared } => {
+            let file: String = file.iter().map(|byte| format!("{byte:02x}")).collect();
+            format!("# Read {{ file: {file}, cleared: {cleared:?} }}")
+        }
+        _ => format!("# {call:?}"),
+    }
+}
+
 /// The case for a reader, whole.
 pub fn script(case: &Case) -> String {
     let mut lines = Vec::new();
@@ -58,6 +69,6 @@ pub fn script(case: &Case) -> String {
     if case.start.iter().any(|word| *word != 0) {
         lines.push(format!("# over these words: {:?}", case.start));
     }
-    lines.extend(case.calls.iter().map(|call| line(call).unwrap_or_else(|| format!("# {call:?}"))));
+    lines.extend(case.calls.iter().map(|call| line(call).unwrap_or_else(|| said(call))));
     lines.join("\n")
 }

@@ -3,13 +3,15 @@
 use crate::bare::{self, Bare};
 use crate::call::{Call, Case, Reply};
 use crate::due;
+use crate::kept::{Kept, store_of};
 use crate::subject::{Lent, Reference, Subject};
 use std::collections::BTreeMap;
+use std::fmt::Display;
 
 /// Words around every lent slice, to see writes outside it.
 const GUARD: [u32; 4] = [0xA5A5_5A5A; 4];
 
-/// And bytes around the kinds.
+/// And around bytes.
 const BYTES: [u8; 4] = [0xA5; 4];
 
 /// How often which call gave which refusal number, or 0; an answered question counts under its answer.
@@ -28,6 +30,7 @@ struct After {
     words: Vec<u32>,
     tags: Vec<u32>,
     labels: Vec<u32>,
+    bytes: Vec<u8>,
 }
 
 /// A slice to lend, with guards on both sides.
@@ -55,18 +58,37 @@ fn blank(len: usize) -> Vec<u32> {
     (0..len).map(|i| 0xEE00_0000 + i as u32).collect()
 }
 
+/// The same of bytes, as far as there are distinct ones. No two neighbours are alike.
+fn blank_bytes(len: usize) -> Vec<u8> {
+    (0..len).map(|i| 0x40 + (i % 191) as u8).collect()
+}
+
 fn perform(subject: &dyn Subject, call: &Call, words: &[u32]) -> Result<After, String> {
     let (tags, labels) = call.lists();
-    let mut kinds = Guarded::new(call.kinds(), BYTES);
+    let mut given = Guarded::new(call.given(), BYTES);
     let mut words = Guarded::new(words, GUARD);
     let [mut tags, mut labels] = [tags, labels].map(|len| Guarded::new(&blank(len), GUARD));
-    let lent = Lent { kinds: kinds.lend(), words: words.lend(), tags: tags.lend(), labels: labels.lend() };
+    let mut bytes = Guarded::new(&blank_bytes(call.bytes()), BYTES);
+    let lent = Lent {
+        given: given.lend(),
+        words: words.lend(),
+        tags: tags.lend(),
+        labels: labels.lend(),
+        bytes: bytes.lend(),
+    };
     let reply = subject.call(call, lent);
-    match (kinds.back(), words.back(), tags.back(), labels.back()) {
-        (Some(kinds), ..) if kinds != call.kinds() => Err("the store wrote into the kinds".into()),
-        (Some(_), Some(words), Some(tags), Some(labels)) => Ok(After { reply, words, tags, labels }),
+    match (given.back(), words.back(), tags.back(), labels.back(), bytes.back()) {
+        (Some(given), ..) if given != call.given() => Err("the store wrote into what it was given to read".into()),
+        (Some(_), Some(words), Some(tags), Some(labels), Some(bytes)) => {
+            Ok(After { reply, words, tags, labels, bytes })
+        }
         _ => Err("the store wrote outside a lent slice".into()),
     }
+}
+
+fn first_other<T: PartialEq + Display>(name: &str, want: &[T], got: &[T]) -> Option<String> {
+    let i = (0..want.len()).find(|&i| want[i] != got[i])?;
+    Some(format!("{name}[{i}] is {}, the reference says {}", got[i], want[i]))
 }
 
 fn difference(before: &[u32], want: &After, got: &After) -> Option<String> {
@@ -76,14 +98,10 @@ fn difference(before: &[u32], want: &After, got: &After) -> Option<String> {
     if got.reply[0] != 0 && before != got.words {
         return Some(format!("refusal {} changed words", got.reply[0]));
     }
-    for (name, want, got) in
-        [("words", &want.words, &got.words), ("tags", &want.tags, &got.tags), ("labels", &want.labels, &got.labels)]
-    {
-        if let Some(i) = (0..want.len()).find(|&i| want[i] != got[i]) {
-            return Some(format!("{name}[{i}] is {}, the reference says {}", got[i], want[i]));
-        }
-    }
-    None
+    first_other("words", &want.words, &got.words)
+        .or_else(|| first_other("tags", &want.tags, &got.tags))
+        .or_else(|| first_other("labels", &want.labels, &got.labels))
+        .or_else(|| first_other("bytes", &want.bytes, &got.bytes))
 }
 
 fn heading(call: &Call, reply: &Reply) -> &'static str {
@@ -99,19 +117,33 @@ pub struct Session<'a> {
     subject: &'a dyn Subject,
     tally: &'a mut Tally,
     pub words: Vec<u32>,
-    /// There is none before the first accepted load: a store found in words has no history to account for.
+    /// There is none before the first accepted load: a store found in words, or read from a file, has no history to
+    /// account for.
     bare: Option<Bare>,
+    /// The file that was written or read last.
+    kept: Option<Kept>,
     case: Case,
 }
 
 impl<'a> Session<'a> {
     pub fn new(subject: &'a dyn Subject, tally: &'a mut Tally, start: Vec<u32>) -> Session<'a> {
-        Session { subject, tally, words: start.clone(), bare: None, case: Case { start, calls: Vec::new() } }
+        let case = Case { start: start.clone(), calls: Vec::new() };
+        Session { subject, tally, words: start, bare: None, kept: None, case }
     }
 
     /// What has been done so far.
     pub fn case(&self) -> &Case {
         &self.case
+    }
+
+    /// The bare list that accounts for the store, where it has a history.
+    pub fn bare(&self) -> Option<&Bare> {
+        self.bare.as_ref()
+    }
+
+    /// The file that was written or read last.
+    pub fn kept(&self) -> Option<&Kept> {
+        self.kept.as_ref()
     }
 
     /// Makes a call on both sides.
@@ -122,13 +154,15 @@ impl<'a> Session<'a> {
     }
 
     fn compare(&mut self, call: &Call) -> Result<Reply, String> {
-        let want = perform(&Reference::right(), call, &self.words)?;
-        let got = perform(self.subject, call, &self.words)?;
-        if let Some(what) = difference(&self.words, &want, &got) {
+        let lent = call.over(&self.words);
+        let want = perform(&Reference::right(), call, &lent)?;
+        let got = perform(self.subject, call, &lent)?;
+        if let Some(what) = difference(&lent, &want, &got) {
             return Err(what);
         }
         *self.tally.entry((heading(call, &got.reply), got.reply[0])).or_default() += 1;
         self.account(call, &got)?;
+        self.keep(call, &got)?;
         self.words = got.words;
         Ok(got.reply)
     }
@@ -143,6 +177,8 @@ impl<'a> Session<'a> {
         if let Some(due) = due.filter(|due| *due != got.reply[0]) {
             return Err(format!("bare list: refusal {} where {due} is due", got.reply[0]));
         }
+        // A store that comes back from its file has its history; any other that is read has none.
+        self.bare.take_if(|_| matches!(call, Call::Read { .. }) && store_of(&self.words) != store_of(&got.words));
         if got.reply[0] != 0 {
             return Ok(());
         }
@@ -153,6 +189,18 @@ impl<'a> Session<'a> {
             (None, _) => {}
         }
         self.bare.as_ref().map_or(Ok(()), |bare| bare.check(&got.words))
+    }
+
+    /// Sets a file that was written or read beside the one before it. This asks the reference nothing.
+    fn keep(&mut self, call: &Call, got: &After) -> Result<(), String> {
+        let file = match call {
+            Call::Write { .. } if got.reply[0] == 0 => &got.bytes[..got.reply[1] as usize],
+            Call::Read { file, .. } if got.reply[0] == 0 => file,
+            _ => return Ok(()),
+        };
+        let now = Kept { file: file.to_vec(), words: store_of(&got.words).to_vec() };
+        let before = self.kept.replace(now.clone());
+        before.map_or(Ok(()), |before| before.beside(&now))
     }
 }
 

@@ -1,10 +1,10 @@
-//! Makes a failing case short: plain words to start from, small s and r, fewer calls, fewer kinds.
+//! Makes a failing case short: plain words to start from, small s and r, fewer calls, fewer kinds, small files.
 
 use crate::call::{Call, Case};
 use crate::kinds::{BEGIN, TEXT};
 use crate::session::replay;
 use crate::subject::{Lent, Reference, Subject};
-use reference::{HEADER, NO_TAG, PROGRAM_TAGS, RECORD};
+use reference::{HEADER, NO_TAG, PROGRAM_TAGS, RECORD, Store, bytes_for};
 
 /// Replays of one shrinking, so that a long case cannot take for ever.
 const PATIENCE: usize = 2_000;
@@ -32,14 +32,26 @@ fn forget(calls: &mut [Call], first: u32, many: u32, place: u32) {
                 lower(tag);
                 lower(d);
             }
-            Call::Load { .. } => {}
+            Call::Load { .. } | Call::Write { .. } | Call::Read { .. } => {}
         }
     }
 }
 
 /// The kinds of the call, if it is a load.
 fn kinds_of(case: &Case, index: usize) -> &[u8] {
-    case.calls.get(index).map_or(&[], Call::kinds)
+    match case.calls.get(index) {
+        Some(Call::Load { kinds, .. }) => kinds,
+        _ => &[],
+    }
+}
+
+/// The file of a book just loaded.
+fn file_of(kinds: &[u8]) -> Vec<u8> {
+    let mut store = Store::new(vec![0; HEADER + RECORD * kinds.len()]);
+    let mut file = vec![0; bytes_for(kinds.len())];
+    let written = store.load(2, 2, 7, kinds).and_then(|_| store.write_file(&mut file));
+    written.expect("a small book is loaded and written");
+    file
 }
 
 /// The smallest trees first.
@@ -93,8 +105,9 @@ impl Shrinker<'_> {
         let mut reply = [2; 5];
         for call in &case.calls[..=index] {
             let (tags, labels) = call.lists();
-            let (tags, labels) = (&mut vec![0; tags], &mut vec![0; labels]);
-            let lent = Lent { kinds: &mut call.kinds().to_vec(), words: &mut words, tags, labels };
+            let (tags, labels, bytes) = (&mut vec![0; tags], &mut vec![0; labels], &mut vec![0; call.bytes()]);
+            words = call.over(&words);
+            let lent = Lent { given: &mut call.given().to_vec(), words: &mut words, tags, labels, bytes };
             reply = Reference::right().call(call, lent);
         }
         if let (Call::Insert { kind, place }, 0) = (case.calls.remove(index), reply[0]) {
@@ -192,6 +205,23 @@ impl Shrinker<'_> {
         self.try_case(case);
     }
 
+    /// The files of small books in place of others.
+    fn plainer_files(&mut self) {
+        let files = [&[][..], &[TEXT], &[TEXT; 4]].map(file_of);
+        for index in 0..self.best.calls.len() {
+            for file in &files {
+                let mut case = self.best.clone();
+                match case.calls.get_mut(index) {
+                    Some(Call::Read { file: it, .. }) if it.len() > file.len() => it.clone_from(file),
+                    _ => break,
+                }
+                if self.try_case(case) {
+                    break;
+                }
+            }
+        }
+    }
+
     /// Starts from the words of the book program and lends lists as long as it does, where the failure allows it.
     fn plainer_start(&mut self) {
         let program = vec![0; HEADER + RECORD * PROGRAM_TAGS];
@@ -222,6 +252,7 @@ pub fn shrink(subject: &dyn Subject, case: Case, what: String) -> (Case, String)
         it.single_calls();
         it.fewer_kinds();
         it.plainer_insertions();
+        it.plainer_files();
         // What one pass made plainer, another may now make shorter.
         if it.best == before || it.replays >= PATIENCE {
             break;

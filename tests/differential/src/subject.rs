@@ -4,12 +4,21 @@ use crate::call::{Call, Reply};
 use crate::sheet::SheetReader;
 use reference::{Answer, Fault, Held, Refusal, Store, xml_kinds};
 
-/// The slices that a call is lent, of exactly these lengths. The kinds are those of the call.
+/// The slices that a call is lent, of exactly these lengths. What is given are the kinds or the file of the call.
 pub struct Lent<'a> {
-    pub kinds: &'a mut [u8],
+    pub given: &'a mut [u8],
     pub words: &'a mut [u32],
     pub tags: &'a mut [u32],
     pub labels: &'a mut [u32],
+    pub bytes: &'a mut [u8],
+}
+
+impl Lent<'_> {
+    /// The same slices, lent on for one call.
+    pub fn again(&mut self) -> Lent<'_> {
+        let Lent { given, words, tags, labels, bytes } = self;
+        Lent { given, words, tags, labels, bytes }
+    }
 }
 
 pub trait Subject {
@@ -53,6 +62,8 @@ impl Subject for Reference {
                 }))
             }
             Call::List { begin, .. } => reply(store.list(begin, lent.tags, lent.labels).map(|count| [count])),
+            Call::Write { .. } => reply(store.write_file(lent.bytes).map(|bytes| [bytes])),
+            Call::Read { ref file, .. } => reply(store.read_file(file).map(|it| [it.tags, it.height])),
         };
         lent.words.copy_from_slice(&store.words);
         reply

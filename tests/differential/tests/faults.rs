@@ -110,11 +110,9 @@ fn a_report_can_be_replayed() {
 struct Spoiled(fn(&Reply, Lent));
 
 impl Subject for Spoiled {
-    fn call(&self, call: &Call, lent: Lent) -> Reply {
-        let Lent { kinds, words, tags, labels } = lent;
-        let again = Lent { kinds: &mut *kinds, words: &mut *words, tags: &mut *tags, labels: &mut *labels };
-        let reply = Reference::right().call(call, again);
-        (self.0)(&reply, Lent { kinds, words, tags, labels });
+    fn call(&self, call: &Call, mut lent: Lent) -> Reply {
+        let reply = Reference::right().call(call, lent.again());
+        (self.0)(&reply, lent);
         reply
     }
 }
@@ -145,12 +143,12 @@ fn writing_where_a_call_must_not_is_caught() {
     assert!(failure.what.starts_with("tags["), "{}", failure.what);
 
     let into_the_kinds = Spoiled(|_, lent| {
-        if let Some(first) = lent.kinds.first_mut() {
+        if let Some(first) = lent.given.first_mut() {
             *first += 16;
         }
     });
     let failure = histories(&into_the_kinds, 5).expect_err("a load wrote into its kinds");
-    assert_eq!(failure.what, "the store wrote into the kinds");
+    assert_eq!(failure.what, "the store wrote into what it was given to read");
 }
 
 /// The reference, but where this gives a reply for a call on some words, that one.

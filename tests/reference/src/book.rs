@@ -2,7 +2,7 @@
 
 use crate::fault::Fault;
 use crate::params::MAX_TAGS;
-use crate::reply::{Answer, Held, Inserted, Refusal};
+use crate::reply::{Answer, Held, Inserted, Loaded, Refusal};
 use crate::tag::{Kind, Tag};
 use crate::tree::Tree;
 use crate::words::{NO_TAG, words_for};
@@ -19,6 +19,11 @@ pub struct Book {
 }
 
 impl Book {
+    /// What is replied of a book that has come into words as a whole.
+    pub fn loaded(&self) -> Loaded {
+        Loaded { tags: self.tags.len() as u32, height: self.tree.height }
+    }
+
     /// Refusals after 1 and 2: 4, 8, 9, 6, 7. `len` is the number of words lent.
     pub fn insert(&mut self, kind: u8, place: u32, len: usize) -> Result<Inserted, Refusal> {
         let kind = match Kind::of_byte(kind) {

@@ -1,8 +1,8 @@
 //! Faults that a test can switch on, to see that the comparison notices them.
 //!
 //! They are the mistakes that document 01 lists under "Plausible and false", an invented moved count, a soundness
-//! test that overlooks one clause, and mistakes in reading the book program's lines and sheets. Everything outside tests
-//! uses `Fault::None`.
+//! test that overlooks one clause, and mistakes in reading the book program's lines and sheets and in files. Everything
+//! outside tests uses `Fault::None`.
 
 #[derive(Clone, Copy, PartialEq, Eq, Debug, Default)]
 pub enum Fault {
@@ -34,6 +34,8 @@ pub enum Fault {
     LastLineDropped,
     /// Sheets are read with this slip.
     Misreads(Slip),
+    /// Files are written and read with this lapse.
+    Misfiles(Lapse),
 }
 
 /// A clause of document 01's "Sound means". That labels have H digits is none of its own: a root with more children
@@ -147,6 +149,58 @@ impl Slip {
     ];
 }
 
+/// A way to write or read files that looks right and is not.
+#[derive(Clone, Copy, PartialEq, Eq, Debug)]
+pub enum Lapse {
+    /// The kind of a record has its high byte first.
+    KindsTurned,
+    /// A record's length counts its words alone, without its kind.
+    LengthOfWords,
+    /// Something may stand behind the last record.
+    MoreBehind,
+    /// The header's number of tags is not compared with the records.
+    HeaderCount,
+    /// The last record's number of tags is not compared with the records.
+    LastCount,
+    /// The records of tags may come in any order.
+    AnyOrder,
+    /// The records of tags are written by number.
+    ByNumber,
+    /// The stamp is written as 0.
+    StampLost,
+    /// Word 0 is not written on reading.
+    FirstWordStays,
+    /// On reading, 1 comes before 15 where not even a header has room.
+    WordsFirst,
+    /// On reading, 2 comes before 1.
+    SoundFirst,
+    /// The header is written before the file is judged.
+    HeaderEarly,
+    /// On writing, 16 comes before 1 and 2 where not even an empty book has room.
+    RoomFirst,
+    /// On writing, one byte too few is lent and taken.
+    ByteLate,
+}
+
+impl Lapse {
+    pub const ALL: [Lapse; 14] = [
+        Lapse::KindsTurned,
+        Lapse::LengthOfWords,
+        Lapse::MoreBehind,
+        Lapse::HeaderCount,
+        Lapse::LastCount,
+        Lapse::AnyOrder,
+        Lapse::ByNumber,
+        Lapse::StampLost,
+        Lapse::FirstWordStays,
+        Lapse::WordsFirst,
+        Lapse::SoundFirst,
+        Lapse::HeaderEarly,
+        Lapse::RoomFirst,
+        Lapse::ByteLate,
+    ];
+}
+
 impl Fault {
     pub(crate) fn overlooks(self, clause: Clause) -> bool {
         self == Fault::Overlooks(clause)
@@ -154,5 +208,8 @@ impl Fault {
 
     pub(crate) fn misreads(self, slip: Slip) -> bool {
         self == Fault::Misreads(slip)
+    }
+    pub(crate) fn misfiles(self, lapse: Lapse) -> bool {
+        self == Fault::Misfiles(lapse)
     }
 }

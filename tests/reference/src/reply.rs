@@ -1,6 +1,6 @@
 //! What the calls reply.
 
-/// The refusals by their numbers in document 01.
+/// The refusals by their numbers in documents 01 and 02.
 #[derive(Clone, Copy, PartialEq, Eq, Debug)]
 pub enum Refusal {
     FewWords = 1,
@@ -17,6 +17,8 @@ pub enum Refusal {
     NotASheet = 12,
     TooDeep = 13,
     NotRead = 14,
+    NotAFile = 15,
+    ShortBytes = 16,
 }
 
 #[derive(Clone, Copy, PartialEq, Eq, Debug)]

@@ -26,7 +26,7 @@ impl Store {
     pub fn load(&mut self, s: u32, r: u32, book: u32, kinds: &[u8]) -> Result<Loaded, Refusal> {
         let book = Book::load(s, r, book, kinds, self.words.len(), self.fault)?;
         self.write(&book);
-        Ok(Loaded { tags: book.tags.len() as u32, height: book.tree.height })
+        Ok(book.loaded())
     }
 
     pub fn insert(&mut self, kind: u8, place: u32) -> Result<Inserted, Refusal> {
@@ -64,7 +64,7 @@ impl Store {
     }
 
     /// The words past the book stay.
-    fn write(&mut self, book: &Book) {
+    pub(crate) fn write(&mut self, book: &Book) {
         let words = to_words(book);
         self.words[..words.len()].copy_from_slice(&words);
     }
