@@ -1,7 +1,7 @@
 -- Files worked out by hand from document 02, CR 3: one table, which proofs/FileSpecimens.antt shows to hold. Each is a list of
 -- writings and readings over one lent slice of words, with the numbers that each replies.
 use mathlib.Core.Bool.{Bool, true, _&&_}
-use mathlib.Core.List.{List, [], _∷_, _++_, flatMap}
+use mathlib.Core.List.{List, [], _∷_, _++_}
 use Prim.Native.Nat.{ℕ}
 use lib.ListN.{length, set, take, replicate}
 use Rattle.lists.specs.Lists.{same}

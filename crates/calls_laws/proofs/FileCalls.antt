@@ -1,7 +1,7 @@
 -- Writing a file and reading it, over words and replies: what is written is read back, files that are read as the same words are
 -- the same, and what holds of the words before a shutdown holds of those that are read back. Assumes nothing.
 use mathlib.Core.Path.{_≡_, refl, ap, sym, _∙_}
-use mathlib.Core.Bool.{true, not, cond}
+use mathlib.Core.Bool.{true, not}
 use mathlib.Core.List.{List, [], _++_}
 use mathlib.Core.Option.{Option, none, some}
 use Prim.Native.Nat.{ℕ, _≤_, _<_}
@@ -79,13 +79,14 @@ module _ (st : Store) (vs : List ℕ) (e : sound st ≡ true) (own : st .number 
   unfolding read-words written replied store-or
   reads-words = rw (accepted, file-read st e own)
 
--- an accepted call has read a store, whose file it is and whose words stand in front
+-- an accepted call has read a store, whose file it is and whose words fit and stand in front
 pub record Was-read (bs ws : List ℕ) (n h : ℕ) : Type 0 where
   pub store : Store
   pub good : sound store ≡ true
   pub bytes : bs ≡ file-of store
   pub issued : count store ≡ n
   pub levels : height (store .book) ≡ h
+  pub room : words-for header-words (count store) ≤ length ws
   pub words : read-words bs ws ≡ in-front (words-of store) ws
 
 read-zero : (bs ws : List ℕ) (n h : ℕ) → read-reply bs ws ≡ loading.Loaded n h →
@@ -103,12 +104,28 @@ store-read none lent bs q zero =
     absurd (omega (arith, rw q at lacks))
 store-read (some st) lent bs q zero = refl
 
+-- and the words are enough
+words-enough : (lent : ℕ) (bs : List ℕ) → file-refusal lent bs ≡ 0 → words-for header-words (count-in bs) ≤ lent
+unfolding file-refusal first
+words-enough lent bs zero =
+    ltb-false lent (words-for header-words (count-in bs))
+    (passes (ltb lent (words-for header-words (count-in bs))) 0 _ (passes (not (formed bs)) 14 _ zero .1) .0)
+
 pub read-accepted : (bs ws : List ℕ) (n h : ℕ) → read-reply bs ws ≡ loading.Loaded n h → Was-read bs ws n h
 unfolding File-reader-right read-words written replied
 read-accepted bs ws n h e =
     let (zero, same) = read-zero bs ws n h e in
     let right = file-reader-right bs (store-or (read-file bs)) .0 (store-read (read-file bs) (length ws) bs refl zero) in
-    record { store = store-or (read-file bs); good = right .0; bytes = right .2; issued = cc; levels = cc; words = rw zero }
+    let many : count-in bs ≡ count (store-or (read-file bs)) = ap count-in (right .2) ∙ count-file (store-or (read-file bs)) (right .0) (right .1) in
+    record {
+      store = store-or (read-file bs);
+      good = right .0;
+      bytes = right .2;
+      issued = cc;
+      levels = cc;
+      room = rw (← many) (words-enough (length ws) bs zero);
+      words = rw zero;
+    }
 
 front-read : {bs ws : List ℕ} {n h : ℕ} (a : Was-read bs ws n h) → take (words-for header-words n) (read-words bs ws) ≡ words-of (a .store)
 unfolding in-front

@@ -21,8 +21,9 @@ use Rattle.calls.specs.Insert.{insert-kinds, insert-refusal, insert-store}
 use Rattle.calls.specs.Mark.{section-refusal, mark-store}
 use Rattle.calls.specs.Listing.{listed-tags, listed-labels, inside-tests, list-refusal}
 use Rattle.calls.specs.Words.{words-of, Says, in-front}
-use Rattle.calls.specs.File.{file-of}
-use Rattle.calls.specs.Replies.{said, refusal-over, replied, written, load-reply, load-words, insert-refused, insert-reply, insert-words, mark-reply, mark-words, list-refused, list-reply, list-tags, list-labels, write-refused, write-reply, write-bytes}
+use Rattle.tree.specs.Book.{height}
+use Rattle.calls.specs.File.{file-of, read-file}
+use Rattle.calls.specs.Replies.{said, refusal-over, replied, written, load-reply, load-words, insert-refused, insert-reply, insert-words, mark-reply, mark-words, list-refused, list-reply, list-tags, list-labels, write-refused, write-reply, write-bytes, store-or, file-refusal, read-reply, read-words}
 use Rattle.calls.specs.Calls.{Call, insert, mark, refusal, changed, loads, inserts, marks, holds, asks, lists, writes, Happens, load-accepted, insert-accepted, mark-accepted}
 use Rattle.calls.specs.Promise.{Load-sound}
 use Rattle.calls_laws.proofs.Tests.{passes}
@@ -30,10 +31,11 @@ use Rattle.calls_laws.proofs.Steps.{load-sound, changed-sound}
 use Rattle.calls_laws.proofs.WordSteps.{words-fit, refusal-passed, length-in-front}
 use Rattle.calls_laws.proofs.Replies.{replied-told}
 use Rattle.calls_laws.proofs.Files.{length-file}
-use Rattle.calls_laws.proofs.FileCalls.{file-fits}
+use Rattle.calls_laws.proofs.Fields.{length-words}
+use Rattle.calls_laws.proofs.FileCalls.{file-fits, Was-read, read-accepted}
 use Rattle.calls_laws.proofs.RunsKeep.{load-fits, changed-fits, load-told, insert-told, mark-told}
 use Rattle.demands.specs.Words.{Fronted}
-use Rattle.demands.specs.Promise.{listed, filed, accepted, changes, Lists-stay, Lists-hold, Every-call}
+use Rattle.demands.specs.Promise.{listed, filed, accepted, changes, Lists-stay, Lists-hold, Every-call, Every-reading}
 
 -- A RESULT IN FRONT, where it fits
 fronted : (new old : List ℕ) → length new ≤ length old → Fronted new old (in-front new old)
@@ -170,4 +172,26 @@ every-call (writes bs cs q) ws vs (reply, bytes, same) =
       changed = λ _ e. absurd (true≢false (sym e));
       reads = λ _. same;
       writes-lists = λ e. rw bytes (written-fronted k (filed q) told new bs (write-fits ws bs) e);
+    }
+
+-- READING A FILE
+read-zero-told : (bs ws : List ℕ) → file-refusal (length ws) bs ≡ 0 →
+    Was-read bs ws (count (store-or (read-file bs))) (height (store-or (read-file bs) .book))
+unfolding read-reply replied
+read-zero-told bs ws z = read-accepted bs ws _ _ (rw z)
+
+pub every-reading : Every-reading
+unfolding Every-reading read-reply read-words
+every-reading bs ws =
+    let k = file-refusal (length ws) bs in
+    let st = store-or (read-file bs) in
+    let told = load-told k (count st) (height (st .book)) in
+    record {
+      refused = λ e. written-stays k _ told (words-of st) ws e;
+      accepted = λ e. let a = read-zero-told bs ws (zero-told k _ told (words-of st) ws e) in (
+        a .store,
+        a .good,
+        a .bytes,
+        rw (a .words) (fronted (words-of (a .store)) ws (omega (arith, length-words (a .store), a .room))),
+      );
     }

@@ -24,7 +24,7 @@ use Rattle.calls.specs.Sound.{sound}
 use Rattle.calls.specs.Listing.{listed-tags, listed-labels}
 use Rattle.calls.specs.Words.{words-of, Says}
 use Rattle.calls.specs.File.{file-of}
-use Rattle.calls.specs.Replies.{said, refusal-over, insert-reply, insert-words, mark-reply, mark-words, hold-reply, question-reply, list-reply, list-tags, list-labels}
+use Rattle.calls.specs.Replies.{said, refusal-over, insert-reply, insert-words, mark-reply, mark-words, hold-reply, question-reply, list-reply, list-tags, list-labels, read-reply, read-words}
 use Rattle.calls.specs.Calls.{Event, loads, inserts, marks, holds, asks, lists, writes, Happens, Run, load-accepted, insert-accepted, mark-accepted, told}
 use Rattle.calls.specs.Reference.{Reference, total, reference-load, reference-after}
 use Rattle.demands.specs.Sound.{Sound-words}
@@ -92,6 +92,15 @@ pub record Call-right (e : Event) (ws vs : List ℕ) : Type 0 where
 
 unfoldable pub Every-call : Type 0
 Every-call = (e : Event) (ws vs : List ℕ) → Happens e ws vs → Call-right e ws vs
+
+-- and of the reading of a file, which is no event of a run, of any bytes and words: refused, every word is as it was; accepted, the
+-- bytes are the file of a sound store, whose words stand in front
+pub record Read-right (bs ws : List ℕ) : Type 0 where
+  pub refused : load-accepted (read-reply bs ws) ≡ false → read-words bs ws ≡ ws
+  pub accepted : load-accepted (read-reply bs ws) ≡ true → (st : Store) × (sound st ≡ true) × (bs ≡ file-of st) × Fronted (words-of st) ws (read-words bs ws)
+
+unfoldable pub Every-reading : Type 0
+Every-reading = (bs ws : List ℕ) → Read-right bs ws
 
 -- MOVED AND MARKED are differences between the words before and after
 unfoldable pub Moved-right : Type 0

@@ -12,7 +12,7 @@ use lib.ListN.{length, getD, drop, length-drop}
 use lib.Seq.{getD-drop}
 use Rattle.lists.proofs.Tests.{by-test, or-left-false, or-right-false}
 use Rattle.store_types.specs.Layout.{header-words, tag-words, words-for, field, label-at}
-use Rattle.store_types.specs.FileLayout.{front-bytes, word-bytes, row-words, row-bytes, at-number, at-label}
+use Rattle.store_types.specs.FileLayout.{front-bytes, row-words, row-bytes, at-number, at-label}
 use Rattle.words.proofs.Records.{length-joined, field-joined, label-joined}
 use Rattle.tree.specs.Row.{member}
 use Rattle.tree_laws.proofs.Rows.{member-append}

@@ -9,7 +9,7 @@ use native.Mathlib.Numerals.{add-one}
 use native.Mathlib.Decide.{ℕ-discrete}
 use native.Mathlib.Omega.{arith}
 use borrow.Author.Tests.{eq-eqb, ne-eqb, eqb-true, ltb-true, not-true, not-false}
-use lib.Dec.{ltb, eqb}
+use lib.Dec.{eqb}
 use lib.ListN.{length, getD, set, drop, replicate, drop-of-length-le, List·getD-append}
 use lib.Seq.{drop-cons}
 use Rattle.store_types.specs.Limits.{no-tag, most-tags}
@@ -17,13 +17,11 @@ use Rattle.store_types.specs.declared.TagId.{TagId}
 use Rattle.words.specs.declared.Offset.{Offset}
 use Rattle.words.specs.Offsets.{offset-of}
 use Rattle.store_types.specs.Layout.{at-first, at-stamp, header-words, at-next, at-kind, word-at, field}
-use Rattle.store_types.specs.FileLayout.{file-bytes, at-number}
 use Rattle.tree.specs.Row.{member}
 use Rattle.calls.specs.File.{header-in, count-in, rows-in, file-words}
 use Rattle.calls_laws.proofs.FileForm.{length-rows}
 use Rattle.kind_pick.specs.Needs.{Kind-word}
-use Rattle.walk_model.specs.Walk.{kind-fits, open-after}
-use Rattle.walk_tags.specs.Needs.{Open, fits-at}
+use Rattle.walk_model.specs.Walk.{kind-fits}
 use Rattle.walk_tags.proofs.TagLaws.{kind-fitting}
 use Rattle.shape.specs.Tables.{table-length}
 use Rattle.shape.specs.Packed.{widths-in, lows-in, highs-in}

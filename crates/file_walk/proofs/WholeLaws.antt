@@ -1,11 +1,10 @@
 -- The whole judgement of a file: its header is that of the words that it says, so the walk's laws on frames, tables and the parts that
 -- decide (crate walk, SoundLaws) are cited for them. Assumes nothing.
-use mathlib.Core.Path.{_≡_, refl, sym, _∙_}
+use mathlib.Core.Path.{_≡_, refl, _∙_}
 use mathlib.Core.Bool.{Bool, true, false, _&&_, not, and-false}
 use mathlib.Core.List.{List, []}
 use Prim.Native.Nat.{ℕ, _*_, _-_, _≤_, _<_}
 use native.Mathlib.Omega.{arith}
-use borrow.Author.Tests.{not-false}
 use lib.ListN.{length, replicate}
 use Rattle.store_types.specs.Limits.{most-levels, most-tags}
 use Rattle.store_types.specs.Layout.{at-version, at-s, at-r, at-height, at-count, at-first, header-words, word-at, words-for}
@@ -23,7 +22,7 @@ use Rattle.walk_levels.specs.Needs.{Ancestors-fit}
 use Rattle.walk.specs.Needs.{Pass-fits, shape-in, start-with}
 use Rattle.walk.proofs.SoundLaws.{s-of, r-of, h-of, n-of, Frame, framed-fits, width-table, root-fits, ancestors-fit, pass-fits, root-refuses, pass-decides}
 use Rattle.file_model.specs.Judge.{met-before, in-order, judged}
-use Rattle.file_model.proofs.Rows.{length-header-in, length-file-words}
+use Rattle.file_model.proofs.Rows.{length-file-words}
 use Rattle.file_walk.specs.Needs.{Said-by, order-left}
 use Rattle.file_walk.proofs.JudgeLaws.{header-said}
 

@@ -2,8 +2,8 @@
 ghost use mathlib.Core.Path.{_≡_};
 ghost use mathlib.Core.Bool.{true, cond};
 ghost use mathlib.Core.List.{List, _∷_};
-ghost use Prim.Native.Nat.{ℕ, suc, _<_, _≤_, _%_, _+_, _-_};
-ghost use lib.Dec.{ltb, eqb};
+ghost use Prim.Native.Nat.{ℕ, _<_, _≤_, _%_, _+_, _-_};
+ghost use lib.Dec.{ltb};
 ghost use lib.ListN.{length, set};
 ghost use Rattle.store_types.specs.Limits.{most-tags};
 ghost use Rattle.store_types.specs.Layout.{at-kind, field, label-at};
@@ -138,7 +138,7 @@ pub fn passed(bytes: &[u8], end: u64, v: State) -> State
 // The begins that are open behind a tag: a begin opens at its place, an end closes one. What stands from the depth on is of no
 // account, so the place is written in any case, and nothing branches on the kind.
 pub fn opened(opens: &mut [u32], depth: usize, kind: u32, place: u32) -> usize
-    requires { ⌜ Kind-word kind × (depth < length (now opens)) × (depth ≤ 200000) × (kind % 16 ≡ 2 → 1 ≤ depth) ⌝ }
+    requires { ⌜ Kind-word kind × (depth < length (now opens)) × (depth ≤ most-tags) × (kind % 16 ≡ 2 → 1 ≤ depth) ⌝ }
     ensures depth { λ d. ⌜ d ≡ depth-behind kind depth ⌝ }
     ensures opens { λ _. ⌜ now (opens .exit) ≡ set (now (opens .entry)) depth place ⌝ }
 {

@@ -1,10 +1,10 @@
 -- One bit more in a word, and one number more in a set. Assumes nothing.
 use mathlib.Core.Path.{_≡_, refl, ap, sym, _∙_}
-use mathlib.Core.Bool.{Bool, true, false, _||_, not}
+use mathlib.Core.Bool.{_||_}
 use mathlib.Core.List.{List, _∷_, []}
 use mathlib.Core.Logic.{by-cases}
-use Prim.Native.Nat.{ℕ, zero, suc, _+_, _*_, _/_, _%_, _^_, _≤_, _<_, max}
-use native.Mathlib.Nat.{pow-zero, pow-succ', pow-le-pow-right, div-one, div-div-eq-div-mul, mul-add-div-right, mul-add-mod-self-right, mul-div-cancel-left, mul-mod-right, zero-div, zero-mod, div-eq-of-lt, mod-eq-of-lt, mod-lt, max-le, max-zero, le-max-right, one-mul, add-zero}
+use Prim.Native.Nat.{ℕ, zero, suc, _*_, _/_, _%_, _^_, _≤_, _<_, max}
+use native.Mathlib.Nat.{pow-zero, pow-succ', pow-le-pow-right, div-one, div-div-eq-div-mul, mul-add-div-right, mul-add-mod-self-right, mul-div-cancel-left, mul-mod-right, zero-div, div-eq-of-lt, mod-eq-of-lt, max-le, max-zero, le-max-right, one-mul, add-zero}
 use native.Mathlib.Decide.{ℕ-discrete}
 use native.Mathlib.Omega.{arith}
 use borrow.Author.Tests.{eq-eqb, ne-eqb}

@@ -173,12 +173,14 @@ fn insertions(words: &mut [u32]) {
     ask(7, 0, 0, 7, 6, words);
 }
 
-// Words for the tags of each part: 8, 3 and 128; and the bytes of the file of the printed load, and where its stamp is.
+// Words for the tags of each part: 8, 3 and 128; words and bytes of the printed load, and where the stamp is in its file.
 const PRINTED_WORDS: usize = words::HEADER_WORDS + words::TAG_WORDS * 8;
 
 const FEW_WORDS: usize = words::HEADER_WORDS + words::TAG_WORDS * 3;
 
 const LIMIT_WORDS: usize = words::HEADER_WORDS + words::TAG_WORDS * 128;
+
+const LOADED_WORDS: usize = words::HEADER_WORDS + words::TAG_WORDS * 6;
 
 const LOADED_BYTES: usize = file::ROW_BYTES + file::ROW_BYTES * 6 + file::END_BYTES;
 
@@ -250,22 +252,43 @@ fn limits() {
     load(12, 2, &kinds, &mut words);
 }
 
-// The printed load as a file, and back into other words; then the refusals of both.
+// The printed load as a file: into enough bytes, and into one too few.
+fn saves(words: &mut [u32], bytes: &mut [u8]) {
+    let mut few = [0u8; LOADED_BYTES - 1];
+    load(2, 2, b"\x01\x01\x02\x01\x02\x02", words);
+    write(words, bytes);
+    write(words, &mut few);
+}
+
+// Read back into other words; no file at all; and into one word too few.
+fn reads(bytes: &[u8]) {
+    let mut back = [0u32; PRINTED_WORDS];
+    let mut few = [0u32; LOADED_WORDS - 1];
+    read(bytes, &mut back);
+    hold(TagId(3), &back);
+    read(b"", &mut back);
+    read(bytes, &mut few);
+}
+
+// With a stamp above n, and with one that is n.
+fn stamps(bytes: &mut [u8]) {
+    let mut back = [0u32; PRINTED_WORDS];
+    if bytes.len() <= STAMP_BYTE {
+        return;
+    }
+    bytes[STAMP_BYTE] = 7;
+    read(bytes, &mut back);
+    bytes[STAMP_BYTE] = 6;
+    read(bytes, &mut back);
+}
+
+// A book as a file, and back, with the refusals of both.
 fn files() {
     let mut words = [0u32; PRINTED_WORDS];
     let mut bytes = [0u8; LOADED_BYTES];
-    load(2, 2, b"\x01\x01\x02\x01\x02\x02", &mut words);
-    write(&words, &mut bytes);
-    write(&words, &mut bytes[..LOADED_BYTES - 1]);
-    let mut back = [0u32; PRINTED_WORDS];
-    read(&bytes, &mut back);
-    hold(TagId(3), &back);
-    read(&bytes[..LOADED_BYTES - 1], &mut back);
-    read(&bytes, &mut back[..43]);
-    bytes[STAMP_BYTE] = 7;
-    read(&bytes, &mut back);
-    bytes[STAMP_BYTE] = 6;
-    read(&bytes, &mut back);
+    saves(&mut words, &mut bytes);
+    reads(&bytes);
+    stamps(&mut bytes);
 }
 
 fn main() {

@@ -1,11 +1,11 @@
 -- `file_walk::judge::pass` meets its contract. The loop's invariant: what is left of the walk of the words that the file says, and of
 -- the order of its rows, decides as the whole does; what the state carries is right (Standing), and so are the numbers met, the
 -- rows read and the begins open (Met-so-far). The measure is the tags left. Assumes nothing.
-use mathlib.Core.Path.{_≡_, refl, ap, sym, _∙_}
+use mathlib.Core.Path.{_≡_, refl, ap, _∙_}
 use mathlib.Core.Bool.{Bool, true, _&&_, cond}
 use mathlib.Core.List.{List}
 use borrow.Author.Needs.{needs}
-use borrow.Author.Tests.{leb-true, ltb-true, not-false}
+use borrow.Author.Tests.{not-false}
 use Prim.Native.Nat.{ℕ, _-_, _≤_, _<_}
 use native.Mathlib.Omega.{arith}
 use lib.ListN.{length, length-set}
@@ -14,11 +14,10 @@ use Rattle.calls.specs.File.{header-in, count-in, file-words}
 use Rattle.walk_model.specs.Walk.{kind-fits}
 use Rattle.walk_tags.specs.Needs.{pair-table}
 use Rattle.walk.specs.Needs.{Standing}
-use Rattle.walk.proofs.PassLaws.{label-here, walk-at, walk-whole, walk-start, standing-start, walk-misplaced, walk-refused, walk-more, walk-end, passed-fits, standing-kept}
+use Rattle.walk.proofs.PassLaws.{label-here, walk-at, walk-whole, walk-misplaced, walk-refused, walk-more, walk-end, passed-fits, standing-kept}
 use Rattle.file_walk.specs.Needs.{number-at, Row-read, Tag-row, order-left, Met-so-far, Judged-so}
 use Rattle.file_walk.proofs.TagRows.{row-there, label-there}
-use Rattle.file_walk.proofs.OpenLaws.{too-many-open}
-use Rattle.file_walk.proofs.JudgeLaws.{header-there, few-tags, pass-start, deep-fails, ends-said, order-behind, order-fails, number-own, number-below, row-read, order-more, met-more, top-read, opened-fits, so-far-more, so-far-start, order-end, out-of-order, not-passed, deep-judged, last-judged}
+use Rattle.file_walk.proofs.JudgeLaws.{header-there, few-tags, pass-start, deep-fails, ends-said, order-behind, order-fails, number-own, number-below, row-read, order-more, met-more, top-read, opened-fits, so-far-more, order-end, out-of-order, not-passed, deep-judged, last-judged}
 use Rattle.file_walk.proofs.judge.pass.Statement.{statement}
 use Rattle.file_walk.proofs.judge.pass.Tie as tie
 
