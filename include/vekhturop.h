@@ -92,7 +92,7 @@ typedef struct vk_loaded {
 typedef struct vk_inserted {
     uint32_t refusal;
     uint32_t first; /* the number of the new text or begin; an element's end has the next */
-    uint32_t moved; /* how many tags that were there before have another label now */
+    uint32_t moved; /* how many unmarked tags that were there before have another label now */
     uint32_t split; /* the height of the node that was split, 0 where none was; of an element's two, the greater */
 } vk_inserted;
 

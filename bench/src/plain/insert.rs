@@ -46,7 +46,7 @@ impl Sound {
     }
 
     /// Labels `new` tags just linked behind a place, with a split at height h (0: none), and what must move for them.
-    /// Gives how many of the tags that stood before moved.
+    /// Gives how many unmarked ones of the tags that stood before moved.
     fn renumber(&self, words: &mut [u32], place: u32, new: u32, h: usize) -> u32 {
         let widths = &self.shape.widths;
         let label = if place == NO_TAG { 0 } else { u64::from(words[at(place, LABEL)]) };
@@ -69,14 +69,14 @@ impl Sound {
             next = labels.label(i, next);
             let label = next as u32;
             next += 1;
-            moved += u32::from(words[at(x, LABEL)] != label);
+            moved += u32::from(words[at(x, LABEL)] != label) & u32::from(words[at(x, KIND)] < MARK);
             words[at(x, LABEL)] = label;
             x = words[at(x, NEXT)];
         }
         let bound = label - label % widths[h + 1] + widths[h + 1];
         while x != NO_TAG && u64::from(words[at(x, LABEL)]) < bound {
             words[at(x, LABEL)] += by;
-            moved += 1;
+            moved += u32::from(words[at(x, KIND)] < MARK);
             x = words[at(x, NEXT)];
         }
         // New tags had no label yet, so they count above.

@@ -43,7 +43,7 @@ reply!(
     Inserted {
         /// The number of the new text or begin; an element's end has the next.
         first,
-        /// How many tags that were there before have another label now.
+        /// How many unmarked tags that were there before have another label now.
         moved,
         /// The height of the node that was split, 0 where none was; of an element's two, the greater.
         split

@@ -129,7 +129,7 @@ pub struct Inserted {
     pub first: Tag,
     /// The new text, or the new element's end.
     pub last: Tag,
-    /// How many tags that were there before have another label now.
+    /// How many unmarked tags that were there before have another label now.
     pub moved: u32,
     /// The height of the node that was split, 0 where none was; of an element's two, the greater.
     pub split: u32,

@@ -1,16 +1,16 @@
--- Insertion (document 01, "The tree", "Calls and their replies"): of a row of kinds, of which a text and an element are
--- the two that the call admits. Assumes nothing: these are definitions.
+-- Insertion (document 01, "The tree", "Calls and their replies"; document 02, CR 4, for the moved number): of a row of
+-- kinds, of which a text and an element are the two that the call admits. Assumes nothing: these are definitions.
 use mathlib.Core.Bool.{Bool, false, _&&_, _||_, not, cond}
 use mathlib.Core.List.{List, [], _∷_, _++_}
 use Prim.Native.Nat.{ℕ, zero, suc, _+_, _*_, _^_}
 use lib.Dec.{ltb, leb, eqb}
 use lib.ListN.{length}
-use Rattle.lists.specs.Lists.{first}
+use Rattle.lists.specs.Lists.{first, how-many}
 use Rattle.store_types.specs.Limits.{no-tag, most-tags}
 use Rattle.store_types.specs.Layout.{header-words, words-for}
-use Rattle.tree.specs.Book.{Book, height, inserted-row, split-of-row, moved}
+use Rattle.tree.specs.Book.{Book, height, inserted-row, split-of-row, moved-among}
 use Rattle.calls.specs.Kind.{Kind, begin, end, text, is-begin}
-use Rattle.calls.specs.Store.{Store, fact, count, place-of, width, height-fits}
+use Rattle.calls.specs.Store.{Store, fact, unmarked, count, row, place-of, width, height-fits}
 use Rattle.calls.specs.Nesting.{new-facts}
 
 -- kind 1: an element, its begin and then its end; kind 3: a text
@@ -38,9 +38,12 @@ insert-store ks y st =
       facts = st .facts ++ new-facts (up-at y st) [] (count st) ks;
     }
 
--- tags present before the whole call whose label differs after it
+-- what a session can lose (document 02, CR 4): the tags present before the whole call whose label differs after it, of
+-- those that are unmarked before and after the call
 unfoldable pub insert-moved : (kinds : List Kind) → (place : ℕ) → Store → ℕ
-insert-moved ks y st = moved (width st) (st .book) (book-after ks y st)
+insert-moved ks y st =
+    let after = insert-store ks y st in
+    how-many (λ x. unmarked st x && unmarked after x) (moved-among (width st) (row st) (st .book) (after .book))
 
 -- the greatest split height of the single insertions
 unfoldable pub insert-split : (kinds : List Kind) → (place : ℕ) → Store → ℕ

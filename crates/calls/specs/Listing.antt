@@ -8,12 +8,12 @@ use lib.ListN.{length}
 use Rattle.lists.specs.Lists.{first}
 use Rattle.store_types.specs.Limits.{no-tag}
 use Rattle.calls.specs.Kind.{is-begin}
-use Rattle.calls.specs.Store.{Store, fact, count, row, label}
+use Rattle.calls.specs.Store.{Store, fact, unmarked, count, row, label}
 use Rattle.calls.specs.Held.{encloses}
 
 -- whether a tag is listed
 unfoldable pub is-listed : Store → (section tag : ℕ) → Bool
-is-listed st x d = (eqb x no-tag || encloses st x d) && not (fact st d .marked)
+is-listed st x d = (eqb x no-tag || encloses st x d) && unmarked st d
 
 -- those of a row that are, in order
 unfoldable pub listed-of : Store → (section : ℕ) → (row : List ℕ) → List ℕ

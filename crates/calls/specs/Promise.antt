@@ -1,5 +1,5 @@
--- What is promised of the store (demands 2 and 3), and of its files (document 02, CR 3). Each statement is a type; docs/THEOREMS.md names its proof or says
--- that it is owed. Assumes nothing.
+-- What is promised of the store (demands 2 and 3), and of its files (document 02, CR 3). Each statement is a type;
+-- docs/THEOREMS.md names its proof. Assumes nothing.
 use mathlib.Core.Path.{_≡_}
 use mathlib.Core.Bool.{Bool, true, false, _&&_}
 use mathlib.Core.List.{List, _∷_, _++_, map}
@@ -21,7 +21,7 @@ use Rattle.tree.specs.Row.{rises}
 use Rattle.tree.specs.Book.{height, labels-of}
 use Rattle.tree.specs.Reach.{account-bound}
 use Rattle.calls.specs.Kind.{Kind, is-begin}
-use Rattle.calls.specs.Store.{Store, fact, count, row, place-of, width, height-fits, label}
+use Rattle.calls.specs.Store.{Store, fact, unmarked, count, row, place-of, width, height-fits, label}
 use Rattle.calls.specs.Nesting.{nests}
 use Rattle.calls.specs.Sound.{tree-sound, sound}
 use Rattle.calls.specs.Load.{load-refusal, load-store}
@@ -45,6 +45,10 @@ Insert-sound =
 
 unfoldable pub Mark-sound : Type 0
 Mark-sound = (x : ℕ) (st : Store) → sound st ≡ true → section-refusal x st ≡ 0 → sound (mark-store x st) ≡ true
+
+-- an insertion changes no mark of a tag that was there: unmarked before and after the call is unmarked before it
+unfoldable pub Marks-stay : Type 0
+Marks-stay = (ks : List Kind) (y x : ℕ) (st : Store) → x < count st → unmarked (insert-store ks y st) x ≡ unmarked st x
 
 -- REFUSAL 7 of a row of one or two tags, tag by tag, is document 01's n + k ≥ s times r^H and b^(H + 1) > 2^32
 unfoldable pub Rows-end : Type 0

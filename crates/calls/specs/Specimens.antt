@@ -97,13 +97,36 @@ specimen-table =
       exchanges =
           load 2 2 7 (texts 4) (0 ∷ 4 ∷ 2 ∷ []) ∷ insert 3 0 (0 ∷ 4 ∷ 1 ∷ 0 ∷ []) ∷ insert 3 0 (0 ∷ 5 ∷ 4 ∷ 1 ∷ []) ∷ [];
     } ∷
-    -- a marked tag counts: the fourth tag brings the root to its limit
+    -- a marked tag counts as a leaf: the fourth tag brings the root to its limit
     record {
       room = 4;
       exchanges =
           load 2 2 7 (texts 3) (0 ∷ 3 ∷ 1 ∷ []) ∷ mark 1 (0 ∷ 1 ∷ []) ∷ insert 3 2 (0 ∷ 3 ∷ 1 ∷ 1 ∷ []) ∷
           list no-tag (0 ∷ 3 ∷ []) (0 ∷ 2 ∷ 3 ∷ []) (0 ∷ 3 ∷ 4 ∷ []) ∷ [];
     } ∷
+    -- a marked tag moves and does not count as moved (document 02, CR 4): where nothing is split; among the right siblings of
+    -- a split node; in a split root, and shifted again
+    record {
+      room = 5;
+      exchanges =
+          load 2 2 7 (texts 4) (0 ∷ 4 ∷ 2 ∷ []) ∷ mark 1 (0 ∷ 1 ∷ []) ∷ insert 3 0 (0 ∷ 4 ∷ 0 ∷ 0 ∷ []) ∷
+          list no-tag (0 ∷ 4 ∷ []) (0 ∷ 4 ∷ 2 ∷ 3 ∷ []) (0 ∷ 1 ∷ 3 ∷ 4 ∷ []) ∷ [];
+    } ∷
+    record {
+      room = 6;
+      exchanges =
+          load 2 2 7 (texts 4) (0 ∷ 4 ∷ 2 ∷ []) ∷ mark 3 (0 ∷ 1 ∷ []) ∷ insert 3 0 (0 ∷ 4 ∷ 1 ∷ 0 ∷ []) ∷ insert 3 0 (0 ∷ 5 ∷ 3 ∷ 1 ∷ []) ∷
+          list no-tag (0 ∷ 5 ∷ []) (0 ∷ 5 ∷ 4 ∷ 1 ∷ 2 ∷ []) (0 ∷ 1 ∷ 3 ∷ 4 ∷ 6 ∷ []) ∷ [];
+    } ∷
+    record {
+      room = 5;
+      exchanges =
+          load 2 2 7 (1 ∷ 3 ∷ 2 ∷ []) (0 ∷ 3 ∷ 1 ∷ []) ∷ mark 0 (0 ∷ 3 ∷ []) ∷
+          insert 3 no-tag (0 ∷ 3 ∷ 0 ∷ 1 ∷ []) ∷ insert 3 no-tag (0 ∷ 4 ∷ 1 ∷ 0 ∷ []) ∷ [];
+    } ∷
+    -- and by an element: both of its tags at once, and one after the other
+    record { room = 4; exchanges = load 2 2 7 (texts 2) (0 ∷ 2 ∷ 1 ∷ []) ∷ mark 1 (0 ∷ 1 ∷ []) ∷ insert 1 no-tag (0 ∷ 2 ∷ 1 ∷ 1 ∷ []) ∷ [] } ∷
+    record { room = 4; exchanges = load 3 2 7 (texts 2) (0 ∷ 2 ∷ 1 ∷ []) ∷ mark 1 (0 ∷ 1 ∷ []) ∷ insert 1 no-tag (0 ∷ 2 ∷ 1 ∷ 0 ∷ []) ∷ [] } ∷
     -- a pair of another book is stale, whatever its labels and tag; of a marked section too; the refusals of the question
     record {
       room = 6;

@@ -1,6 +1,6 @@
 -- A store: the book's tree, and for each tag its kind, mark, mate and up (document 01, "The book in words").
 -- Assumes nothing: these are definitions.
-use mathlib.Core.Bool.{Bool, false, cond}
+use mathlib.Core.Bool.{Bool, false, not, cond}
 use mathlib.Core.List.{List, [], _∷_}
 use Prim.Native.Nat.{ℕ, suc, _+_}
 use lib.Dec.{leb}
@@ -38,6 +38,10 @@ fact-in fs x = getD fs x no-fact
 
 abbrev pub fact : Store → (tag : ℕ) → Fact
 fact st x = fact-in (st .facts) x
+
+-- whether a session can hold a tag: nobody can hold a marked one
+abbrev pub unmarked : Store → (tag : ℕ) → Bool
+unmarked st x = not (fact st x .marked)
 
 -- n: tags issued
 abbrev pub count : Store → ℕ

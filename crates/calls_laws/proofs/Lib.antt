@@ -7,6 +7,7 @@ pub mod Marks
 pub mod Listings
 pub mod Heights
 pub mod Inserts
+pub mod Moved
 pub mod Steps
 pub mod Pairs
 pub mod Fields

@@ -15,7 +15,7 @@ use Rattle.tree.specs.Promise.{Sane, Labels-rise}
 use Rattle.tree_laws.proofs.Insertion.{size-inserted, sane-inserted, inserted-s, inserted-r, tags-inserted-row}
 use Rattle.tree_laws.proofs.Load.{tags-loaded}
 use Rattle.tree_laws.proofs.Labels.{labels-rise}
-use Rattle.tree_laws.proofs.Account.{Account, account-loaded, account-row, account-few, account-low}
+use Rattle.tree_laws.proofs.Account.{Account, account-fewer, account-loaded, account-row, account-few, account-low}
 use Rattle.calls.specs.Kind.{Kind}
 use Rattle.calls.specs.Store.{Store, count, row, width}
 use Rattle.calls.specs.Sound.{sound}
@@ -28,6 +28,7 @@ use Rattle.calls.specs.Promise.{Load-sound, Kept, Lists-keep}
 use Rattle.calls_laws.proofs.Widths.{store-widths, store-powers}
 use Rattle.calls_laws.proofs.Tests.{facts-of}
 use Rattle.calls_laws.proofs.Inserts.{row-degrees, height-raised, accepted-row, position-fits}
+use Rattle.calls_laws.proofs.Moved.{moved-fewer}
 use Rattle.calls_laws.proofs.Steps.{accepted-load, insert-passed, load-sound, changed-sound}
 
 -- THE HEADER after a row of insertions: H rises as the reference list says
@@ -83,7 +84,7 @@ started w s r b ks e =
 -- INSERTION of a row of kinds into a store beside its reference list
 module _ (w y : ℕ) (ks : List Kind) {st : Store} {a : Reference} {t : ℕ} (f : Follows st a t) (e : row-refusal w ks y st ≡ 0) where
   inserted-beside : sound (insert-store ks y st) ≡ true → Follows (insert-store ks y st) (reference-insert (length ks) y a) (t + insert-moved ks y st)
-  unfolding insert-store book-after insert-moved reference-insert position reference-position
+  unfolding insert-store book-after reference-insert position reference-position
   inserted-beside good =
       let k = st .book in
       let h = facts-of st (f .is-sound) in
@@ -96,7 +97,9 @@ module _ (w y : ℕ) (ks : List Kind) {st : Store} {a : Reference} {t : ℕ} (f 
         degree-s = row-degrees n p (count st) k .0 ∙ f .degree-s;
         degree-r = row-degrees n p (count st) k .1 ∙ f .degree-r;
         levels = rw (← f .degree-s, ← f .degree-r, ← f .levels, ← f .tags) (height-row n p (count st) k (f .account .sane) fits);
-        account = account-row n p (count st) k (store-widths st) fits (sym (h .as-many)) (h .each) (f .account);
+        account =
+            account-fewer (t + insert-moved ks y st) (omega (arith, moved-fewer ks y st))
+            (account-row n p (count st) k (store-widths st) fits (sym (h .as-many)) (h .each) (f .account));
       }
 
 -- ONE CALL and every list of calls

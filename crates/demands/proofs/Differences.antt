@@ -1,5 +1,5 @@
--- Moved and marked are differences of words: how many tags have another label word, how many kind words became marked
--- ones. Assumes nothing.
+-- Moved and marked are differences of words: how many tags with unmarked kind words have another label word, how many kind
+-- words became marked ones. Assumes nothing.
 use mathlib.Core.Path.{_≡_, refl, sym, _∙_}
 use mathlib.Core.Bool.{Bool, true, false, _&&_, _||_, not, cond}
 use mathlib.Core.List.{List, [], _∷_}
@@ -12,11 +12,11 @@ use Rattle.store_types.specs.declared.InsertReply.the-variants as inserting
 use Rattle.store_types.specs.declared.MarkReply.the-variants as marking
 use Rattle.store_types.specs.declared.TagId.{TagId}
 use Rattle.lists.proofs.Tests.{by-test}
-use Rattle.lists.specs.Lists.{numbers}
+use Rattle.lists.specs.Lists.{numbers, how-many}
 use Rattle.lists.proofs.Numbers.{length-numbers}
-use Rattle.tree.specs.Book.{Book, label-of, moved-among, moved}
+use Rattle.tree.specs.Book.{Book, label-of, moved-among}
 use Rattle.tree_laws.proofs.Rows.{member-numbers}
-use Rattle.calls.specs.Store.{Store, Fact, no-fact, fact, count, row, width, label}
+use Rattle.calls.specs.Store.{Store, Fact, no-fact, fact, unmarked, count, row, width, label}
 use Rattle.calls.specs.Nesting.{new-facts}
 use Rattle.calls.specs.Insert.{insert-kinds, position, up-at, book-after, insert-store, insert-moved, insert-refusal}
 use Rattle.calls.specs.Mark.{within, mark-store, new-marks, mark-count, section-refusal}
@@ -32,7 +32,7 @@ use Rattle.calls_laws.proofs.WordSteps.{refusal-passed, header-said, says-in-fr
 use Rattle.calls_laws.proofs.Replies.{replied-accepted}
 use Rattle.walk_model.proofs.Passes.{total}
 use Rattle.walk_model.proofs.Counts.{total-same}
-use Rattle.demands.specs.Words.{is-marked, count-below, labels-changed, became-marked}
+use Rattle.demands.specs.Words.{is-marked, count-below, unmarked-changed, became-marked}
 use Rattle.demands.specs.Promise.{Moved-right, Marked-right}
 use Rattle.demands.proofs.Said.{sound-said, tag-said}
 
@@ -51,20 +51,18 @@ count-total g p zero each = refl
 count-total g p (suc n) each =
     total-last g 0 n ∙ rw (zero-add, each n (omega arith), count-total g p n (λ x l. each x (omega arith)))
 
--- MOVED
-other : Bool → ℕ
-other e = cond e 0 1
+-- MOVED: of a row, tag by tag, those that pass a test
+moved-total : (f : ℕ → Bool) (w : ℕ → ℕ) (k m : Book) (xs : List ℕ) →
+    how-many f (moved-among w xs k m) ≡ total (λ x. cond (not (eqb (label-of w k x) (label-of w m x)) && f x) 1 0) xs
+unfolding moved-among how-many
+moved-total f w k m [] = refl
+moved-total f w k m (x ∷ xs) =
+    by-test (eqb (label-of w k x) (label-of w m x)) (λ e. rw e (omega (arith, moved-total f w k m xs))) (λ e. rw e (omega (arith, moved-total f w k m xs)))
 
-other-not : (e : Bool) → other e ≡ cond (not e) 1 0
-unfolding other
-other-not true = refl
-other-not false = refl
-
-moved-total : (w : ℕ → ℕ) (k m : Book) (xs : List ℕ) → length (moved-among w xs k m) ≡ total (λ x. other (eqb (label-of w k x) (label-of w m x))) xs
-unfolding moved-among other
-moved-total w k m [] = refl
-moved-total w k m (x ∷ xs) =
-    by-test (eqb (label-of w k x) (label-of w m x)) (λ e. rw e (omega (arith, moved-total w k m xs))) (λ e. rw e (omega (arith, moved-total w k m xs)))
+-- whether a tag is marked, by its kind word
+mark-said : (ws : List ℕ) (st : Store) → Says ws st → (x : ℕ) → x < count st → is-marked ws x ≡ fact st x .marked
+unfolding is-marked
+mark-said ws st says x l = rw (tag-said ws st says x l .kind-is) (kind-back (fact st x .kind) (fact st x .marked) .1)
 
 -- a reply that says so is that of an accepted insertion
 inserted-said : (k : ℕ) (x y : TagId) (m h m′ h′ : ℕ) → replied inserting.Refused k (inserting.Inserted x m h) ≡ inserting.Inserted y m′ h′ → (k ≡ 0) × (m ≡ m′)
@@ -92,24 +90,34 @@ module _ (c y : ℕ) (ws : List ℕ) (z : insert-refused c y ws ≡ 0) where
   unfolding insert-store
   still x l = omega (arith, length-append (st .facts) (new-facts (up-at y st) [] (count st) (insert-kinds c)))
 
+  same-book : su .book ≡ book-after (insert-kinds c) y st
+  unfolding insert-store
+  same-book = refl
+
   -- s and r stay, so the widths do
   label-after : (x : ℕ) → label su x ≡ label-of (width st) (book-after (insert-kinds c) y st) x
   unfolding insert-store book-after
   label-after x = let d = row-degrees (length (insert-kinds c)) (position y st) (count st) (st .book) in rw (d .0, d .1)
 
-  moved-words : insert-moved (insert-kinds c) y st ≡ labels-changed ws (insert-words c y ws)
-  unfolding insert-moved moved labels-changed
+  moved-words : insert-moved (insert-kinds c) y st ≡ unmarked-changed ws (insert-words c y ws)
+  unfolding insert-moved unmarked-changed
   moved-words =
       let after = book-after (insert-kinds c) y st in
-      let g : ℕ → ℕ = λ x. other (eqb (label-of (width st) (st .book) x) (label-of (width st) after x)) in
+      let f : ℕ → Bool = λ x. unmarked st x && unmarked su x in
+      let g : ℕ → ℕ = λ x. cond (not (eqb (label-of (width st) (st .book) x) (label-of (width st) after x)) && f x) 1 0 in
       let own = sound-said ws st says in
-      moved-total (width st) (st .book) after (row st)
+      rw same-book (moved-total f (width st) (st .book) after (row st))
       ∙ (total-same g (row st) (numbers 0 (count st)) (distinct-row own)
       (λ v m. member-numbers v 0 (count st) (omega arith) (omega (arith, row-below own v m))) (omega (arith, length-numbers 0 (count st), own .as-many))
       ∙ rw (header-said ws st says .issued)
       (count-total g _ (count st)
-      (λ x l. rw (tag-said ws st says x l .label-word, tag-said (insert-words c y ws) su says-after x (still x l) .label-word, label-after x)
-      (other-not (eqb (label-of (width st) (st .book) x) (label-of (width st) after x))))))
+      (λ x l. rw (
+        tag-said ws st says x l .label-word,
+        tag-said (insert-words c y ws) su says-after x (still x l) .label-word,
+        label-after x,
+        mark-said ws st says x l,
+        mark-said (insert-words c y ws) su says-after x (still x l),
+      ))))
 
 pub moved-right : Moved-right
 unfolding Moved-right insert-reply
@@ -151,12 +159,11 @@ module _ (x : ℕ) (ws : List ℕ) (z : refusal-over ws (section-refusal x) ≡ 
       rw z (says-in-front ws after (changed-sound (length ws) (mark x) before (said-before .0) fine))
 
   marked-tag : (i : ℕ) → i < count before → (is-marked ws i ≡ fact before i .marked) × (is-marked (mark-words x ws) i ≡ (fact before i .marked || within before x i))
-  unfolding is-marked mark-store
+  unfolding mark-store
   marked-tag i l =
       let many : i < count after = omega (arith, length-marked before x 0 (before .facts)) in (
-        rw (tag-said ws before said-before i l .kind-is) (kind-back (fact before i .kind) (fact before i .marked) .1),
-        rw (tag-said (mark-words x ws) after said-after i many .kind-is)
-            (kind-back (fact after i .kind) (fact after i .marked) .1 ∙ rw zero-add at (mark-of before x 0 (before .facts) i l)),
+        mark-said ws before said-before i l,
+        mark-said (mark-words x ws) after said-after i many ∙ rw zero-add at (mark-of before x 0 (before .facts) i l),
       )
 
   marked-words : mark-count x before ≡ became-marked ws (mark-words x ws)

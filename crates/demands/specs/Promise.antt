@@ -28,7 +28,7 @@ use Rattle.calls.specs.Replies.{said, refusal-over, insert-reply, insert-words,
 use Rattle.calls.specs.Calls.{Event, loads, inserts, marks, holds, asks, lists, writes, Happens, Run, load-accepted, insert-accepted, mark-accepted, told}
 use Rattle.calls.specs.Reference.{Reference, total, reference-load, reference-after}
 use Rattle.demands.specs.Sound.{Sound-words}
-use Rattle.demands.specs.Words.{Book-row, Stand, is-marked, unmarked-of, Inside, Fronted, labels-changed, became-marked}
+use Rattle.demands.specs.Words.{Book-row, Stand, is-marked, unmarked-of, Inside, Fronted, unmarked-changed, became-marked}
 
 -- DEMAND 1, of any words and each of the calls. Whether a call was accepted, and whether it is one that changes the store
 unfoldable pub held : HoldReply → Bool
@@ -105,7 +105,7 @@ Every-reading = (bs ws : List ℕ) → Read-right bs ws
 -- MOVED AND MARKED are differences between the words before and after
 unfoldable pub Moved-right : Type 0
 Moved-right =
-    (c y x m h : ℕ) (ws : List ℕ) → insert-reply c y ws ≡ Inserted (record { 0 = x }) m h → m ≡ labels-changed ws (insert-words c y ws)
+    (c y x m h : ℕ) (ws : List ℕ) → insert-reply c y ws ≡ Inserted (record { 0 = x }) m h → m ≡ unmarked-changed ws (insert-words c y ws)
 
 unfoldable pub Marked-right : Type 0
 Marked-right = (x n : ℕ) (ws : List ℕ) → mark-reply x ws ≡ Marked n → n ≡ became-marked ws (mark-words x ws)

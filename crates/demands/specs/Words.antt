@@ -52,9 +52,11 @@ unfoldable pub count-below : (n : ℕ) → (ℕ → Bool) → ℕ
 count-below zero p = 0
 count-below (suc n) p = cond (p n) 1 0 + count-below n p
 
--- tags below the old n that have another label word afterwards
-unfoldable pub labels-changed : (before after : List ℕ) → ℕ
-labels-changed ws vs = count-below (word-at ws at-count) (λ x. not (eqb (label-at ws x) (label-at vs x)))
+-- tags below the old n that have another label word afterwards, and no marked one's kind word before or afterwards
+-- (document 02, CR 4)
+unfoldable pub unmarked-changed : (before after : List ℕ) → ℕ
+unmarked-changed ws vs =
+    count-below (word-at ws at-count) (λ x. not (eqb (label-at ws x) (label-at vs x)) && (not (is-marked ws x) && not (is-marked vs x)))
 
 -- tags whose kind word became a marked one
 unfoldable pub became-marked : (before after : List ℕ) → ℕ

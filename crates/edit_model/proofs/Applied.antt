@@ -14,7 +14,7 @@ use Rattle.edit_model.specs.Image.{Image, image-words, with-labels}
 use Rattle.edit_model.specs.Relabel.{relabel, shift}
 use Rattle.edit_model.specs.Insert.{Plan, applied}
 use Rattle.edit_model.proofs.Image.{Proper}
-use Rattle.edit_model.proofs.Along.{follow-at, along-at}
+use Rattle.edit_model.proofs.Along.{unmarked-row, follow-at, along-at}
 use Rattle.edit_model.proofs.Differ.{differ}
 use Rattle.shape.proofs.Sums.{cut-all}
 use Rattle.edit_model.proofs.Relabels.{relabel-words, relabel-proper, relabel-moved, Stretch, shift-words, shift-moved}
@@ -120,7 +120,7 @@ module _ {v : Image} (h : Proper v) (few : length (v .facts) ≤ most-tags) (res
       rw (a .was, take-at before _ i refl, two-back before old (beside ++ after) j refl)
       at (relabel-proper h rest new i (length old) (a .as-many) (omega (arith, all)))
 
-  relabelled-moved : relabel (take (length old) (drop i (v .tags))) new ws .moved ≡ differ old new
+  relabelled-moved : relabel (take (length old) (drop i (v .tags))) new ws .moved ≡ differ (take (length old) (drop i (unmarked-row v))) old new
   relabelled-moved =
       relabel-moved h rest new i (length old) (a .as-many) (omega (arith, all))
       ∙ rw (a .was, drop-at before _ i refl, take-at old _ (length old) refl)
@@ -157,9 +157,12 @@ module _ {v : Image} (h : Proper v) (few : length (v .facts) ≤ most-tags) (res
       (shift-words relabelled-proper rest (length (v .facts)) j (j + length beside) (q .bound) (q .by) few stretch all-fit
       ∙ rw (two-front before new (beside ++ after) j front, two-back before new (beside ++ after) j front, count, take-at beside after (length beside) refl, behind, append-assoc))
 
-  pub applied-moved : applied ws w r (length (v .facts)) q .moved ≡ differ old new + length beside
+  pub applied-moved : applied ws w r (length (v .facts)) q .moved
+      ≡ differ (take (length old) (drop i (unmarked-row v))) old new + differ (take (length beside) (drop j (unmarked-row v))) beside (map (λ l. l + q .by) beside)
   unfolding with-labels
   applied-moved =
+      let front : length before + length new ≡ j = omega (arith, a .as-many) in
+      let count : j + length beside - j ≡ length beside = omega arith in
       let all-fit : j + length beside - j ≤ length (v .facts) = omega (arith, all, h .as-many) in
       rw (steps, relabelled-words, relabelled-moved)
-      (omega (arith, shift-moved relabelled-proper rest (length (v .facts)) j (j + length beside) (q .bound) (q .by) few stretch all-fit))
+      (rw (shift-moved relabelled-proper rest (length (v .facts)) j (j + length beside) (q .bound) (q .by) few stretch all-fit, two-back before new (beside ++ after) j front, count, take-at beside after (length beside) refl))

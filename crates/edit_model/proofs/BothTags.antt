@@ -1,14 +1,13 @@
 -- Both tags of an element at once, where the second splits: the words afterwards and how many tags moved. Assumes nothing.
 use mathlib.Core.Path.{_≡_, refl, ap, sym, _∙_}
-use mathlib.Core.Bool.{true, cond}
-use mathlib.Core.List.{List, [], _∷_, _++_, map}
+use mathlib.Core.Bool.{true, false, cond}
+use mathlib.Core.List.{List, [], _∷_, _++_, map, append-assoc}
 use Prim.Native.Nat.{ℕ, suc, _+_, _*_, _-_, _^_, _≤_, _<_}
-use native.Mathlib.Nat.{mul-le-mul}
 use native.Mathlib.Omega.{arith}
-use borrow.Author.Tests.{ne-eqb, lt-ltb}
+use borrow.Author.Tests.{lt-ltb}
 use lib.Dec.{eqb}
-use lib.ListN.{length, getD, take, drop, length-append}
-use lib.Seq.{drop-cons, drop-append-add}
+use lib.ListN.{length, drop, length-append}
+use lib.Seq.{getD-append-add, drop-append-add}
 use Rattle.store_types.specs.Limits.{no-tag, most-tags}
 use Rattle.store_types.specs.Layout.{header-words, tag-words, words-for}
 use Rattle.lists.proofs.Tests.{by-test}
@@ -16,31 +15,32 @@ use Rattle.words.proofs.Fields.{words-next}
 use Rattle.shape.specs.Tables.{widths-of}
 use Rattle.tree.specs.Row.{insert-at}
 use Rattle.tree.specs.Forest.{leaves, size, labels, spread}
-use Rattle.tree.specs.Book.{Book, height, labels-of, split-of, moved}
+use Rattle.tree.specs.Book.{Book, height, labels-of, split-of}
 use Rattle.tree.specs.Reach.{split-book}
-use Rattle.tree_laws.proofs.Rows.{length-insert, insert-left, insert-right}
+use Rattle.tree_laws.proofs.Rows.{length-insert, insert-left, insert-right, insert-two}
 use Rattle.tree_laws.proofs.Spread.{leaves-spread, far-from-limit}
-use Rattle.tree_laws.proofs.Labels.{length-labels, width-least}
+use Rattle.tree_laws.proofs.Labels.{length-labels}
 use Rattle.tree_laws.proofs.Root.{labels-whole}
 use Rattle.tree_laws.proofs.Second.{second-book}
 use Rattle.tree_laws.proofs.Both.{pieces-whole, labels-both}
 use Rattle.calls.specs.Kind.{kind-word}
-use Rattle.calls.specs.Store.{Store, Fact, count, row, width, height-fits}
+use Rattle.calls.specs.Store.{Store, Fact, no-fact, count, row, width, height-fits}
 use Rattle.calls.specs.Words.{words-of, Says}
-use Rattle.calls_laws.proofs.Widths.{store-widths}
 use Rattle.calls_laws.proofs.Tests.{Sound, sane}
 use Rattle.calls_laws.proofs.Sections.{distinct-row}
+use Rattle.calls_laws.proofs.Moved.{moved-unmarked}
 use Rattle.edit_model.specs.Image.{Image, image-words, image-of, with-labels}
 use Rattle.edit_model.specs.Insert.{Plan, Edited, added, applied, plan-of, put-words, raised-words}
 use Rattle.edit_model.proofs.Image.{Proper, length-image, proper-image, image-is}
+use Rattle.edit_model.proofs.Along.{unmarked-by, unmarked-row}
 use Rattle.edit_model.proofs.Differ.{differ}
-use Rattle.edit_model.proofs.Moves.{moved-and-new}
-use Rattle.edit_model.proofs.Added.{with-tag}
+use Rattle.edit_model.proofs.Moves.{moved-and-new, moved-with-facts}
+use Rattle.edit_model.proofs.Added.{with-tag, one-more}
 use Rattle.edit_model.proofs.Applied.{spread-labels}
 use Rattle.edit_model.proofs.Plans.{place-tag, sound-said, image-said, widths-right}
 use Rattle.edit_model.proofs.Single.{raised-image, grown, book-with, plan-at, added-at}
 use Rattle.edit_model.proofs.Renumbered.{Right, Row-in, row-in, renumbered-words, renumbered-moved}
-use Rattle.edit_model.proofs.TwoTags.{with-two, proper-two, count-two, two-labels, two-before, added-two, distinct-two, apart-two, book-with-two, in-book, size-second, second-tags, label-below, not-tag, alike-two}
+use Rattle.edit_model.proofs.TwoTags.{with-two, proper-two, count-two, two-labels, two-before, added-two, distinct-two, apart-two, book-with-two, in-book, second-tags, label-below, not-tag, alike-two}
 use Rattle.edit_model.proofs.PlanTwo.{compared, two-most, two-full, Pieces-in, Planned-split, planned-two}
 
 -- how two tags go in over words at once
@@ -202,39 +202,37 @@ module _ (ws : List ℕ) (st : Store) (says : Says ws st) (p : ℕ) (fits : p �
   both-words = rw (added-both, numbered-words (drop (words-for header-words (suc (suc (count st)))) ws)) (raised-said (drop (words-for header-words (suc (suc (count st)))) ws))
 
   -- how many tags moved: the new ones count as moved where they are numbered
-  new-differ : differ (no-tag ∷ no-tag ∷ []) (take 2 (drop p (labels-of (width st) (book-with-two p st)))) ≡ 2
-  unfolding differ
-  new-differ =
-      let ls = labels-of (width st) (book-with-two p st) in
-      let many : length ls ≡ suc (suc (size (k .root))) = length-labels (book-with-two p st .root) (width st) (book-with-two p st .under) 0 ∙ size-second own p fits in
-      let in-labels : suc p < length ls = omega (arith, inside) in
-      let below = label-below own p fits labels-fit in
-      rw (
-        drop-cons ls p 0 (omega arith),
-        drop-cons ls (suc p) 0 in-labels,
-        ne-eqb no-tag (getD ls p 0) (λ e. omega (arith, below p (omega arith))),
-        ne-eqb no-tag (getD ls (suc p) 0) (λ e. omega (arith, below (suc p) in-labels)),
-      )
+  module _ (new-t : t .marked ≡ false) (new-u : u .marked ≡ false) where
+    abbrev with-facts : List Fact
+    with-facts = st .facts ++ (t ∷ u ∷ [])
 
-  moved-said : moved (width st) k (book-with-two p st) + 2 ≡ differ (both .labels) (labels-of (width st) (book-with-two p st))
-  unfolding image-of insert-at
-  moved-said =
-      moved-and-new (width st) k (book-with-two p st) p new-tags (distinct-row own) (distinct-two (count st) (suc (count st)) (λ e. omega arith))
-      (apart-two (count st) (suc (count st)) (row st) (not-tag own p fits (count st) (omega arith)) (not-tag own p fits (suc (count st)) (omega arith)))
-      inside (second-tags own p fits) (no-tag ∷ no-tag ∷ []) refl new-differ
-      ∙ rw (two-labels (proper-image own) few-more p in-row t u)
+    new-pass : map (unmarked-by with-facts) new-tags ≡ true ∷ true ∷ []
+    new-pass =
+        let first : count st + 0 ≡ count st = omega arith in
+        let second : count st + 1 ≡ suc (count st) = omega arith in
+        rw (rw first at (getD-append-add (st .facts) (t ∷ u ∷ []) 0 no-fact), rw second at (getD-append-add (st .facts) (t ∷ u ∷ []) 1 no-fact), new-t, new-u)
 
-  shift-least : 1 ≤ (k .s - 1) * width st (suc h)
-  shift-least =
-      omega (arith, mul-le-mul {n₁ = 1} {n₂ = k .s - 1} (omega (arith, own .degrees .s-least)) (width-least (own .degrees .s-least) (own .degrees .r-least) (store-widths st) (suc h)))
+    both-tests : unmarked-row both ≡ map (unmarked-by with-facts) (insert-at p new-tags (row st))
+    unfolding with-tag image-of
+    both-tests = rw (append-assoc (st .facts) (t ∷ []) (u ∷ []), one-more (st .facts) t, insert-two p (count st) (suc (count st)) (row st) inside)
 
-  pub both-moved : put-two ws st p t u .moved ≡ moved (width st) k (book-with-two p st)
-  unfolding put-words
-  both-moved =
-      rw (
-        added-both,
-        ← count-both,
-        renumbered-moved proper-both few-both (widths-of ws) (width st) (k .r) q (d .before) (insert-at (d .offset) (no-tag ∷ no-tag ∷ []) old) new (d .beside) (d .after) ((k .s - 1) * width st (suc h))
-            right (labels-of (width st) (book-with-two p st)) labels-now (label-below own p fits labels-fit) shift-least (drop (words-for header-words (length (both .facts))) ws),
-      )
-      (omega (arith, moved-said))
+    moved-said : moved-unmarked st (book-with-two p st) + 2 ≡ differ (unmarked-row both) (both .labels) (labels-of (width st) (book-with-two p st))
+    unfolding image-of insert-at
+    moved-said =
+        let counted =
+        moved-and-new (width st) k (book-with-two p st) p new-tags (distinct-row own) (distinct-two (count st) (suc (count st)) (λ e. omega arith))
+        (apart-two (count st) (suc (count st)) (row st) (not-tag own p fits (count st) (omega arith)) (not-tag own p fits (suc (count st)) (omega arith)))
+        inside (second-tags own p fits) (unmarked-by with-facts) no-tag (label-below own p fits labels-fit) new-pass in
+        rw (moved-with-facts own (t ∷ u ∷ []) (book-with-two p st)) at counted
+        ∙ rw (both-tests, two-labels (proper-image own) few-more p in-row t u)
+
+    pub both-moved : put-two ws st p t u .moved ≡ moved-unmarked st (book-with-two p st)
+    unfolding put-words
+    both-moved =
+        rw (
+          added-both,
+          ← count-both,
+          renumbered-moved proper-both few-both (widths-of ws) (width st) (k .r) q (d .before) (insert-at (d .offset) (no-tag ∷ no-tag ∷ []) old) new (d .beside) (d .after) ((k .s - 1) * width st (suc h))
+              right (labels-of (width st) (book-with-two p st)) labels-now (label-below own p fits labels-fit) (drop (words-for header-words (length (both .facts))) ws),
+        )
+        (omega (arith, moved-said))

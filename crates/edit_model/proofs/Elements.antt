@@ -11,15 +11,16 @@ use lib.ListN.{length, drop}
 use Rattle.store_types.specs.Limits.{most-tags}
 use Rattle.lists.proofs.Tests.{by-test}
 use Rattle.store_types.specs.Layout.{at-count, header-words, word-at, words-for}
-use Rattle.tree.specs.Book.{height, inserted-row, split-of, split-of-row, moved}
+use Rattle.tree.specs.Book.{height, inserted-row, split-of, split-of-row}
 use Rattle.calls.specs.Kind.{begin, end, code, kind-word}
-use Rattle.calls.specs.Store.{Store, Fact, new-fact, count, width, height-fits}
+use Rattle.calls.specs.Store.{Store, Fact, new-fact, count, height-fits}
 use Rattle.calls.specs.Nesting.{closing, new-facts}
 use Rattle.calls.specs.Insert.{insert-kinds, position, up-at, book-after, insert-store, insert-moved, insert-split, insert-refusal}
 use Rattle.calls.specs.Words.{words-of, Says, in-front}
 use Rattle.calls_laws.proofs.Tests.{Sound, sane}
 use Rattle.calls_laws.proofs.Fields.{length-words, header-says}
 use Rattle.calls_laws.proofs.Inserts.{labels-kept, Row-accepted}
+use Rattle.calls_laws.proofs.Moved.{moved-unmarked, moved-once}
 use Rattle.calls_laws.proofs.WordSteps.{header-said}
 use Rattle.words.specs.Places.{up-word}
 use Rattle.edit_model.specs.Insert.{added, plan-of, put-words, both-edit, end-edit, in-turn-edit, element-edit, stamped}
@@ -86,9 +87,9 @@ module _ (ws : List ℕ) (st : Store) (says : Says ws st) (y : ℕ) (accepted : 
       let long : length (words-of (stamped-store after)) ≡ words-for header-words (suc (suc (count st))) = length-words (stamped-store after) ∙ ap (words-for header-words) counted in
       rw (e, ← new-store, long) (stamped-words after (drop (words-for header-words (suc (suc (count st)))) ws))
 
-  moved-right : (n : ℕ) → n ≡ moved (width st) (st .book) (book-with-two p st) → n ≡ insert-moved (insert-kinds 1) y st
-  unfolding insert-moved book-after insert-kinds inserted-row
-  moved-right n e = e
+  moved-right : (n : ℕ) → n ≡ moved-unmarked st (book-with-two p st) → n ≡ insert-moved (insert-kinds 1) y st
+  unfolding book-after insert-kinds inserted-row
+  moved-right n e = e ∙ sym (moved-once (begin ∷ end ∷ []) y own)
 
   split-right : (n : ℕ) → n ≡ max (split-of p (st .book)) (max (split-of (suc p) (book-with p st)) 0) → n ≡ insert-split (insert-kinds 1) y st
   unfolding insert-split insert-kinds split-of-row
@@ -115,7 +116,7 @@ module _ (ws : List ℕ) (st : Store) (says : Says ws st) (y : ℕ) (accepted : 
       let u = end-fact st y in
       rw both-is (record {
         words-are = words-right _ (both-words ws st says p fits h top-said lower-said t u few room labels-fit-both);
-        moved-is = moved-right _ (both-moved ws st says p fits h top-said lower-said t u few room labels-fit-both);
+        moved-is = moved-right _ (both-moved ws st says p fits h top-said lower-said t u few room labels-fit-both refl refl);
         split-is = split-right _ (omega (arith, top-said, splits-first, second-splits ws st says p fits h top-said lower-said t u few room labels-fit-both));
       })
 

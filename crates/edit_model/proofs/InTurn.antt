@@ -9,19 +9,21 @@ use lib.ListN.{length, getD, drop, length-drop}
 use lib.Seq.{drop-drop}
 use Rattle.store_types.specs.Limits.{no-tag, label-limit, most-tags}
 use Rattle.store_types.specs.Layout.{header-words, tag-words, words-for}
+use Rattle.lists.specs.Lists.{how-many}
 use Rattle.lists.proofs.Tests.{fails}
 use Rattle.shape.specs.Tables.{widths-of, table-length}
 use Rattle.words.proofs.Fields.{words-next}
-use Rattle.tree.specs.Book.{height, tags, labels-of, root-full, inserted, split-of, moved}
+use Rattle.tree.specs.Book.{height, tags, labels-of, root-full, inserted, split-of}
 use Rattle.tree.specs.Promise.{Widths, Step, Second-tag}
 use Rattle.tree_laws.proofs.Insertion.{tags-inserted, inserted-s, inserted-r, inserted-under, split-of-split}
 use Rattle.tree_laws.proofs.Second.{second-tag}
 use Rattle.calls.specs.Kind.{kind-word}
-use Rattle.calls.specs.Store.{Store, Fact, count, row, width, height-fits}
+use Rattle.calls.specs.Store.{Store, Fact, unmarked, count, row, width, height-fits}
 use Rattle.calls.specs.Words.{words-of, Says}
 use Rattle.calls_laws.proofs.Heights.{sound-height}
 use Rattle.calls_laws.proofs.Widths.{store-widths, narrower}
 use Rattle.calls_laws.proofs.Tests.{Sound, sane}
+use Rattle.calls_laws.proofs.Moved.{moved-unmarked}
 use Rattle.edit_model.specs.Image.{image-words, image-of, with-labels}
 use Rattle.edit_model.specs.Insert.{added, applied, plain-plan}
 use Rattle.edit_model.proofs.Image.{Alike, store-image, image-is}
@@ -39,14 +41,14 @@ module _ (ws : List ℕ) (st : Store) (says : Says ws st) (p : ℕ) (fits : p �
   first-widths = rw (inserted-s p (count st) (st .book), inserted-r p (count st) (st .book)) (store-widths st)
 
   -- WHAT MOVED
-  pub turn-moved : moved (width st) (st .book) (book-with-two p st) ≡ moved (width st) (st .book) (book-with p st)
+  pub turn-moved : moved-unmarked st (book-with-two p st) ≡ moved-unmarked st (book-with p st)
   unfolding Second-tag
   turn-moved =
       let first : Step (width st) p (count st) (st .book) =
       record { widths = store-widths st; sane = sane own; place-fits = in-book own p fits; new = not-tag own p fits (count st) (omega arith) } in
       let second : Step (width st) (suc p) (suc (count st)) (book-with p st) =
       record { widths = first-widths; sane = sane-first own p fits; place-fits = in-first own p fits; new = not-next own p fits } in
-      second-tag (width st) p (count st) (suc (count st)) (st .book) first second .as-many none
+      ap (how-many (unmarked st)) (second-tag (width st) p (count st) (suc (count st)) (st .book) first second .moves-same none)
 
   -- THE HEIGHT stays
   root-stays : root-full (book-with p st) ≡ false

@@ -14,11 +14,11 @@ use Rattle.store_types.specs.Limits.{no-tag, most-tags}
 use Rattle.lists.proofs.Tests.{or-left-false}
 use Rattle.store_types.specs.Layout.{at-r, at-count, header-words, word-at, words-for}
 use Rattle.shape.specs.Tables.{widths-of}
-use Rattle.tree.specs.Book.{height, inserted, inserted-row, split-of, split-of-row, moved}
+use Rattle.tree.specs.Book.{height, inserted, inserted-row, split-of, split-of-row}
 use Rattle.tree_laws.proofs.Rows.{getD-place}
 use Rattle.words.proofs.Fields.{words-up}
 use Rattle.calls.specs.Kind.{Kind, begin, end, text, code, kind-word, is-begin}
-use Rattle.calls.specs.Store.{Store, Fact, new-fact, fact, count, row, width, height-fits}
+use Rattle.calls.specs.Store.{Store, Fact, new-fact, fact, count, row, height-fits}
 use Rattle.calls.specs.Nesting.{new-facts}
 use Rattle.calls.specs.Insert.{insert-kinds, position, up-at, book-after, insert-store, insert-moved, insert-split, labels-run-out, insert-refusal}
 use Rattle.calls.specs.Words.{words-of, Says, in-front}
@@ -26,6 +26,7 @@ use Rattle.calls_laws.proofs.Tests.{Sound, sane}
 use Rattle.calls_laws.proofs.Fields.{length-words, Tag-says, tag-says, header-says}
 use Rattle.calls_laws.proofs.Sections.{in-row}
 use Rattle.calls_laws.proofs.Inserts.{labels-kept, Row-accepted, accepted-row, position-fits}
+use Rattle.calls_laws.proofs.Moved.{moved-unmarked, moved-once}
 use Rattle.calls_laws.proofs.Steps.{insert-passed}
 use Rattle.calls_laws.proofs.WordSteps.{header-said}
 use Rattle.edit_model.specs.Image.{image-of}
@@ -114,11 +115,10 @@ module _ (ws : List ℕ) (st : Store) (says : Says ws st) (c : Kind) (ks : List 
         let head = header-said ws st says in
         rw (head .issued, head .degree-r) (rw place-said at (single-words ws st says (position y st) position-said t few-said room-said labels-said))
 
-    pub one-moved : edit-of ws y t .moved
-        ≡ moved (width st) (st .book) (inserted (position y st) (count st) (st .book))
-    one-moved =
+    pub one-moved : t .marked ≡ false → edit-of ws y t .moved ≡ moved-unmarked st (inserted (position y st) (count st) (st .book))
+    one-moved new =
         let head = header-said ws st says in
-        rw (head .issued, head .degree-r) (rw place-said at (single-moved ws st says (position y st) position-said t few-said room-said labels-said))
+        rw (head .issued, head .degree-r) (rw place-said at (single-moved ws st says (position y st) position-said t few-said room-said labels-said new))
 
     pub one-split : plan-of ws 1 y .height ≡ split-of (position y st) (st .book)
     one-split = rw place-said at (single-split ws st says (position y st) position-said t few-said room-said labels-said)
@@ -155,8 +155,9 @@ module _ (ws : List ℕ) (st : Store) (says : Says ws st) (y : ℕ) (accepted : 
       rw (text-is, one-words ws st says text [] y row-accepted (text-fact st y), ← new-store, long) (stamped-words su (drop (words-for header-words (suc (count st))) ws))
 
   text-moved : text-edit y ws .moved ≡ insert-moved (insert-kinds 3) y st
-  unfolding insert-moved book-after insert-kinds inserted-row
-  text-moved = rw text-is (one-moved ws st says text [] y row-accepted (text-fact st y))
+  unfolding book-after insert-kinds inserted-row
+  text-moved =
+      rw text-is (one-moved ws st says text [] y row-accepted (text-fact st y) refl ∙ sym (moved-once (text ∷ []) y (sound-said ws st says)))
 
   text-split : text-edit y ws .split ≡ insert-split (insert-kinds 3) y st
   unfolding text-edit put-words insert-split insert-kinds split-of-row
@@ -182,8 +183,8 @@ module _ (ws : List ℕ) (st : Store) (says : Says ws st) (y : ℕ) (accepted : 
   pub begin-words : begin-edit y ws .words ≡ words-of (grown (position y st) (begin-fact st y) st) ++ drop (words-for header-words (suc (count st))) ws
   begin-words = rw begin-is (one-words ws st says begin (end ∷ []) y element-accepted (begin-fact st y))
 
-  pub begin-moved : begin-edit y ws .moved ≡ moved (width st) (st .book) (inserted (position y st) (count st) (st .book))
-  begin-moved = rw begin-is (one-moved ws st says begin (end ∷ []) y element-accepted (begin-fact st y))
+  pub begin-moved : begin-edit y ws .moved ≡ moved-unmarked st (inserted (position y st) (count st) (st .book))
+  begin-moved = rw begin-is (one-moved ws st says begin (end ∷ []) y element-accepted (begin-fact st y) refl)
 
   pub begin-split : begin-edit y ws .split ≡ split-of (position y st) (st .book)
   unfolding begin-edit put-words

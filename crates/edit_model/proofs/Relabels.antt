@@ -1,11 +1,11 @@
 -- Labels written along the row of an image: its words afterwards, and how many labels were others. Assumes nothing.
 use mathlib.Core.Path.{_≡_, refl, _∙_}
-use mathlib.Core.Bool.{true, false, _||_, cond, or-true}
+use mathlib.Core.Bool.{true, false, _||_, or-true}
 use mathlib.Core.List.{List, [], _∷_, _++_, map, append-assoc}
 use Prim.Native.Nat.{ℕ, zero, suc, _+_, _-_, _≤_, _<_}
 use native.Mathlib.Omega.{arith}
 use borrow.Author.Tests.{ltb-true, ltb-false, le-leb, lt-leb}
-use lib.Dec.{leb, ltb, eqb}
+use lib.Dec.{leb, ltb}
 use lib.ListN.{length, getD, take, drop, set, length-set, length-drop, length-map, List·getD-eq-default}
 use lib.Seq.{length-take-le, drop-cons, getD-set-other, drop-set-lt, sets, length-sets, sets-eq}
 use Rattle.store_types.specs.Limits.{no-tag, word-limit, most-tags}
@@ -14,9 +14,9 @@ use Rattle.store_types.specs.Layout.{at-next, field, label-at, with-label}
 use Rattle.edit_model.specs.Image.{Image, image-words, with-labels}
 use Rattle.shape.specs.Sums.{cut}
 use Rattle.shape.proofs.Sums.{cut-below}
-use Rattle.edit_model.specs.Relabel.{relabel, shift}
+use Rattle.edit_model.specs.Relabel.{counted, relabel, shift}
 use Rattle.edit_model.proofs.Image.{Proper, proper-with-labels, tag-below, label-written}
-use Rattle.edit_model.proofs.Along.{label-of-place, next-at}
+use Rattle.edit_model.proofs.Along.{unmarked-row, label-of-place, counted-at, next-at}
 use Rattle.edit_model.proofs.Differ.{differ}
 
 -- ONE ROW AFTER ANOTHER
@@ -40,13 +40,16 @@ relabel-append-moved (x ∷ xs) ys (l ∷ ls) ms ws e =
 -- ALONG A ROW: from place i on as many tags as there are new labels
 next-label : (x l : ℕ) (xs ls ws : List ℕ) →
     relabel (x ∷ xs) (l ∷ ls) ws
-    ≡ record { words = relabel xs ls (with-label ws x l) .words; moved = cond (eqb (label-at ws x) l) 0 1 + relabel xs ls (with-label ws x l) .moved }
+    ≡ record { words = relabel xs ls (with-label ws x l) .words; moved = counted ws x l + relabel xs ls (with-label ws x l) .moved }
 unfolding relabel
 next-label x l xs ls ws = refl
 
 relabel-sets : {v : Image} (h : Proper v) (rest ls : List ℕ) (i : ℕ) → i + length ls ≤ length (v .tags) →
     relabel (take (length ls) (drop i (v .tags))) ls (image-words v ++ rest)
-    ≡ record { words = image-words (with-labels (sets (v .labels) i ls) v) ++ rest; moved = differ (take (length ls) (drop i (v .labels))) ls }
+    ≡ record {
+      words = image-words (with-labels (sets (v .labels) i ls) v) ++ rest;
+      moved = differ (take (length ls) (drop i (unmarked-row v))) (take (length ls) (drop i (v .labels))) ls;
+    }
 unfolding relabel with-labels differ
 relabel-sets {v} h rest [] i fits = refl
 relabel-sets {v} h rest (l ∷ ls) i fits =
@@ -54,8 +57,9 @@ relabel-sets {v} h rest (l ∷ ls) i fits =
     rw (
       drop-cons (v .tags) i no-tag inside,
       drop-cons (v .labels) i 0 (omega (arith, h .labelled)),
+      drop-cons (unmarked-row v) i true (rw length-map inside),
       next-label,
-      label-of-place h rest i no-tag inside,
+      counted-at h rest i no-tag inside l,
       label-written h i no-tag l inside rest,
       relabel-sets (proper-with-labels h (set (v .labels) i l) (length-set (v .labels) i l)) rest ls (suc i) (omega arith),
       drop-set-lt (suc i) (v .labels) i l (omega arith),
@@ -76,7 +80,8 @@ module _ {v : Image} (h : Proper v) (rest ls : List ℕ) (i k : ℕ) (many : len
       let spliced = sets-parts (v .labels) ls i (omega (arith, h .labelled)) in
       proper-with-labels h _ (rw (← many, ← spliced) (length-sets (v .labels) i ls))
 
-  pub relabel-moved : relabel (take k (drop i (v .tags))) ls (image-words v ++ rest) .moved ≡ differ (take k (drop i (v .labels))) ls
+  pub relabel-moved : relabel (take k (drop i (v .tags))) ls (image-words v ++ rest) .moved
+      ≡ differ (take k (drop i (unmarked-row v))) (take k (drop i (v .labels))) ls
   relabel-moved = rw (← many, relabel-sets h rest ls i (omega arith))
 
 -- LABELS RAISED BY d from place i on, as long as they are below b: those up to place m
@@ -107,7 +112,7 @@ shift-goes : (k n x b d : ℕ) (ws : List ℕ) → (leb n x || leb b (label-at w
     shift (suc k) n ws x b d
     ≡ record {
       words = shift k n (with-label ws x (cut (label-at ws x + d))) (field ws x at-next) b d .words;
-      moved = suc (shift k n (with-label ws x (cut (label-at ws x + d))) (field ws x at-next) b d .moved);
+      moved = counted ws x (cut (label-at ws x + d)) + shift k n (with-label ws x (cut (label-at ws x + d))) (field ws x at-next) b d .moved;
     }
 unfolding shift
 shift-goes k n x b d ws e = rw e
@@ -136,8 +141,11 @@ module _ {v : Image} (h : Proper v) (rest : List ℕ) (i m b d : ℕ) (e : Stret
 shift-sets : (most c : ℕ) {v : Image} (h : Proper v) (rest : List ℕ) (i m b d : ℕ) → length (v .facts) ≤ most-tags → Stretch (v .labels) i m b d →
     i + c ≡ m → c ≤ most →
     shift most (length (v .facts)) (image-words v ++ rest) (getD (v .tags) i no-tag) b d
-    ≡ record { words = image-words (with-labels (sets (v .labels) i (map (λ l. l + d) (take c (drop i (v .labels))))) v) ++ rest; moved = c }
-unfolding shift with-labels
+    ≡ record {
+      words = image-words (with-labels (sets (v .labels) i (map (λ l. l + d) (take c (drop i (v .labels))))) v) ++ rest;
+      moved = differ (take c (drop i (unmarked-row v))) (take c (drop i (v .labels))) (map (λ l. l + d) (take c (drop i (v .labels))));
+    }
+unfolding shift with-labels differ
 shift-sets zero zero h rest i m b d few e sum enough = refl
 shift-sets zero (suc c) h rest i m b d few e sum enough = absurd (omega arith)
 shift-sets (suc k) zero {v} h rest i m b d few e sum enough =
@@ -151,9 +159,11 @@ shift-sets (suc k) (suc c) {v} h rest i m b d few e sum enough =
     rw (
       shift-goes k (length (v .facts)) x b d (image-words v ++ rest) (goes-on h rest i m b d e first),
       drop-cons (v .labels) i 0 (omega (arith, h .labelled)),
+      drop-cons (unmarked-row v) i true (rw length-map inside),
       label-of-place h rest i no-tag inside,
       next-at h rest i no-tag inside,
       cut-below (l + d) (e .fit i (omega arith) first),
+      counted-at h rest i no-tag inside (l + d),
       label-written h i no-tag (l + d) inside rest,
       ← drop-set-lt (suc i) (v .labels) i (l + d) (omega arith),
       shift-sets k c (proper-with-labels h (set (v .labels) i (l + d)) (length-set (v .labels) i (l + d))) rest (suc i) m b d few (stretch-next (v .labels) i m b d (l + d) first e) (omega arith) (omega arith),
@@ -176,5 +186,6 @@ module _ {v : Image} (h : Proper v) (rest : List ℕ) (most i m b d : ℕ) (few 
         whole,
       )
 
-  pub shift-moved : shift most (length (v .facts)) (image-words v ++ rest) (getD (v .tags) i no-tag) b d .moved ≡ m - i
+  pub shift-moved : shift most (length (v .facts)) (image-words v ++ rest) (getD (v .tags) i no-tag) b d .moved
+      ≡ differ (take (m - i) (drop i (unmarked-row v))) (take (m - i) (drop i (v .labels))) (map (λ l. l + d) (take (m - i) (drop i (v .labels))))
   shift-moved = rw (shift-sets most (m - i) h rest i m b d few e (omega (arith, e .order)) enough)

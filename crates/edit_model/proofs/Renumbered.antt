@@ -1,11 +1,12 @@
 -- A renumbering by a plan that is right, on the words of any image: the labels afterwards, and how many are others.
 -- Assumes nothing.
 use mathlib.Core.Path.{_≡_, refl, ap, sym, _∙_}
+use mathlib.Core.Bool.{Bool}
 use mathlib.Core.List.{List, [], _∷_, _++_, map}
 use Prim.Native.Nat.{ℕ, _+_, _≤_, _<_}
 use native.Mathlib.Omega.{arith}
 use lib.ListN.{length, getD, take, drop, length-append, length-drop, length-map, List·getD-append}
-use lib.Seq.{length-take-le, getD-append-add}
+use lib.Seq.{length-take-le, getD-append-add, drop-drop}
 use Rattle.store_types.specs.Limits.{no-tag, most-tags}
 use Rattle.shape.specs.Tables.{entry}
 use Rattle.tree.specs.Forest.{labels, spread}
@@ -14,7 +15,8 @@ use Rattle.calls_laws.proofs.Reader.{getD-map}
 use Rattle.edit_model.specs.Image.{Image, image-words, with-labels}
 use Rattle.edit_model.specs.Insert.{Plan, applied}
 use Rattle.edit_model.proofs.Image.{Proper}
-use Rattle.edit_model.proofs.Differ.{differ, differ-append, differ-same, differ-raised}
+use Rattle.edit_model.proofs.Along.{unmarked-row}
+use Rattle.edit_model.proofs.Differ.{differ, differ-append, differ-same}
 use Rattle.edit_model.proofs.Added.{tag-before}
 use Rattle.edit_model.proofs.Applied.{labels-widths, Applies, applied-words, applied-moved}
 
@@ -23,19 +25,20 @@ raised-same : (a b : ℕ) (xs : List ℕ) → (1 ≤ length xs → a ≡ b) → 
 raised-same a b [] e = refl
 raised-same a b (x ∷ xs) e = rw (e (omega arith))
 
--- labels of which only two parts change, the second all raised
-differ-parts : (before old new beside after : List ℕ) (a : ℕ) → length old ≡ length new → 1 ≤ a →
-    differ (before ++ (old ++ (beside ++ after))) (before ++ (new ++ (map (λ l. l + a) beside ++ after))) ≡ differ old new + length beside
-differ-parts before old new beside after a same some =
-    let raised = map (λ l. l + a) beside in
+-- labels of which only two parts change
+differ-parts : (ts : List Bool) (before old new beside raised after : List ℕ) → length old ≡ length new → length beside ≡ length raised →
+    differ ts (before ++ (old ++ (beside ++ after))) (before ++ (new ++ (raised ++ after)))
+    ≡ differ (take (length old) (drop (length before) ts)) old new + differ (take (length beside) (drop (length before + length old) ts)) beside raised
+differ-parts ts before old new beside raised after same same-beside =
+    let from-old = drop (length before) ts in
+    let from-beside = drop (length before + length old) ts in
     omega (
       arith,
-      differ-append before (old ++ (beside ++ after)) before (new ++ (raised ++ after)) refl,
-      differ-append old (beside ++ after) new (raised ++ after) same,
-      differ-append beside after raised after (sym (length-map beside (λ l. l + a))),
-      differ-same before,
-      differ-same after,
-      differ-raised a beside some,
+      differ-append ts before (old ++ (beside ++ after)) before (new ++ (raised ++ after)) refl,
+      rw (drop-drop (length old) (length before) ts) at (differ-append from-old old (beside ++ after) new (raised ++ after) same),
+      differ-append from-beside beside after raised after same-beside,
+      differ-same (take (length before) ts) before,
+      differ-same (drop (length beside) from-beside) after,
     )
 
 -- A PLAN THAT IS RIGHT on an image: its labels in parts, of which the second becomes that of complete trees, the third is
@@ -118,8 +121,10 @@ module _ {v : Image} (h : Proper v) (few : length (v .facts) ≤ most-tags) (tab
   renumbered-words rest =
       applied-words h few rest table r q before old new beside after applies ∙ rw (raised-same (q .by) a beside (e .by-is), now)
 
-  -- and how many labels are others
-  pub renumbered-moved : 1 ≤ a → (rest : List ℕ) → applied (image-words v ++ rest) table r (length (v .facts)) q .moved ≡ differ (v .labels) ls
-  renumbered-moved some rest =
+  -- and how many labels of unmarked tags are others
+  pub renumbered-moved : (rest : List ℕ) → applied (image-words v ++ rest) table r (length (v .facts)) q .moved ≡ differ (unmarked-row v) (v .labels) ls
+  renumbered-moved rest =
+      let raised = map (λ l. l + a) beside in
       applied-moved h few rest table r q before old new beside after applies
-      ∙ rw (e .was, now) (sym (differ-parts before old new beside after a (sym (e .as-many)) some))
+      ∙ rw (raised-same (q .by) a beside (e .by-is), e .was, now)
+      (sym (differ-parts (unmarked-row v) before old new beside raised after (sym (e .as-many)) (sym (length-map beside (λ l. l + a)))))

@@ -1,14 +1,13 @@
 -- One tag goes in by its plan: the words afterwards, how many tags moved, and the split height. Assumes nothing.
 use mathlib.Core.Path.{_≡_, refl, ap, sym, _∙_}
-use mathlib.Core.Bool.{true, cond}
+use mathlib.Core.Bool.{true, false, cond}
 use mathlib.Core.List.{List, [], _∷_, _++_, map}
 use Prim.Native.Nat.{ℕ, zero, suc, _+_, _-_, _≤_, _<_}
-use native.Mathlib.Nat.{mul-le-mul}
 use native.Mathlib.Omega.{arith}
 use borrow.Author.Tests.{eq-eqb, ne-eqb}
 use lib.Dec.{eqb}
-use lib.ListN.{length, getD, take, drop, length-append, length-map}
-use lib.Seq.{drop-cons, drop-append-add}
+use lib.ListN.{length, getD, drop, length-append, length-map}
+use lib.Seq.{getD-append-add, drop-append-add}
 use Rattle.store_types.specs.Limits.{no-tag, most-tags}
 use Rattle.store_types.specs.Layout.{header-words, tag-words, words-for}
 use Rattle.lists.proofs.Tests.{by-test}
@@ -16,32 +15,32 @@ use Rattle.words.proofs.Fields.{words-next}
 use Rattle.shape.specs.Tables.{widths-of}
 use Rattle.tree.specs.Row.{insert-at}
 use Rattle.tree.specs.Forest.{Forest, leaves, size, labels, leaf-row, spread}
-use Rattle.tree.specs.Book.{Book, height, labels-of, root-full, inserted, split-of, moved}
-use Rattle.tree.specs.Promise.{Widths}
+use Rattle.tree.specs.Book.{Book, height, labels-of, root-full, inserted, split-of}
 use Rattle.tree_laws.proofs.Rows.{length-insert, insert-left, insert-right, getD-before}
 use Rattle.tree_laws.proofs.Insertion.{split-length, rooted, split-of-split, split-of-inside, inserted-under, tags-inserted, size-inserted, sane-inserted, inserted-s, inserted-r}
-use Rattle.tree_laws.proofs.Labels.{length-labels, width-least}
+use Rattle.tree_laws.proofs.Labels.{length-labels}
 use Rattle.tree_laws.proofs.Flat.{Piece, Flat, split-at-most}
 use Rattle.tree_laws.proofs.Root.{labels-whole, split-flat, labels-put-whole, flat-whole}
 use Rattle.calls.specs.Kind.{kind-word}
-use Rattle.calls.specs.Store.{Store, Fact, count, row, width, height-fits}
+use Rattle.calls.specs.Store.{Store, Fact, no-fact, count, row, width, height-fits}
 use Rattle.calls.specs.Words.{words-of, Says}
-use Rattle.calls_laws.proofs.Widths.{store-widths}
 use Rattle.calls_laws.proofs.Tests.{Sound, sane}
 use Rattle.calls_laws.proofs.Sections.{distinct-row}
+use Rattle.calls_laws.proofs.Moved.{moved-unmarked}
 use Rattle.edit_model.specs.Image.{Image, image-header, image-words, image-of, with-labels}
 use Rattle.edit_model.specs.Insert.{Plan, Edited, added, applied, plan-of, put-words, raised-words}
 use Rattle.edit_model.proofs.Image.{Proper, length-image, proper-image, image-header-word, Alike, same-image, image-is}
+use Rattle.edit_model.proofs.Along.{unmarked-by, unmarked-row}
 use Rattle.edit_model.proofs.Differ.{differ}
-use Rattle.edit_model.proofs.Moves.{moved-and-new}
+use Rattle.edit_model.proofs.Moves.{moved-and-new, moved-with-facts}
 use Rattle.edit_model.proofs.Added.{with-tag, one-more, new-tag, distinct-one, apart-one, added-image, proper-with-tag, with-levels, levels-set}
 use Rattle.edit_model.proofs.Applied.{spread-labels}
 use Rattle.edit_model.proofs.Widest.{labels-below}
 use Rattle.edit_model.proofs.Renumbered.{Right, Words-in, Row-in, row-in, renumbered-words, renumbered-moved}
 use Rattle.edit_model.proofs.Plans.{place-tag, Flat-in, Planned, sound-said, image-said, widths-right, planned}
 
--- WHAT IS NUMBERED ANEW: its labels are those of complete trees over any row of as many tags; the new tag is among the
--- first of it or right behind them; and what is shifted moves
+-- WHAT IS NUMBERED ANEW: its labels are those of complete trees over any row of as many tags, and the new tag is among the
+-- first of it or right behind them
 module _ (s r : ℕ) (w : ℕ → ℕ) (x : ℕ) where
   piece-labels : (h q n : ℕ) (old new : List ℕ) (d : ℕ) → Piece s r w x h q n old new d → (zs : List ℕ) → length zs ≡ suc (length old) → labels (spread h r zs) w h n ≡ new
   unfolding labels spread leaf-row
@@ -56,20 +55,12 @@ module _ (s r : ℕ) (w : ℕ → ℕ) (x : ℕ) where
   piece-fits zero q n old new d piece = omega (arith, piece .0)
   piece-fits (suc h) q n old new d piece = rw (piece .old-is, length-labels (piece .under) w h n) (piece .fits)
 
-  piece-moves : 2 ≤ s → 2 ≤ r → Widths s r w → (h q n : ℕ) (old new : List ℕ) (d : ℕ) → Piece s r w x h q n old new d → 1 ≤ d
-  piece-moves s-least r-least widths zero q n old new d piece = rw (piece .3) (widths .first)
-  piece-moves s-least r-least widths (suc h) q n old new d piece =
-      rw (piece .shift-is) (omega (arith, mul-le-mul {n₁ = 1} {n₂ = s - 1} (omega arith) (width-least s-least r-least widths (suc h))))
-
 module _ {s r : ℕ} {w : ℕ → ℕ} {f : Forest} {j p x a : ℕ} (d : Flat s r w f j p x a) where
   pub flat-labels : (zs : List ℕ) → length zs ≡ suc (length (d .old)) → labels (spread (d .height) r zs) w (d .height) (d .number) ≡ d .new
   flat-labels = piece-labels s r w x (d .height) (d .offset) (d .number) (d .old) (d .new) (d .shift) (d .piece)
 
   pub flat-offset : d .offset ≤ length (d .old)
   flat-offset = piece-fits s r w x (d .height) (d .offset) (d .number) (d .old) (d .new) (d .shift) (d .piece)
-
-  pub flat-moves : 2 ≤ s → 2 ≤ r → Widths s r w → 1 ≤ d .shift
-  flat-moves s-least r-least widths = piece-moves s r w x s-least r-least widths (d .height) (d .offset) (d .number) (d .old) (d .new) (d .shift) (d .piece)
 
   -- with something put in at its place
   pub flat-with : (m : ℕ) → insert-at p (m ∷ []) (labels f w j a) ≡ d .before ++ (insert-at (d .offset) (m ∷ []) (d .old) ++ (d .beside ++ d .after))
@@ -217,12 +208,11 @@ module _ (ws : List ℕ) (st : Store) (says : Says ws st) (p : ℕ) (fits : p �
       (d .before) old-with-new (d .new) (d .beside) (d .after) (d .shift) right (labels-with p st) labels-now label-below rest)
 
   numbered-moved : (rest : List ℕ) → applied (image-words (image-with p t st) ++ rest) (widths-of ws) (st .book .r) (suc (count st)) (plan-at ws st p) .moved
-      ≡ differ (image-with p t st .labels) (labels-with p st)
+      ≡ differ (unmarked-row (image-with p t st)) (image-with p t st .labels) (labels-with p st)
   numbered-moved rest =
       rw (← counted-tags)
       (renumbered-moved proper-added few-tags (widths-of ws) (width st) (st .book .r) (plan-at ws st p)
-      (d .before) old-with-new (d .new) (d .beside) (d .after) (d .shift) right (labels-with p st) labels-now label-below
-      (flat-moves d (own .degrees .s-least) (own .degrees .r-least) (store-widths st)) rest)
+      (d .before) old-with-new (d .new) (d .beside) (d .after) (d .shift) right (labels-with p st) labels-now label-below rest)
 
   -- THE HEIGHT afterwards
   height-after : cond (eqb (plan-at ws st p .height) (height (st .book))) (suc (height (st .book))) (height (st .book)) ≡ height (book-with p st)
@@ -277,19 +267,21 @@ module _ (ws : List ℕ) (st : Store) (says : Says ws st) (p : ℕ) (fits : p �
   single-words = rw (added-said, numbered-words (drop (words-for header-words (suc (count st))) ws)) (raised-said (drop (words-for header-words (suc (count st))) ws))
 
   -- how many tags moved: the new one counts as moved where it is numbered
-  new-differs : differ (no-tag ∷ []) (take 1 (drop p (labels-with p st))) ≡ 1
-  unfolding differ
-  new-differs =
-      let ls = labels-with p st in
-      let inside : p < length ls = omega (arith, many-now) in
-      rw (drop-cons ls p 0 inside, ne-eqb no-tag (getD ls p 0) (λ e. omega (arith, label-below p inside)))
+  module _ (new : t .marked ≡ false) where
+    new-passes : map (unmarked-by (st .facts ++ (t ∷ []))) (count st ∷ []) ≡ true ∷ []
+    new-passes =
+        let last : count st + 0 ≡ count st = omega arith in
+        rw (rw last at (getD-append-add (st .facts) (t ∷ []) 0 no-fact), new)
 
-  moved-said : moved (width st) (st .book) (book-with p st) + 1 ≡ differ (image-with p t st .labels) (labels-with p st)
-  unfolding with-tag image-of insert-at
-  moved-said =
-      moved-and-new (width st) (st .book) (book-with p st) p (count st ∷ []) (distinct-row own) (distinct-one (count st))
-      (apart-one (count st) (row st) (new-tag (proper-image own))) in-book (tags-inserted p (count st) (st .book) (sane own) in-book) (no-tag ∷ []) refl new-differs
+    moved-said : moved-unmarked st (book-with p st) + 1 ≡ differ (unmarked-row (image-with p t st)) (image-with p t st .labels) (labels-with p st)
+    unfolding with-tag image-of insert-at
+    moved-said =
+        let counted =
+        moved-and-new (width st) (st .book) (book-with p st) p (count st ∷ []) (distinct-row own) (distinct-one (count st))
+        (apart-one (count st) (row st) (new-tag (proper-image own))) in-book (tags-inserted p (count st) (st .book) (sane own) in-book)
+        (unmarked-by (st .facts ++ (t ∷ []))) no-tag label-below new-passes in
+        rw (moved-with-facts own (t ∷ []) (book-with p st)) at counted
 
-  pub single-moved : put-one ws st p t .moved ≡ moved (width st) (st .book) (book-with p st)
-  unfolding put-words
-  single-moved = rw (added-said, numbered-moved (drop (words-for header-words (suc (count st))) ws)) (omega (arith, moved-said))
+    pub single-moved : put-one ws st p t .moved ≡ moved-unmarked st (book-with p st)
+    unfolding put-words
+    single-moved = rw (added-said, numbered-moved (drop (words-for header-words (suc (count st))) ws)) (omega (arith, moved-said))

@@ -102,9 +102,6 @@ module _ {st : Store} (own : Sound st) (p : ℕ) (fits : p ≤ count st) where
   pub sane-second : Sane (book-with-two p st)
   sane-second = sane-inserted (suc p) (suc (count st)) (book-with p st) sane-first in-first
 
-  pub size-second : size (book-with-two p st .root) ≡ suc (suc (size (st .book .root)))
-  size-second = omega (arith, size-inserted (suc p) (suc (count st)) (book-with p st) sane-first in-first, size-inserted p (count st) (st .book) (sane own) in-book)
-
   pub same-s : book-with-two p st .s ≡ st .book .s
   same-s = inserted-s (suc p) (suc (count st)) (book-with p st) ∙ inserted-s p (count st) (st .book)
 

@@ -93,7 +93,7 @@ plan ws s w hi sz n k u y =
 unfoldable pub raised-words : List ℕ → (split : ℕ) → List ℕ
 raised-words ws split = cond (eqb split (word-at ws at-height)) (set ws at-height (suc (word-at ws at-height))) ws
 
--- THE CHANGE: the words afterwards, how many tags moved, and the split height
+-- THE CHANGE: the words afterwards, how many unmarked tags moved, and the split height
 pub record Edited : Type 0 where
   pub words : List ℕ
   pub moved : ℕ

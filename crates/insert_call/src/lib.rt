@@ -17,7 +17,7 @@ use shape::TABLE_LENGTH;
 use store_types::InsertReply;
 use store_types::TagId;
 
-// How many tags moved, and the split height.
+// How many unmarked tags moved, and the split height.
 struct Done {
     moved: u32,
     split: u32,

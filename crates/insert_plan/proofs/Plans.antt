@@ -23,6 +23,7 @@ use Rattle.edit_model.specs.Insert.{Plan, numbers-at, plain-plan, root-plan, sp
 use Rattle.shape.proofs.Sums.{labels-cut}
 use Rattle.edit_model.proofs.Kept.{relabel-header}
 use Rattle.renumber.specs.Needs.{issued, trees-numbered, Row-numbered}
+use Rattle.renumber.proofs.Rows.{moved-one}
 use Rattle.renumber.proofs.Parts.{trees-moved}
 use Rattle.insert_plan.specs.Parts.{next-label, inner-plan}
 
@@ -86,7 +87,9 @@ shift-few : (k n : ℕ) (ws : List ℕ) (x b d : ℕ) → shift k n ws x b d .mo
 unfolding shift
 shift-few zero n ws x b d = omega arith
 shift-few (suc k) n ws x b d =
-    by-test (leb n x || leb b (label-at ws x)) (λ e. rw e (omega arith)) (λ e. rw e (omega (arith, shift-few k n (with-label ws x (cut (label-at ws x + d))) (field ws x at-next) b d)))
+    let label = cut (label-at ws x + d) in
+    by-test (leb n x || leb b (label-at ws x)) (λ e. rw e (omega arith))
+    (λ e. rw e (omega (arith, moved-one ws x label, shift-few k n (with-label ws x label) (field ws x at-next) b d)))
 
 -- A PLAN DONE: the row is numbered from x on, and the tags from `next` on are shifted
 module _ (ws w : List ℕ) (r : ℕ) (p : Plan) {x next m : ℕ} {vs : List ℕ} (start : x ≡ behind ws (p .left))

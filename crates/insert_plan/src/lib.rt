@@ -115,7 +115,7 @@ pub fn plan_at(
     inner_plan(words, place, h, tables)
 }
 
-// How many of the numbered and shifted tags held another label.
+// How many unmarked ones of the numbered and shifted tags held another label.
 pub fn apply(words: &mut [u32], p: Plan, tables: &[u64; PACKED_LENGTH]) -> u32
     requires { ⌜ Applicable (now words) (plan-record p) (now tables) ⌝ }
     ensures words { λ _. ⌜ now (words .exit) ≡ applied (now (words .entry)) (widths-in (now (tables .entry))) (r-in (now (tables .entry))) (issued (now (words .entry))) (plan-record p) .words ⌝ }

@@ -1,12 +1,12 @@
--- What decides between two numbers: the last bits of a kind word. Assumes nothing.
+-- What decides between two numbers: the last bits of a kind word, or its mark. Assumes nothing.
 use mathlib.Core.Path.{_≡_, sym, _∙_}
 use mathlib.Core.Bool.{cond}
 use mathlib.Core.Logic.{by-cases}
-use Prim.Native.Nat.{ℕ, _/_, _%_, _≤_}
+use Prim.Native.Nat.{ℕ, _/_, _%_, _≤_, _<_}
 use native.Mathlib.Decide.{ℕ-discrete}
 use native.Mathlib.Omega.{arith}
-use borrow.Author.Tests.{eq-eqb, ne-eqb}
-use lib.Dec.{eqb}
+use borrow.Author.Tests.{eq-eqb, ne-eqb, le-leb, lt-leb}
+use lib.Dec.{eqb, leb}
 use Rattle.kind_pick.specs.Needs.{Kind-word}
 
 -- two tests that follow from each other
@@ -27,6 +27,14 @@ module _ (c : ℕ) (k : Kind-word c) (a b : ℕ) where
 
   pub begin-high : (c / 2 % 2 ≡ 0 → ⊥) → b ≡ cond (eqb (c % 16) 1) a b
   begin-high ne = rw (ne-eqb (c % 16) 1 (λ e. ne (omega arith)))
+
+-- the mark
+module _ (c a b : ℕ) where
+  pub mark-none : c < 16 → a ≡ cond (leb 16 c) b a
+  mark-none l = rw (lt-leb 16 c l)
+
+  pub mark-there : 16 ≤ c → b ≡ cond (leb 16 c) b a
+  mark-there l = rw (le-leb 16 c l)
 
 -- a kind is a kind word with no mark
 module _ (c : ℕ) (least : 1 ≤ c) (most : c ≤ 3) where

@@ -1,5 +1,6 @@
 pub mod Tests
 pub mod AllHold
+pub mod HowMany
 pub mod Numbers
 pub mod First
 pub mod Same

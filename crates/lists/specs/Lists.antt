@@ -1,7 +1,7 @@
 -- Lists that definitions of several crates need. Assumes nothing: these are definitions.
 use mathlib.Core.Bool.{Bool, true, false, _&&_, cond}
 use mathlib.Core.List.{List, [], _∷_}
-use Prim.Native.Nat.{ℕ, zero, suc}
+use Prim.Native.Nat.{ℕ, zero, suc, _+_}
 use lib.Dec.{eqb}
 
 -- from, from + 1, .. : count numbers
@@ -18,6 +18,11 @@ same (x ∷ xs) (y ∷ ys) = eqb x y && same xs ys
 unfoldable pub all-hold : {A : Type 0} → (holds : A → Bool) → List A → Bool
 all-hold h [] = true
 all-hold h (e ∷ es) = h e && all-hold h es
+
+-- how many elements pass a test
+unfoldable pub how-many : {A : Type 0} → (holds : A → Bool) → List A → ℕ
+how-many h [] = 0
+how-many h (e ∷ es) = cond (h e) 1 0 + how-many h es
 
 -- a first element for the first of some lists, which is begun where there is none
 unfoldable pub with-first : (element : ℕ) → List (List ℕ) → List (List ℕ)

@@ -5,17 +5,16 @@ use mathlib.Core.List.{List, [], _∷_, _++_}
 use Prim.Native.Nat.{ℕ, zero, suc, _+_, _-_, _≤_, _<_}
 use native.Mathlib.Nat.{zero-add, add-zero, suc-add}
 use native.Mathlib.Omega.{arith}
-use borrow.Author.Tests.{eq-eqb, ne-eqb}
-use lib.Dec.{eqb}
+use lib.Dec.{leb, eqb}
 use lib.ListN.{length, take, drop, take-append-drop}
 use Rattle.store_types.specs.Limits.{label-limit}
-use Rattle.store_types.specs.Layout.{at-next, field, label-at, with-label, Room}
+use Rattle.store_types.specs.Layout.{at-next, at-kind, field, label-at, with-label, Room}
 use Rattle.words.proofs.Fields.{room-same, field-past-label, length-with-label}
 use Rattle.tree.specs.Forest.{labels, leaf-row}
 use Rattle.calls.specs.Words.{follow}
 use Rattle.shape.specs.Sums.{cut}
 use Rattle.shape.proofs.Sums.{cut-small, cut-below, labels-cut}
-use Rattle.edit_model.specs.Relabel.{Relabelled, relabel, along}
+use Rattle.edit_model.specs.Relabel.{Relabelled, counted, relabel, along}
 use Rattle.renumber.specs.Needs.{Row-there, Row-numbered, leaves-numbered}
 
 -- THE ROW is the same by words in which each tag has the same next
@@ -66,22 +65,20 @@ unfolding relabel
 relabel-none [] ws = refl
 relabel-none (x ∷ xs) ws = refl
 
-pub moved-one : (same : Bool) → cond same 0 1 ≤ 1
-moved-one true = omega arith
-moved-one false = omega arith
+pub moved-one : (ws : List ℕ) (x l : ℕ) → counted ws x l ≤ 1
+unfolding counted
+moved-one ws x l = at-most (leb 16 (field ws x at-kind)) (eqb (label-at ws x) l)
+  where
+    at-most : (marked same : Bool) → cond marked 0 (cond same 0 1) ≤ 1
+    at-most true same = omega arith
+    at-most false true = omega arith
+    at-most false false = omega arith
 
 pub moved-most : (xs ls ws : List ℕ) → relabel xs ls ws .moved ≤ length xs
 unfolding relabel
 moved-most [] ls ws = omega arith
 moved-most (x ∷ xs) [] ws = omega arith
-moved-most (x ∷ xs) (l ∷ ls) ws = omega (arith, moved-one (eqb (label-at ws x) l), moved-most xs ls (with-label ws x l))
-
--- one more has moved where the label that was read, o, is not the new one
-pub same-label : {o f l : ℕ} → o ≡ f → o ≡ l → _≡_ {A = ℕ} 0 (cond (eqb f l) 0 1)
-same-label {o} {f} {l} e same = rw (eq-eqb f l (sym e ∙ same))
-
-pub other-label : {o f l : ℕ} → o ≡ f → (o ≡ l → ⊥) → _≡_ {A = ℕ} 1 (cond (eqb f l) 0 1)
-other-label {o} {f} {l} e other = rw (ne-eqb f l (λ same. other (e ∙ same)))
+moved-most (x ∷ xs) (l ∷ ls) ws = omega (arith, moved-one ws x l, moved-most xs ls (with-label ws x l))
 
 -- leaves take the width of height 0
 pub leaf-widths : (xs : List ℕ) (u v : ℕ → ℕ) (a : ℕ) → u 0 ≡ v 0 → labels (leaf-row xs) u 0 a ≡ labels (leaf-row xs) v 0 a
@@ -150,7 +147,7 @@ pub leaves-turn : (ws : List ℕ) (v a x k : ℕ) →
     leaves-numbered ws v a x (suc k)
     ≡ record {
       words = leaves-numbered (with-label ws x (cut a)) v (cut (a + v)) (field ws x at-next) k .words;
-      moved = cond (eqb (label-at ws x) (cut a)) 0 1 + leaves-numbered (with-label ws x (cut a)) v (cut (a + v)) (field ws x at-next) k .moved;
+      moved = counted ws x (cut a) + leaves-numbered (with-label ws x (cut a)) v (cut (a + v)) (field ws x at-next) k .moved;
     }
 unfolding leaves-numbered follow leaf-row labels relabel
 leaves-turn ws v a x k =
@@ -160,7 +157,7 @@ leaves-turn ws v a x k =
 -- a number that is a label is written as it is
 pub leaf-on : {whole : Relabelled} {before ws : List ℕ} {first count tag left at done : ℕ} (v : ℕ) →
     On-way whole (leaves-numbered ws v at tag left) before ws first count tag left at done → 1 ≤ left → (vs : List ℕ) (m next : ℕ) →
-    vs ≡ with-label ws tag at → m ≡ cond (eqb (label-at ws tag) at) 0 1 → next ≡ field vs tag at-next →
+    vs ≡ with-label ws tag at → m ≡ counted ws tag at → next ≡ field vs tag at-next →
     On-way whole (leaves-numbered vs v (cut (at + v)) next (left - 1)) before vs first count next (left - 1) (cut (at + v)) (done + m)
 unfolding along
 leaf-on {ws = ws} {tag = tag} {left = left} {at = at} v h some vs m next e f g =
@@ -170,7 +167,7 @@ leaf-on {ws = ws} {tag = tag} {left = left} {at = at} v h some vs m next e f g =
     let turn = rw (all, cut-below at (h .number)) at (leaves-turn ws v at tag (left - 1)) in
     on h (leaves-numbered vs v (cut (at + v)) next (left - 1)) vs 1 m next (cut (at + v))
     some
-    (rw f (moved-one (eqb (label-at ws tag) at)))
+    (rw f (moved-one ws tag at))
     (cut-small (at + v))
     step
     same

@@ -6,32 +6,40 @@ ghost use mathlib.Core.Bool.{cond};
 ghost use Prim.Native.Nat.{_+_, _≤_, _<_};
 ghost use lib.Dec.{eqb};
 ghost use Rattle.store_types.specs.Limits.{label-limit};
-ghost use Rattle.store_types.specs.Layout.{label-at, with-label, Room, Records};
+ghost use Rattle.store_types.specs.Layout.{with-label, Room, Records};
 ghost use Rattle.shape.specs.Packed.{widths-in, r-in};
 ghost use Rattle.shape.specs.Tables.{entry-limit};
 ghost use Rattle.shape.specs.Sums.{cut};
-ghost use Rattle.edit_model.specs.Relabel.{shift as shifted};
+ghost use Rattle.edit_model.specs.Relabel.{counted, shift as shifted};
 ghost use Rattle.renumber.specs.Needs.{issued, Row-there, Trees-fit, Row-numbered, Part-size, leaves-numbered, trees-numbered};
 use shape::PACKED_LENGTH;
 use store_types::Label;
 use store_types::TagId;
 
-// The tag behind those that were numbered, and how many of them held another label before.
+// The tag behind those that were numbered, and how many unmarked ones of them held another label before.
 pub struct Numbered {
     pub next: TagId,
     pub moved: u32,
 }
 
-// One leaf.
-fn number_leaf(words: &mut [u32], tag: TagId, at: u64) -> u32
-    requires { ⌜ Room (now words) (tag .0) × (at < label-limit) ⌝ }
-    ensures words { λ _. ⌜ now (words .exit) ≡ with-label (now (words .entry)) (tag .0) at ⌝ }
-    ensures moved { λ m. ⌜ m ≡ cond (eqb (label-at (now (words .entry)) (tag .0)) at) 0 1 ⌝ }
+// 1 where two labels differ, else 0.
+fn differs(a: Label, b: Label) -> u32
+    ensures { λ d. ⌜ d ≡ cond (eqb (a .0) (b .0)) 0 1 ⌝ }
 {
+    if a.0 == b.0 { 0 } else { 1 }
+}
+
+// One leaf. A marked tag gets its label too, and only does not count: the kind stands in the record that is being
+// written, and what it decides is no branch.
+fn number_leaf(words: &mut [u32], tag: TagId, label: Label) -> u32
+    requires { ⌜ Room (now words) (tag .0) ⌝ }
+    ensures words { λ _. ⌜ now (words .exit) ≡ with-label (now (words .entry)) (tag .0) (label .0) ⌝ }
+    ensures moved { λ m. ⌜ m ≡ counted (now (words .entry)) (tag .0) (label .0) ⌝ }
+{
+    let kind = words::kind_of(words, tag);
     let old = words::label_of(words, tag);
-    let new = at as u32;
-    words::set_label(words, tag, Label(new));
-    if old.0 == new { 0 } else { 1 }
+    words::set_label(words, tag, label);
+    kind_pick::at_unmarked(kind, differs(old, label), 0)
 }
 
 // Leaves in a row, a width apart.
@@ -44,7 +52,8 @@ fn number_leaves(words: &mut [u32], a: u64, x: TagId, count: u64, width: u64) ->
     let mut left = count;
     let mut moved: u32 = 0;
     while 0 < left {
-        moved += number_leaf(words, tag, at);
+        let new = at as u32;
+        moved += number_leaf(words, tag, Label(new));
         tag = words::next_of(words, tag);
         at = shape::sum(at, width);
         left -= 1;
@@ -111,15 +120,16 @@ pub fn shift(words: &mut [u32], x: TagId, bound: u64, by: u64) -> u32
 {
     let n = words::count_of(words);
     let mut tag = x;
+    let mut steps: u32 = 0;
     let mut moved: u32 = 0;
-    while moved < n && tag.0 < n {
+    while steps < n && tag.0 < n {
         let label = words::label_of(words, tag);
         if bound <= (label.0 as u64) {
             return moved;
         }
-        words::set_label(words, tag, raised(label, by));
+        moved += number_leaf(words, tag, raised(label, by));
         tag = words::next_of(words, tag);
-        moved += 1;
+        steps += 1;
     }
     moved
 }

@@ -9,7 +9,7 @@ use Rattle.lists.specs.Lists.{numbers}
 use Rattle.tree.specs.Row.{member, place, insert-at, all-below}
 use Rattle.tree.specs.Forest.{leaves, size, trees, spread}
 use Rattle.tree.specs.Good.{Complete}
-use Rattle.tree.specs.Book.{Book, height, tags, labels-in-order, label-of, base, loaded, inserted, split-of, moved, book-within}
+use Rattle.tree.specs.Book.{Book, height, tags, labels-in-order, label-of, base, loaded, inserted, split-of, moved-among, moved, book-within}
 use Rattle.tree.specs.Families.{families-of, Joins}
 use Rattle.tree.specs.Reach.{left-of, border, split-book, reach-bound}
 
@@ -73,7 +73,9 @@ pub record Second-does (w : ℕ → ℕ) (p x y : ℕ) (k : Book) : Type 0 where
   pub moves-none :
       split-of (suc p) (inserted p x k) ≡ 0 →
       (t : ℕ) → member t (tags k) ≡ true → Moves w (suc p) y t (inserted p x k) → Moves w p x t k
-  pub as-many : split-of (suc p) (inserted p x k) ≡ 0 → moved w k (inserted (suc p) y (inserted p x k)) ≡ moved w k (inserted p x k)
+  pub moves-same :
+      split-of (suc p) (inserted p x k) ≡ 0 →
+      moved-among w (tags k) k (inserted (suc p) y (inserted p x k)) ≡ moved-among w (tags k) k (inserted p x k)
 
 unfoldable pub Second-tag : Type 0
 Second-tag = (w : ℕ → ℕ) (p x y : ℕ) (k : Book) → Step w p x k → Step w (suc p) y (inserted p x k) → Second-does w p x y k

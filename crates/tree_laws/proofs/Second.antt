@@ -326,5 +326,5 @@ second-tag w p x y k first second =
     record {
       splits = λ h. second-book p x y h k (first .sane) (first .place-fits);
       moves-none = λ none. second-moves first second none;
-      as-many = λ none. ap length (second-moved first second none (tags k) (λ v h. h));
+      moves-same = λ none. second-moved first second none (tags k) (λ v h. h);
     }

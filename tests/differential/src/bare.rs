@@ -6,6 +6,11 @@ use crate::call::{Call, Reply};
 use crate::kinds::{BEGIN, END, TEXT};
 use reference::{HEADER, NO_TAG, RECORD, bytes_for};
 
+/// Where a record has its label and its kind, and what a mark adds to the kind.
+const LABEL: usize = 0;
+const KIND: usize = 5;
+const MARK: u32 = 16;
+
 pub struct Bare {
     pub(crate) s: u64,
     pub(crate) r: u64,
@@ -16,8 +21,10 @@ pub struct Bare {
     /// Tags inserted since.
     m: u64,
     pub(crate) height: u32,
-    /// The sum of the moved numbers replied since the load.
+    /// The sum of the moved numbers replied since the load: T.
     moved: u64,
+    /// How many tags got another label since then, marked ones too: never fewer than T.
+    relabelled: u64,
     /// Kind and mark of each tag, by number. Document 01's list keeps neither; they tell which calls are to be refused.
     pub(crate) kinds: Vec<u8>,
     pub(crate) marked: Vec<bool>,
@@ -32,7 +39,18 @@ impl Bare {
             height += 1;
         }
         let list = (0..kinds.len() as u32).collect();
-        Bare { s, r, list, n0, m: 0, height, moved: 0, kinds: kinds.to_vec(), marked: vec![false; kinds.len()] }
+        Bare {
+            s,
+            r,
+            list,
+            n0,
+            m: 0,
+            height,
+            moved: 0,
+            relabelled: 0,
+            kinds: kinds.to_vec(),
+            marked: vec![false; kinds.len()],
+        }
     }
 
     /// An accepted call after the load, or what is wrong with the numbers that it replied.
@@ -106,6 +124,11 @@ impl Bare {
         unreachable!("kinds are properly nested")
     }
 
+    /// Counts all tags that an accepted insertion gave another label.
+    pub fn relabelled(&mut self, before: &[u32], after: &[u32]) {
+        self.relabelled += differing(LABEL, before, after).count() as u64;
+    }
+
     /// What demand 3 says of the words, or which statement fails.
     pub fn check(&self, words: &[u32]) -> Result<(), String> {
         let n = self.list.len() as u64;
@@ -124,6 +147,9 @@ impl Bare {
         let paid = (s - 1) * (f * self.m + 2 * n) + f * (u64::from(self.height - 1) * self.m + self.n0);
         if (s - 1) * self.moved > paid {
             return Err(format!("bare list: (s-1)·T = {} is over {paid}", (s - 1) * self.moved));
+        }
+        if self.moved > self.relabelled {
+            return Err(format!("bare list: T = {}, and {} tags got another label", self.moved, self.relabelled));
         }
         Ok(())
     }
@@ -152,18 +178,20 @@ impl Bare {
     }
 }
 
-/// Moved and marked are differences between the words before and after an accepted call: labels and kinds of the tags
-/// that were there before.
+/// The tags that were there before with another word in this field of their record.
+fn differing<'a>(field: usize, before: &'a [u32], after: &'a [u32]) -> impl Iterator<Item = usize> + 'a {
+    let at = move |tag: &usize| HEADER + RECORD * tag + field;
+    (0..before[4] as usize).filter(move |tag| before[at(tag)] != after[at(tag)])
+}
+
+/// Moved and marked are differences between the words before and after an accepted call: labels of the tags that were
+/// there before and are unmarked in both, and their kinds.
 pub fn counts(call: &Call, reply: &Reply, before: &[u32], after: &[u32]) -> Result<(), String> {
-    let (field, said) = match call {
-        Call::Insert { .. } => (0, reply[2]),
-        Call::Mark { .. } => (5, reply[1]),
+    let unmarked = |tag: &usize| [before, after].iter().all(|words| words[HEADER + RECORD * tag + KIND] < MARK);
+    let (count, said) = match call {
+        Call::Insert { .. } => (differing(LABEL, before, after).filter(unmarked).count(), reply[2]),
+        Call::Mark { .. } => (differing(KIND, before, after).count(), reply[1]),
         _ => return Ok(()),
     };
-    let differs = |tag: &usize| {
-        let at = HEADER + RECORD * tag + field;
-        before[at] != after[at]
-    };
-    let count = (0..before[4] as usize).filter(differs).count();
     if count == said as usize { Ok(()) } else { Err(format!("the words differ at {count} tags, not at {said}")) }
 }

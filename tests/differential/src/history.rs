@@ -63,7 +63,7 @@ impl View {
 
 fn pattern(rng: &mut Rng, view: &View) -> Pattern {
     let one = view.unmarked(rng, None).unwrap_or(NO_TAG);
-    match rng.below(9) {
+    match rng.below(11) {
         0 => Pattern::OnePlace(one),
         1 => Pattern::Front,
         2 => Pattern::End,
@@ -71,7 +71,7 @@ fn pattern(rng: &mut Rng, view: &View) -> Pattern {
         4 => Pattern::Alternating(one, view.any(rng)),
         5 => Pattern::Onward,
         6 => Pattern::Section(view.unmarked(rng, Some(Kind::Begin)).unwrap_or(one)),
-        7 => Pattern::MarkEach(one),
+        7..=9 => Pattern::MarkEach(one),
         _ => Pattern::Anywhere,
     }
 }
@@ -148,6 +148,8 @@ pub fn walk(session: &mut Session, rng: &mut Rng, steps: usize) -> Result<(), Fa
     let Some(view) = View::of(&session.words) else { return Ok(()) };
     let mut pattern_now = pattern(rng, &view);
     let elements = rng.pick(&[0, 10, 50, 100]);
+    // In half of the walks many tags are marked: they move, and do not count as moved.
+    let marks = rng.pick(&[2, 2, 20, 50]);
     let mut held: Vec<[u32; 4]> = Vec::new();
     let mut full = 0;
     for step in 0..steps {
@@ -166,7 +168,7 @@ pub fn walk(session: &mut Session, rng: &mut Rng, steps: usize) -> Result<(), Fa
                 session.step(Call::Question { book, tag, start, end, d: view.inside(rng, tag) })?;
             }
         }
-        if rng.percent(2) {
+        if rng.percent(marks) {
             let kind = rng.pick(&[Some(Kind::Text), Some(Kind::Begin)]);
             if let Some(tag) = view.unmarked(rng, kind) {
                 session.step(Call::Mark { tag })?;

@@ -81,10 +81,14 @@ fn other(writer: &mut Writer, rng: &mut Rng, s: u32, r: u32) {
 fn history(writer: &mut Writer, rng: &mut Rng, s: u32, r: u32, steps: usize, more: u64) {
     let mut pattern_now = pattern(rng, writer.n());
     let elements = rng.pick(&[0, 10, 50, 100]);
+    let marks = rng.pick(&[0, 0, 10, 30]);
     let mut full = 0;
     for _ in 0..steps {
         if rng.percent(more) {
             other(writer, rng, s, r);
+        }
+        if rng.percent(marks) {
+            writer.say(format!("mark {}", rng.below(writer.n())));
         }
         // A listing is long where the book is.
         if rng.below(20 + writer.n() / 2) == 0 {

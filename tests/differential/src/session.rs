@@ -185,7 +185,12 @@ impl<'a> Session<'a> {
         bare::counts(call, &got.reply, &self.words, &got.words)?;
         match (&mut self.bare, call) {
             (bare, Call::Load { s, r, kinds, .. }) => *bare = Some(Bare::load(*s, *r, kinds)),
-            (Some(bare), _) => bare.accepted(call, &got.reply)?,
+            (Some(bare), _) => {
+                bare.accepted(call, &got.reply)?;
+                if matches!(call, Call::Insert { .. }) {
+                    bare.relabelled(&self.words, &got.words);
+                }
+            }
             (None, _) => {}
         }
         self.bare.as_ref().map_or(Ok(()), |bare| bare.check(&got.words))

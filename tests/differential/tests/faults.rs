@@ -85,6 +85,12 @@ fn moved_off_by_one_is_caught() {
     assert!(script.lines().count() <= 2, "{script}");
 }
 
+#[test]
+fn marked_moved_is_caught() {
+    let script = caught(Fault::MarkedMoved);
+    assert!(script.contains("mark "), "{script}");
+}
+
 /// What is printed of a difference by calls: an input of the book program with what it must print, where lines can say
 /// the case, and else the words and the calls.
 #[test]

@@ -60,9 +60,13 @@ fn the_bare_list_is_strict() {
     store.load(2, 2, 7, &[1, 1, 2, 1, 2, 2]).unwrap();
     let mut bare = Bare::load(2, 2, &[1, 1, 2, 1, 2, 2]);
     for first in [6, 7] {
+        let before = store.words.clone();
         let reply = store.insert(3, 2).unwrap();
         assert_eq!(reply.first, first);
         bare.accepted(&Call::Insert { kind: 3, place: 2 }, &[0, reply.first, reply.moved, reply.split, 0]).unwrap();
+        // More moved than tags have another label.
+        assert!(bare.check(&store.words).unwrap_err().contains("another label"));
+        bare.relabelled(&before, &store.words);
     }
     assert_eq!(bare.check(&store.words), Ok(()));
     // Height, tag count, order of the book, a label too great, two labels alike.
@@ -134,6 +138,16 @@ fn counts_are_differences_between_words() {
     store.insert(3, 2).unwrap();
     assert_eq!(counts(&insert, &[0, 6, 1, 0, 0], &before, &store.words), Ok(()));
     assert!(counts(&insert, &[0, 6, 2, 0, 0], &before, &store.words).is_err());
+    // The marked tag that moves does not count, and so the last one alone does.
+    let mut other = Store::new(vec![0; HEADER + RECORD * 4]);
+    other.load(2, 2, 7, &[3, 3, 3]).unwrap();
+    other.mark(1).unwrap();
+    let unmoved = other.words.clone();
+    other.insert(3, 0).unwrap();
+    let insert = Call::Insert { kind: 3, place: 0 };
+    assert_eq!(counts(&insert, &[0, 3, 1, 1, 0], &unmoved, &other.words), Ok(()));
+    assert!(counts(&insert, &[0, 3, 2, 1, 0], &unmoved, &other.words).is_err());
+
     let before = store.words.clone();
     store.mark(1).unwrap();
     assert_eq!(counts(&Call::Mark { tag: 1 }, &[0, 2, 0, 0, 0], &before, &store.words), Ok(()));

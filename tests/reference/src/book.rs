@@ -44,7 +44,7 @@ impl Book {
             return Err(Refusal::Labels);
         }
 
-        let before: Vec<u64> = self.tags.iter().map(|tag| tag.label).collect();
+        let before: Vec<(u64, bool)> = self.tags.iter().map(|tag| (tag.label, tag.marked)).collect();
         let up = match after {
             Some(y) if self.tags[y].kind == Kind::Begin => Some(y),
             Some(y) => self.tags[y].up,
@@ -61,7 +61,12 @@ impl Book {
         };
         self.stamp += 1;
 
-        let mut moved = before.iter().zip(&self.tags).filter(|(label, tag)| **label != tag.label).count() as u32;
+        // Only tags that are unmarked before and after the call count (document 02, CR 4).
+        let counts = |marked: bool| !marked || self.fault == Fault::MarkedMoved;
+        let lost = |&(&(label, marked), tag): &(&(u64, bool), &Tag)| {
+            label != tag.label && counts(marked) && counts(tag.marked)
+        };
+        let mut moved = before.iter().zip(&self.tags).filter(lost).count() as u32;
         if self.fault == Fault::MovedOffByOne {
             moved += 1;
         }

@@ -1,6 +1,6 @@
 //! Faults that a test can switch on, to see that the comparison notices them.
 //!
-//! They are the mistakes that document 01 lists under "Plausible and false", an invented moved count, a soundness
+//! They are the mistakes that document 01 lists under "Plausible and false", two wrong moved counts, a soundness
 //! test that overlooks one clause, and mistakes in reading the book program's lines and sheets and in files. Everything
 //! outside tests uses `Fault::None`.
 
@@ -18,6 +18,8 @@ pub enum Fault {
     MarkedLeftOut,
     /// The reply of an insertion says one moved tag too many.
     MovedOffByOne,
+    /// Marked tags count as moved.
+    MarkedMoved,
     /// Words are taken for a sound store though this clause fails.
     Overlooks(Clause),
     /// Numbers in lines may have leading zeros.

@@ -136,8 +136,14 @@ fn short_history(fault: Fault) -> (Vec<String>, Vec<u32>) {
 
 #[test]
 fn each_seeded_fault_shows() {
-    let faults =
-        [Fault::LowestFull, Fault::RightSiblingsStay, Fault::BaseF, Fault::MarkedLeftOut, Fault::MovedOffByOne];
+    let faults = [
+        Fault::LowestFull,
+        Fault::RightSiblingsStay,
+        Fault::BaseF,
+        Fault::MarkedLeftOut,
+        Fault::MovedOffByOne,
+        Fault::MarkedMoved,
+    ];
     for fault in faults {
         assert_ne!(short_history(fault), short_history(Fault::None), "{fault:?}");
     }

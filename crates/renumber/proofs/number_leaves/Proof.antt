@@ -1,10 +1,9 @@
 -- `renumber::number_leaves` meets its contract. The loop's invariant: the leaves that are left, numbered from here, come to the
 -- whole (On-way). The measure is how many are left. Assumes nothing.
 use mathlib.Core.Path.{_≡_}
+use Prim.Native.Nat.{_≤_}
 use native.Mathlib.Omega.{arith}
-use lib.Dec.{eqb}
 use Rattle.words.proofs.Fields.{room-with-label}
-use Rattle.store_types.specs.Layout.{label-at}
 use Rattle.renumber.specs.Needs.{leaves-numbered}
 use Rattle.renumber.proofs.Rows.{On-way, start, tag-room, moved-one, leaf-on, leaves-end, arrived}
 use Rattle.renumber.proofs.number_leaves.Statement.{statement}
@@ -20,16 +19,18 @@ abbrev μ-loop : tie.MeasureT-loop
 loop-holds : tie.Need-loop-holds Inv-loop μ-loop
 loop-holds c = start _ _ _ _ _ (c .before .pre .0) (c .before .pre .1)
 
+cast-new : tie.Need-cast-new Inv-loop μ-loop
+cast-new c = omega (arith, c .before .loop .inv .number)
+
 number-leaf-requires : tie.Need-number-leaf-requires Inv-loop μ-loop
-number-leaf-requires c κs =
-    let turn = c .before in
-    (tag-room (turn .before .loop .inv .row) (turn .loop-test .taken), turn .before .loop .inv .number)
+number-leaf-requires c κs = let turn = c .before in tag-room (turn .before .loop .inv .row) (turn .loop-test .taken)
 
 add-moved : tie.Need-add-moved Inv-loop μ-loop
 add-moved c =
-    let turn = c .before .before .before .before in
+    let leaf = c .before .before in
+    let turn = leaf .before .before in
     let loop = turn .before .loop in
-    let few = rw (← c .before .before .number-leaf .ensures .1) at (moved-one (eqb (label-at (loop .words) (loop .tag .0)) (loop .at))) in
+    let few : leaf .number-leaf .result ≤ 1 = rw (leaf .number-leaf .ensures .1) (moved-one _ _ _) in
     omega (arith, few, loop .inv .counted, turn .loop-test .taken, turn .before .before .before .pre .0 .most)
 
 next-of-requires : tie.Need-next-of-requires Inv-loop μ-loop
@@ -72,6 +73,7 @@ number-leaves-spec =
     Inv-loop
     μ-loop
     loop-holds
+    cast-new
     number-leaf-requires
     add-moved
     next-of-requires

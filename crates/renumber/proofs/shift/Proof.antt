@@ -8,16 +8,17 @@ use Rattle.store_types.specs.Layout.{label-at, Room}
 use Rattle.edit_model.specs.Relabel.{shift}
 use Rattle.words.proofs.Fields.{room, room-with-label, header-long}
 use Rattle.renumber.specs.Needs.{issued}
+use Rattle.renumber.proofs.Rows.{moved-one}
 use Rattle.renumber.proofs.Shifts.{Shifting, shift-start, shift-on, shift-end, shift-spent, shift-out, shift-far}
 use Rattle.renumber.proofs.shift.Statement.{statement}
 use Rattle.renumber.proofs.shift.Tie as tie
 
 abbrev Inv-loop : tie.InvT-loop
-Inv-loop words₀ bound by n tag₀ moved₀ words tag moved =
-    Shifting (shift n n words₀ (tag₀ .0) bound by) words₀ words n (tag .0) bound by moved
+Inv-loop words₀ bound by n tag₀ steps₀ moved₀ words tag steps moved =
+    Shifting (shift n n words₀ (tag₀ .0) bound by) words₀ words n (tag .0) bound by steps moved
 
 abbrev μ-loop : tie.MeasureT-loop
-μ-loop words₀ bound by n tag₀ moved₀ words tag moved = n - moved
+μ-loop words₀ bound by n tag₀ steps₀ moved₀ words tag steps moved = n - steps
 
 -- where it started, and in a turn: the tag is one of n, and has a record
 abbrev first : tie.At-loop Inv-loop μ-loop → tie.Start Inv-loop μ-loop
@@ -38,7 +39,7 @@ ended : (c : tie.At-loop Inv-loop μ-loop) →
     let args = first c .args in
     let n = c .before .count-of .result in
     let all = shift (issued (args .words .now)) (issued (args .words .now)) (args .words .now) (args .x .0) (args .bound) (args .by) in
-    shift (n - here .moved) n (here .words) (here .tag .0) (args .bound) (args .by) ≡ record { words = here .words; moved = 0 } →
+    shift (n - here .steps) n (here .words) (here .tag .0) (args .bound) (args .by) ≡ record { words = here .words; moved = 0 } →
     (here .words ≡ all .words) × (here .moved ≡ all .moved)
 ended c end = rw (← c .before .count-of .ensures) (shift-end (c .loop .inv) end)
 
@@ -71,31 +72,39 @@ returns c =
 raised-requires : tie.Need-raised-requires Inv-loop μ-loop
 raised-requires c κs = first (at-loop (c .before .before .before .before .before)) .pre .1
 
-set-label-requires : tie.Need-set-label-requires Inv-loop μ-loop
-set-label-requires c κs = there (c .before .before .before .before .before .before)
+number-leaf-requires : tie.Need-number-leaf-requires Inv-loop μ-loop
+number-leaf-requires c κs = there (c .before .before .before .before .before .before)
+
+add-moved : tie.Need-add-moved Inv-loop μ-loop
+add-moved c =
+    let leaf = c .before .before in
+    let turn = leaf .before .before .before .before .before .before .before in
+    let at = at-loop turn in
+    let few : leaf .number-leaf .result ≤ 1 = rw (leaf .number-leaf .ensures .1) (moved-one _ _ _) in
+    omega (arith, few, at .loop .inv .few, turn .before .before .loop-test .taken, at .loop .inv .records .few)
 
 next-of-requires : tie.Need-next-of-requires Inv-loop μ-loop
 next-of-requires c κs =
-    let set = c .before .before .before in
-    rw (set .set-label .ensures) (room-with-label _ _ _ _ (there (set .before .before .before .before .before .before .before)))
+    let leaf = c .before .before .before in
+    rw (leaf .number-leaf .ensures .0) (room-with-label _ _ _ _ (there (leaf .before .before .before .before .before .before .before)))
 
-add-moved : tie.Need-add-moved Inv-loop μ-loop
-add-moved c = omega arith
+add-steps : tie.Need-add-steps Inv-loop μ-loop
+add-steps c = omega arith
 
 loop-less : tie.Need-loop-less Inv-loop μ-loop
 loop-less c = omega arith
 
 loop-again : tie.Need-loop-again Inv-loop μ-loop
 loop-again c =
-    let set = c .before .before .before .before in
-    let read = set .before .before .before .before .before in
+    let leaf = c .before .before .before .before in
+    let read = leaf .before .before .before .before .before in
     let turn = read .before .before in
     let loop = at-loop turn .loop in
     let args = first (at-loop turn) .args in
     let same = read .label-of .ensures in
-    let near : label-at (loop .words) (loop .tag .0) < args .bound = omega (arith, same, set .before .before .before .if2 .left) in
-    let put = rw (set .before .raised .ensures, same) at (set .set-label .ensures) in
-    shift-on (loop .inv) (turn .before .before .loop-test .taken) (below turn) near (set .set-label .last .0) (c .next-of .result .0) put (c .next-of .ensures)
+    let near : label-at (loop .words) (loop .tag .0) < args .bound = omega (arith, same, leaf .before .before .before .if2 .left) in
+    let done = rw (leaf .before .raised .ensures, same) at (leaf .number-leaf .ensures) in
+    shift-on (loop .inv) (turn .before .before .loop-test .taken) (below turn) near (leaf .number-leaf .last .0) (leaf .number-leaf .result) (c .next-of .result .0) (done .0) (done .1) (c .next-of .ensures)
 
 same-length-2 : tie.Need-same-length-2 Inv-loop μ-loop
 same-length-2 c = c .before .before .before .loop .inv .long
@@ -129,9 +138,10 @@ shift-spec =
     same-length
     returns
     raised-requires
-    set-label-requires
-    next-of-requires
+    number-leaf-requires
     add-moved
+    next-of-requires
+    add-steps
     loop-less
     loop-again
     same-length-2
