@@ -45,6 +45,16 @@ fn the_printed_insertions() {
 }
 
 #[test]
+fn marked_tags_move_and_do_not_count() {
+    with_book(10, |store| {
+        assert_eq!(store.mark(tag(3)), Ok(2));
+        assert_eq!(store.insert_text(Place::After(tag(2))).map(reply), Ok((6, 6, 0, 0)));
+        assert_eq!(store.insert_text(Place::After(tag(2))).map(reply), Ok((7, 7, 2, 2)));
+        assert_eq!(listed(store, Within::Book), [(0, 0), (1, 1), (2, 3), (7, 4), (6, 9), (5, 13)]);
+    });
+}
+
+#[test]
 fn an_element_goes_in_with_its_end_behind_it() {
     with_book(10, |store| {
         let element = store.insert_element(Place::Front).expect("room");

@@ -15,7 +15,7 @@ use Rattle.calls.specs.Store.{Fact, fact-in, next-in, prior-in}
 use Rattle.calls.specs.Words.{follow}
 use Rattle.calls_laws.proofs.Reader.{getD-map, kind-back}
 use Rattle.edit_model.specs.Image.{Image, image-words}
-use Rattle.edit_model.specs.Relabel.{counted, along}
+use Rattle.edit_model.specs.Relabel.{counts-moved, along}
 use Rattle.edit_model.proofs.Image.{Proper, distinct-tags, tag-below, record-says}
 
 -- WHETHER TAGS ARE UNMARKED: one by its facts, and all along the row
@@ -47,10 +47,10 @@ module _ {v : Image} (h : Proper v) (rest : List ℕ) where
         record-says v rest (getD (v .tags) i d) (tag-below h i d inside) .prior-word ∙ rw (place-getD (v .tags) i d (distinct-tags h) inside)
 
     -- and whether the tag counts as moved by a new label: where it is another, if the tag is unmarked
-    pub counted-at : (l : ℕ) →
-        counted (image-words v ++ rest) (getD (v .tags) i d) l ≡ cond (getD (unmarked-row v) i true) (cond (eqb (getD (v .labels) i 0) l) 0 1) 0
-    unfolding counted
-    counted-at l =
+    pub counts-at : (l : ℕ) →
+        counts-moved (image-words v ++ rest) (getD (v .tags) i d) l ≡ cond (getD (unmarked-row v) i true) (cond (eqb (getD (v .labels) i 0) l) 0 1) 0
+    unfolding counts-moved
+    counts-at l =
         let t = fact-in (v .facts) (getD (v .tags) i d) in
         let says = record-says v rest (getD (v .tags) i d) (tag-below h i d inside) in
         rw (says .kind-is, kind-back (t .kind) (t .marked) .1, label-of-place, getD-map (unmarked-by (v .facts)) (v .tags) i d true inside)

@@ -44,8 +44,8 @@ module _ {A : Type 0} (f : ℕ → A) (p : ℕ) (ns xs : List ℕ) (fits : p ≤
   abbrev front : List A
   front = map f (take p xs)
 
-  size : length front ≡ p
-  size = length-map (take p xs) f ∙ length-take-le p xs fits
+  front-long : length front ≡ p
+  front-long = length-map (take p xs) f ∙ length-take-le p xs fits
 
   old-parts : map f xs ≡ front ++ map f (drop p xs)
   old-parts = ap (map f) (sym (take-append-drop p xs)) ∙ map-append f (take p xs) (drop p xs)
@@ -56,14 +56,14 @@ module _ {A : Type 0} (f : ℕ → A) (p : ℕ) (ns xs : List ℕ) (fits : p ≤
 
   front-kept : take p (map f (insert-at p ns xs)) ≡ take p (map f xs)
   front-kept =
-      rw (old-parts, new-parts, take-at front (map f ns ++ map f (drop p xs)) p size) (sym (take-at front (map f (drop p xs)) p size))
+      rw (old-parts, new-parts, take-at front (map f ns ++ map f (drop p xs)) p front-long) (sym (take-at front (map f (drop p xs)) p front-long))
 
   middle-new : take (length ns) (drop p (map f (insert-at p ns xs))) ≡ map f ns
-  middle-new = rw (new-parts, drop-at front _ p size) (take-at (map f ns) _ (length ns) (length-map ns f))
+  middle-new = rw (new-parts, drop-at front _ p front-long) (take-at (map f ns) _ (length ns) (length-map ns f))
 
   back-kept : drop (p + length ns) (map f (insert-at p ns xs)) ≡ drop p (map f xs)
   back-kept =
-      rw (old-parts, new-parts, ← drop-drop, drop-at front (map f ns ++ map f (drop p xs)) p size, drop-at front (map f (drop p xs)) p size)
+      rw (old-parts, new-parts, ← drop-drop, drop-at front (map f ns ++ map f (drop p xs)) p front-long, drop-at front (map f (drop p xs)) p front-long)
       (drop-at (map f ns) (map f (drop p xs)) (length ns) (length-map ns f))
 
 -- A BOOK AND ANOTHER with new tags behind the first p

@@ -14,9 +14,9 @@ use Rattle.store_types.specs.Layout.{at-next, field, label-at, with-label}
 use Rattle.edit_model.specs.Image.{Image, image-words, with-labels}
 use Rattle.shape.specs.Sums.{cut}
 use Rattle.shape.proofs.Sums.{cut-below}
-use Rattle.edit_model.specs.Relabel.{counted, relabel, shift}
+use Rattle.edit_model.specs.Relabel.{counts-moved, relabel, shift}
 use Rattle.edit_model.proofs.Image.{Proper, proper-with-labels, tag-below, label-written}
-use Rattle.edit_model.proofs.Along.{unmarked-row, label-of-place, counted-at, next-at}
+use Rattle.edit_model.proofs.Along.{unmarked-row, label-of-place, counts-at, next-at}
 use Rattle.edit_model.proofs.Differ.{differ}
 
 -- ONE ROW AFTER ANOTHER
@@ -40,7 +40,7 @@ relabel-append-moved (x ∷ xs) ys (l ∷ ls) ms ws e =
 -- ALONG A ROW: from place i on as many tags as there are new labels
 next-label : (x l : ℕ) (xs ls ws : List ℕ) →
     relabel (x ∷ xs) (l ∷ ls) ws
-    ≡ record { words = relabel xs ls (with-label ws x l) .words; moved = counted ws x l + relabel xs ls (with-label ws x l) .moved }
+    ≡ record { words = relabel xs ls (with-label ws x l) .words; moved = counts-moved ws x l + relabel xs ls (with-label ws x l) .moved }
 unfolding relabel
 next-label x l xs ls ws = refl
 
@@ -59,7 +59,7 @@ relabel-sets {v} h rest (l ∷ ls) i fits =
       drop-cons (v .labels) i 0 (omega (arith, h .labelled)),
       drop-cons (unmarked-row v) i true (rw length-map inside),
       next-label,
-      counted-at h rest i no-tag inside l,
+      counts-at h rest i no-tag inside l,
       label-written h i no-tag l inside rest,
       relabel-sets (proper-with-labels h (set (v .labels) i l) (length-set (v .labels) i l)) rest ls (suc i) (omega arith),
       drop-set-lt (suc i) (v .labels) i l (omega arith),
@@ -112,7 +112,7 @@ shift-goes : (k n x b d : ℕ) (ws : List ℕ) → (leb n x || leb b (label-at w
     shift (suc k) n ws x b d
     ≡ record {
       words = shift k n (with-label ws x (cut (label-at ws x + d))) (field ws x at-next) b d .words;
-      moved = counted ws x (cut (label-at ws x + d)) + shift k n (with-label ws x (cut (label-at ws x + d))) (field ws x at-next) b d .moved;
+      moved = counts-moved ws x (cut (label-at ws x + d)) + shift k n (with-label ws x (cut (label-at ws x + d))) (field ws x at-next) b d .moved;
     }
 unfolding shift
 shift-goes k n x b d ws e = rw e
@@ -163,7 +163,7 @@ shift-sets (suc k) (suc c) {v} h rest i m b d few e sum enough =
       label-of-place h rest i no-tag inside,
       next-at h rest i no-tag inside,
       cut-below (l + d) (e .fit i (omega arith) first),
-      counted-at h rest i no-tag inside (l + d),
+      counts-at h rest i no-tag inside (l + d),
       label-written h i no-tag (l + d) inside rest,
       ← drop-set-lt (suc i) (v .labels) i (l + d) (omega arith),
       shift-sets k c (proper-with-labels h (set (v .labels) i (l + d)) (length-set (v .labels) i (l + d))) rest (suc i) m b d few (stretch-next (v .labels) i m b d (l + d) first e) (omega arith) (omega arith),

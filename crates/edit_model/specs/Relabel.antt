@@ -12,8 +12,8 @@ pub record Relabelled : Type 0 where
   pub moved : ℕ
 
 -- 1 for an unmarked tag that holds another label than this, else 0: the kind word of a marked tag is 16 or more
-unfoldable pub counted : List ℕ → (tag label : ℕ) → ℕ
-counted ws x l = cond (leb 16 (field ws x at-kind)) 0 (cond (eqb (label-at ws x) l) 0 1)
+unfoldable pub counts-moved : List ℕ → (tag label : ℕ) → ℕ
+counts-moved ws x l = cond (leb 16 (field ws x at-kind)) 0 (cond (eqb (label-at ws x) l) 0 1)
 
 -- new labels for a row of tags
 unfoldable pub relabel : (tags labels : List ℕ) → (words : List ℕ) → Relabelled
@@ -21,7 +21,7 @@ relabel [] ls ws = record { words = ws; moved = 0 }
 relabel (x ∷ xs) [] ws = record { words = ws; moved = 0 }
 relabel (x ∷ xs) (l ∷ ls) ws =
     let rest = relabel xs ls (with-label ws x l) in
-    record { words = rest .words; moved = counted ws x l + rest .moved }
+    record { words = rest .words; moved = counts-moved ws x l + rest .moved }
 
 -- the tag behind so many along next
 unfoldable pub along : (steps : ℕ) → List ℕ → (tag : ℕ) → ℕ
@@ -36,5 +36,5 @@ shift (suc m) n ws x bound by =
     let stays : Relabelled = record { words = ws; moved = 0 } in
     let label = cut (label-at ws x + by) in
     let rest = shift m n (with-label ws x label) (field ws x at-next) bound by in
-    let goes : Relabelled = record { words = rest .words; moved = counted ws x label + rest .moved } in
+    let goes : Relabelled = record { words = rest .words; moved = counts-moved ws x label + rest .moved } in
     cond (leb n x || leb bound (label-at ws x)) stays goes

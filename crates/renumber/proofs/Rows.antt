@@ -14,7 +14,7 @@ use Rattle.tree.specs.Forest.{labels, leaf-row}
 use Rattle.calls.specs.Words.{follow}
 use Rattle.shape.specs.Sums.{cut}
 use Rattle.shape.proofs.Sums.{cut-small, cut-below, labels-cut}
-use Rattle.edit_model.specs.Relabel.{Relabelled, counted, relabel, along}
+use Rattle.edit_model.specs.Relabel.{Relabelled, counts-moved, relabel, along}
 use Rattle.renumber.specs.Needs.{Row-there, Row-numbered, leaves-numbered}
 
 -- THE ROW is the same by words in which each tag has the same next
@@ -65,8 +65,8 @@ unfolding relabel
 relabel-none [] ws = refl
 relabel-none (x ∷ xs) ws = refl
 
-pub moved-one : (ws : List ℕ) (x l : ℕ) → counted ws x l ≤ 1
-unfolding counted
+pub moved-one : (ws : List ℕ) (x l : ℕ) → counts-moved ws x l ≤ 1
+unfolding counts-moved
 moved-one ws x l = at-most (leb 16 (field ws x at-kind)) (eqb (label-at ws x) l)
   where
     at-most : (marked same : Bool) → cond marked 0 (cond same 0 1) ≤ 1
@@ -147,7 +147,7 @@ pub leaves-turn : (ws : List ℕ) (v a x k : ℕ) →
     leaves-numbered ws v a x (suc k)
     ≡ record {
       words = leaves-numbered (with-label ws x (cut a)) v (cut (a + v)) (field ws x at-next) k .words;
-      moved = counted ws x (cut a) + leaves-numbered (with-label ws x (cut a)) v (cut (a + v)) (field ws x at-next) k .moved;
+      moved = counts-moved ws x (cut a) + leaves-numbered (with-label ws x (cut a)) v (cut (a + v)) (field ws x at-next) k .moved;
     }
 unfolding leaves-numbered follow leaf-row labels relabel
 leaves-turn ws v a x k =
@@ -157,7 +157,7 @@ leaves-turn ws v a x k =
 -- a number that is a label is written as it is
 pub leaf-on : {whole : Relabelled} {before ws : List ℕ} {first count tag left at done : ℕ} (v : ℕ) →
     On-way whole (leaves-numbered ws v at tag left) before ws first count tag left at done → 1 ≤ left → (vs : List ℕ) (m next : ℕ) →
-    vs ≡ with-label ws tag at → m ≡ counted ws tag at → next ≡ field vs tag at-next →
+    vs ≡ with-label ws tag at → m ≡ counts-moved ws tag at → next ≡ field vs tag at-next →
     On-way whole (leaves-numbered vs v (cut (at + v)) next (left - 1)) before vs first count next (left - 1) (cut (at + v)) (done + m)
 unfolding along
 leaf-on {ws = ws} {tag = tag} {left = left} {at = at} v h some vs m next e f g =

@@ -9,7 +9,7 @@ use lib.Dec.{leb}
 use lib.ListN.{length}
 use Rattle.store_types.specs.Layout.{at-next, field, label-at, with-label, Records}
 use Rattle.shape.specs.Sums.{cut}
-use Rattle.edit_model.specs.Relabel.{Relabelled, counted, shift}
+use Rattle.edit_model.specs.Relabel.{Relabelled, counts-moved, shift}
 use Rattle.words.proofs.Fields.{records-kept, length-with-label}
 use Rattle.renumber.proofs.Rows.{label-keeps-next, moved-one}
 
@@ -32,7 +32,7 @@ shift-far (suc k) n ws x b d h = rw (le-leb b (label-at ws x) h, or-true (leb n 
 shift-step : (k n : ℕ) (ws : List ℕ) (x b d : ℕ) → x < n → label-at ws x < b →
     let label = cut (label-at ws x + d) in
     let rest = shift k n (with-label ws x label) (field ws x at-next) b d in
-    shift (suc k) n ws x b d ≡ record { words = rest .words; moved = counted ws x label + rest .moved }
+    shift (suc k) n ws x b d ≡ record { words = rest .words; moved = counts-moved ws x label + rest .moved }
 unfolding shift
 shift-step k n ws x b d below small = rw (lt-leb n x below, lt-leb b (label-at ws x) small)
 
@@ -53,7 +53,7 @@ shift-start ws n x b d there =
 
 module _ {whole : Relabelled} {before ws : List ℕ} {n tag bound by steps done : ℕ} (h : Shifting whole before ws n tag bound by steps done) where
   pub shift-on : steps < n → tag < n → label-at ws tag < bound → (vs : List ℕ) (m next : ℕ) → vs ≡ with-label ws tag (cut (label-at ws tag + by)) →
-      m ≡ counted ws tag (cut (label-at ws tag + by)) → next ≡ field vs tag at-next → Shifting whole before vs n next bound by (steps + 1) (done + m)
+      m ≡ counts-moved ws tag (cut (label-at ws tag + by)) → next ≡ field vs tag at-next → Shifting whole before vs n next bound by (steps + 1) (done + m)
   shift-on more below small vs m next e c f =
       let step : next ≡ field ws tag at-next = f ∙ rw e (label-keeps-next ws tag (cut (label-at ws tag + by)) tag) in
       let left : n - steps ≡ suc (n - (steps + 1)) = omega arith in

@@ -10,7 +10,7 @@ ghost use Rattle.store_types.specs.Layout.{with-label, Room, Records};
 ghost use Rattle.shape.specs.Packed.{widths-in, r-in};
 ghost use Rattle.shape.specs.Tables.{entry-limit};
 ghost use Rattle.shape.specs.Sums.{cut};
-ghost use Rattle.edit_model.specs.Relabel.{counted, shift as shifted};
+ghost use Rattle.edit_model.specs.Relabel.{counts-moved, shift as shifted};
 ghost use Rattle.renumber.specs.Needs.{issued, Row-there, Trees-fit, Row-numbered, Part-size, leaves-numbered, trees-numbered};
 use shape::PACKED_LENGTH;
 use store_types::Label;
@@ -34,7 +34,7 @@ fn differs(a: Label, b: Label) -> u32
 fn number_leaf(words: &mut [u32], tag: TagId, label: Label) -> u32
     requires { ⌜ Room (now words) (tag .0) ⌝ }
     ensures words { λ _. ⌜ now (words .exit) ≡ with-label (now (words .entry)) (tag .0) (label .0) ⌝ }
-    ensures moved { λ m. ⌜ m ≡ counted (now (words .entry)) (tag .0) (label .0) ⌝ }
+    ensures moved { λ m. ⌜ m ≡ counts-moved (now (words .entry)) (tag .0) (label .0) ⌝ }
 {
     let kind = words::kind_of(words, tag);
     let old = words::label_of(words, tag);

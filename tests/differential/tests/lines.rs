@@ -67,8 +67,10 @@ fn faults_of_the_store_are_caught() {
         let script = caught(fault).script;
         assert!(lines(&script).len() <= 8 && script.len() <= 100, "{fault:?} is not short");
     }
-    let program = Interpreter { fault: Fault::MarkedLeftOut };
-    plan::lines(&program, &mut LineTally::new(), 2, 8).expect_err("the fault must show");
+    for fault in [Fault::MarkedLeftOut, Fault::MarkedMoved] {
+        let program = Interpreter { fault };
+        plan::lines(&program, &mut LineTally::new(), 2, 8).expect_err("the fault must show");
+    }
 }
 
 #[test]

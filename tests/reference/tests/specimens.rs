@@ -56,6 +56,26 @@ fn f_g_the_printed_case() {
     assert_eq!(store.words[7], 2);
 }
 
+/// Document 02, CR 4: a marked tag moves and does not count.
+#[test]
+fn marked_tags_do_not_count_as_moved() {
+    let inserted = |first, moved, split| Ok(Inserted { first, moved, split });
+    let mut store = loaded(2, 2, "TTTT", 5);
+    assert_eq!((store.mark(1), store.insert(TEXT, 0)), (Ok(1), inserted(4, 0, 0)));
+    assert_eq!(listed(&store), (vec![0, 4, 2, 3], vec![0, 1, 3, 4]));
+
+    let mut store = loaded(2, 2, "TTTT", 6);
+    assert_eq!((store.mark(3), store.insert(TEXT, 0)), (Ok(1), inserted(4, 1, 0)));
+    assert_eq!(store.insert(TEXT, 0), inserted(5, 3, 1));
+
+    let mut store = loaded(2, 2, "TTT", 4);
+    assert_eq!((store.mark(1), store.insert(TEXT, 2)), (Ok(1), inserted(3, 1, 1)));
+
+    let mut store = loaded(2, 2, "BTE", 5);
+    assert_eq!((store.mark(0), store.insert(TEXT, NO_TAG)), (Ok(3), inserted(3, 0, 1)));
+    assert_eq!(store.insert(TEXT, NO_TAG), inserted(4, 1, 0));
+}
+
 #[test]
 fn h_i_j_held_pairs() {
     let mut store = loaded(2, 2, "BBEBEE", 8);

@@ -1,7 +1,7 @@
 -- `renumber::number_leaf` meets its contract. Assumes nothing.
 use borrow.Author.Needs.{needs}
 use Rattle.words.proofs.Fields.{room}
-use Rattle.edit_model.specs.Relabel.{counted}
+use Rattle.edit_model.specs.Relabel.{counts-moved}
 use Rattle.renumber.proofs.number_leaf.Statement.{statement}
 use Rattle.renumber.proofs.number_leaf.Tie as tie
 
@@ -24,7 +24,7 @@ same-length : tie.Need-same-length
 same-length c = search needs
 
 returns : tie.Need-returns
-unfolding counted
+unfolding counts-moved
 returns c =
     let set = c .before .before .before .before in
     let read = set .before .before in
