@@ -3,12 +3,12 @@
 use mathlib.Core.Bool.{Bool, true, _&&_}
 use mathlib.Core.List.{List, [], _∷_, _++_}
 use Prim.Native.Nat.{ℕ}
-use lib.ListN.{length, set, take, replicate}
+use lib.ListN.{set, take, replicate}
 use Rattle.lists.specs.Lists.{same}
 use Rattle.calls.specs.Replies.{load-words, insert-words, load-numbers, write-reply, write-bytes, write-numbers, read-reply, read-words}
 
--- a file is written into so many bytes, all 0, which then hold these; a file is read and the words are then these, from the old
--- ones or from so many that are 0
+-- one thing done over lent words, with the numbers replied. write: the book is written into so many bytes, all 0, which then
+-- hold these; read: these bytes are read, and the words then are these; lend: from here on these words are lent
 pub data Filing : Type 0 where
   write : (lent : ℕ) → (replies bytes : List ℕ) → Filing
   read : (bytes replies words : List ℕ) → Filing

@@ -1,10 +1,11 @@
 -- A store: the book's tree, and for each tag its kind, mark, mate and up (document 01, "The book in words").
 -- Assumes nothing: these are definitions.
-use mathlib.Core.Bool.{Bool, false, not, cond}
-use mathlib.Core.List.{List, [], _∷_}
-use Prim.Native.Nat.{ℕ, suc, _+_}
+use mathlib.Core.Bool.{Bool, false, not}
+use mathlib.Core.List.{List, _∷_}
+use Prim.Native.Nat.{ℕ, suc}
 use lib.Dec.{leb}
 use lib.ListN.{length, getD}
+use Rattle.lists.specs.Lists.{how-many}
 use Rattle.store_types.specs.Limits.{no-tag, label-limit}
 use Rattle.tree.specs.Row.{place}
 use Rattle.tree.specs.Book.{Book, tags, label-of, power-width}
@@ -80,6 +81,5 @@ next-in xs x = getD xs (suc (place x xs)) no-tag
 unfoldable pub prior-in : List ℕ → (tag : ℕ) → ℕ
 prior-in xs x = getD (no-tag ∷ xs) (place x xs) no-tag
 
-unfoldable pub marked-count : List Fact → ℕ
-marked-count [] = 0
-marked-count (t ∷ ts) = cond (t .marked) 1 0 + marked-count ts
+abbrev pub marked-count : List Fact → ℕ
+marked-count ts = how-many (λ t. t .marked) ts

@@ -12,6 +12,7 @@ use lib.ListN.{length, take, drop, length-append, List·getD-append}
 use lib.Seq.{take-suc}
 use Rattle.store_types.specs.Limits.{no-tag, most-tags}
 use Rattle.lists.proofs.Tests.{by-test, fails, or-left-false, or-right-false}
+use Rattle.lists.proofs.HowMany.{how-many-append}
 use Rattle.store_types.specs.Layout.{header-words, words-for}
 use Rattle.lists.specs.Lists.{first, numbers}
 use Rattle.tree.specs.Row.{member, insert-at, all-below}
@@ -21,7 +22,7 @@ use Rattle.tree.specs.Promise.{Sane}
 use Rattle.tree_laws.proofs.Rows.{getD-place, place-of-member, member-of-take, member-insert, member-numbers, member-all-below, all-below-of, member-of-drop}
 use Rattle.tree_laws.proofs.Insertion.{inserted-s, inserted-r, inserted-under, size-inserted, sane-inserted, sane-inserted-row, tags-inserted-row, size-inserted-row}
 use Rattle.calls.specs.Kind.{Kind, is-begin}
-use Rattle.calls.specs.Store.{Store, Fact, no-fact, fact, count, row, place-of, height-fits, marked-count}
+use Rattle.calls.specs.Store.{Store, Fact, no-fact, fact, count, row, place-of, height-fits}
 use Rattle.calls.specs.Nesting.{nests, new-facts}
 use Rattle.calls.specs.Insert.{position, up-at, book-after, insert-store, raised, labels-end, labels-run-out, place-tests, room-tests, row-refusal}
 use Rattle.calls.specs.Promise.{Insert-sound, Rows-end}
@@ -233,11 +234,6 @@ all-below-with n k p xs e =
     (λ t. rw (member-all-below n i xs e (ltb-true i n t)))
     (λ t. let high = ltb-false i n t in rw (member-numbers i n k high l) (or-true (member i xs))))
 
-marked-append : (ts us : List Fact) → marked-count ts ≤ marked-count (ts ++ us)
-unfolding marked-count
-marked-append [] us = omega arith
-marked-append (t ∷ ts) us = omega (arith, marked-append ts us)
-
 -- an accepted insertion leaves a sound store
 pub insert-sound : Insert-sound
 unfolding Insert-sound insert-store book-after
@@ -264,5 +260,5 @@ insert-sound w y ks st e n some r =
       as-many = omega arith;
       each = rw (counted, tags-are) (all-below-with (count st) k p (row st) (h .each));
       nesting = nested-of _ no-tag _ (rw tags-are (pass-with h ks p m g n (a .few)));
-      stamp-fits = omega (arith, h .stamp-fits, marked-append (st .facts) (new-facts m [] (count st) ks));
+      stamp-fits = omega (arith, h .stamp-fits, how-many-append (λ (t : Fact). t .marked) (st .facts) (new-facts m [] (count st) ks));
     })

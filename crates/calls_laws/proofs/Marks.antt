@@ -8,9 +8,10 @@ use native.Mathlib.Nat.{zero-add, add-zero, add-suc, suc-add, not-suc-le-zero, l
 use borrow.Author.Tests.{le-leb, lt-leb, leb-false}
 use lib.Dec.{leb}
 use lib.ListN.{length}
-use Rattle.lists.specs.Lists.{first}
+use Rattle.lists.specs.Lists.{first, how-many}
 use Rattle.store_types.specs.Limits.{no-tag}
 use Rattle.lists.proofs.Tests.{and-both, by-test}
+use Rattle.lists.proofs.HowMany.{how-many-most}
 use Rattle.tree.specs.Row.{member}
 use Rattle.tree_laws.proofs.Rows.{member-append}
 use Rattle.calls.specs.Kind.{end, is-end}
@@ -23,9 +24,7 @@ use Rattle.calls_laws.proofs.Sections.{place-first-part, place-middle-p
 
 -- marked tags are tags
 pub marked-few : (ts : List Fact) → marked-count ts ≤ length ts
-unfolding marked-count
-marked-few [] = omega arith
-marked-few (t ∷ ts) = by-test (t .marked) (λ e. rw e (omega (arith, marked-few ts))) (λ e. rw e (omega (arith, marked-few ts)))
+marked-few ts = how-many-most (λ t. t .marked) ts
 
 -- THE FACTS AFTER THE MARK of section x: of the tags d, d + 1, ..
 module _ (st : Store) (x : ℕ) where
@@ -48,7 +47,7 @@ module _ (st : Store) (x : ℕ) where
 
   -- how many are marked
   pub count-marked : (d : ℕ) (ts : List Fact) → marked-count (mark-facts st x d ts) ≡ new-marks st x d ts + marked-count ts
-  unfolding mark-facts marked-count new-marks
+  unfolding mark-facts how-many new-marks
   count-marked d [] = refl
   count-marked d (t ∷ ts) = go (t .marked) (within st x d) (marked-count (mark-facts st x (suc d) ts)) (new-marks st x (suc d) ts) (marked-count ts) (count-marked (suc d) ts)
     where

@@ -9,7 +9,9 @@ use native.Mathlib.Omega.{arith}
 use borrow.Author.Tests.{eq-eqb, ne-eqb, eqb-true, eqb-false}
 use lib.Dec.{eqb}
 use lib.ListN.{length}
+use Rattle.lists.specs.Lists.{how-many}
 use Rattle.lists.proofs.Tests.{by-test}
+use Rattle.lists.proofs.HowMany.{how-many-append}
 use Rattle.tree.specs.Row.{member}
 use Rattle.tree_laws.proofs.Rows.{member-nil, member-first, member-later, member-append}
 use Rattle.demands.specs.Sound.{count-under}
@@ -38,18 +40,16 @@ in-none l m = absurd (false≢true (sym (member-nil l) ∙ m))
 
 -- COUNTS
 pub count-append : (b j q : ℕ) (xs ys : List ℕ) → count-under b j q (xs ++ ys) ≡ count-under b j q xs + count-under b j q ys
-unfolding count-under
-count-append b j q [] ys = omega arith
-count-append b j q (x ∷ xs) ys = omega (arith, count-append b j q xs ys)
+count-append b j q = how-many-append (λ l. eqb (l / b ^ j) q)
 
 pub count-none : (b j q : ℕ) (xs : List ℕ) → ((m : ℕ) → In m xs → m / b ^ j ≡ q → ⊥) → count-under b j q xs ≡ 0
-unfolding count-under
+unfolding how-many
 count-none b j q [] other = refl
 count-none b j q (x ∷ xs) other =
     rw (ne-eqb (x / b ^ j) q (other x (member-first x xs))) (omega (arith, count-none b j q xs (λ m i. other m (member-later m x xs i))))
 
 pub count-all : (b j q : ℕ) (xs : List ℕ) → ((m : ℕ) → In m xs → m / b ^ j ≡ q) → count-under b j q xs ≡ length xs
-unfolding count-under
+unfolding how-many
 count-all b j q [] same = refl
 count-all b j q (x ∷ xs) same =
     rw (eq-eqb (x / b ^ j) q (same x (member-first x xs))) (omega (arith, count-all b j q xs (λ m i. same m (member-later m x xs i))))

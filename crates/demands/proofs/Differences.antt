@@ -36,20 +36,18 @@ use Rattle.demands.specs.Words.{is-marked, count-below, unmarked-changed
 use Rattle.demands.specs.Promise.{Moved-right, Marked-right}
 use Rattle.demands.proofs.Said.{sound-said, tag-said}
 
--- COUNTING. The last number of a row of numbers
-total-last : (g : ℕ → ℕ) (x n : ℕ) → total g (numbers x (suc n)) ≡ g (x + n) + total g (numbers x n)
-unfolding numbers
-total-last g x zero = let same : x + 0 ≡ x = omega arith in rw same
-total-last g x (suc n) =
-    let same : x + suc n ≡ suc x + n = omega arith in
-    rw same (omega (arith, total-last g (suc x) n))
+-- COUNTING: numbers added up along a row of numbers are a count
+total-count : (g : ℕ → ℕ) (p : ℕ → Bool) (x n : ℕ) → ((i : ℕ) → i < n → g (x + i) ≡ cond (p (x + i)) 1 0) → total g (numbers x n) ≡ how-many p (numbers x n)
+unfolding numbers how-many
+total-count g p x zero each = refl
+total-count g p x (suc n) each =
+    let first : x + 0 ≡ x = omega arith in
+    let later : (i : ℕ) → i < n → g (suc x + i) ≡ cond (p (suc x + i)) 1 0 =
+    λ i l. let same : suc x + i ≡ x + suc i = omega arith in rw same (each (suc i) (omega arith)) in
+    rw (rw first at (each 0 (omega arith)), total-count g p (suc x) n later)
 
--- numbers of tags added up from 0 on are a count
 pub count-total : (g : ℕ → ℕ) (p : ℕ → Bool) (n : ℕ) → ((x : ℕ) → x < n → g x ≡ cond (p x) 1 0) → total g (numbers 0 n) ≡ count-below n p
-unfolding count-below numbers
-count-total g p zero each = refl
-count-total g p (suc n) each =
-    total-last g 0 n ∙ rw (zero-add, each n (omega arith), count-total g p n (λ x l. each x (omega arith)))
+count-total g p n each = total-count g p 0 n (λ i l. rw zero-add (each i l))
 
 -- MOVED: of a row, tag by tag, those that pass a test
 moved-total : (f : ℕ → Bool) (w : ℕ → ℕ) (k m : Book) (xs : List ℕ) →

@@ -1,12 +1,13 @@
 -- Soundness as document 01 writes it ("Sound means"), over words alone: the digits of labels, and mates and ups by a stack.
 -- Assumes nothing: these are definitions.
 use mathlib.Core.Path.{_≡_}
-use mathlib.Core.Bool.{true, cond}
+use mathlib.Core.Bool.{true}
 use mathlib.Core.List.{List, [], _∷_, map, headD}
 use mathlib.Core.Logic.{_⊎_}
 use Prim.Native.Nat.{ℕ, suc, _+_, _*_, _-_, _/_, _%_, _^_, _≤_, _<_}
 use lib.Dec.{eqb}
 use lib.ListN.{length}
+use Rattle.lists.specs.Lists.{how-many}
 use Rattle.store_types.specs.Limits.{no-tag, label-limit, most-tags}
 use Rattle.store_types.specs.Layout.{at-version, at-s, at-r, at-height, at-count, at-stamp, header-words, at-mate, at-up, at-kind, tag-words, word-at, field, label-at}
 use Rattle.tree.specs.Row.{member, all-below, rises}
@@ -19,9 +20,8 @@ unfoldable pub digit : (b j label : ℕ) → ℕ
 digit b j l = l / b ^ j % b
 
 -- how many of the labels have an ancestor of height j with this quotient
-unfoldable pub count-under : (b j quotient : ℕ) → (labels : List ℕ) → ℕ
-count-under b j q [] = 0
-count-under b j q (l ∷ ls) = cond (eqb (l / b ^ j) q) 1 0 + count-under b j q ls
+abbrev pub count-under : (b j quotient : ℕ) → (labels : List ℕ) → ℕ
+count-under b j q ls = how-many (λ l. eqb (l / b ^ j) q) ls
 
 -- labels whose H digits spell a tree within its limits: where one of them is d + 1, another label has d there and the same
 -- digits above; and an ancestor of height j, from 1 to H − 1, is over at least r^j labels and fewer than s times r^j

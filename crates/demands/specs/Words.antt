@@ -4,9 +4,10 @@ use mathlib.Core.Path.{_≡_}
 use mathlib.Core.Bool.{Bool, _&&_, not, cond}
 use mathlib.Core.List.{List, [], _∷_, _++_, headD, reverse}
 use mathlib.Core.Logic.{_⊎_}
-use Prim.Native.Nat.{ℕ, zero, suc, _+_}
+use Prim.Native.Nat.{ℕ}
 use lib.Dec.{leb, eqb}
 use lib.ListN.{length, take, drop}
+use Rattle.lists.specs.Lists.{numbers, how-many}
 use Rattle.store_types.specs.Limits.{no-tag}
 use Rattle.store_types.specs.Layout.{at-count, at-first, at-next, at-prior, at-mate, at-kind, word-at, field, label-at}
 
@@ -48,9 +49,8 @@ pub record Fronted (new old now : List ℕ) : Type 0 where
   pub past : drop (length new) now ≡ drop (length new) old
 
 -- HOW MANY of the tags below n pass a test
-unfoldable pub count-below : (n : ℕ) → (ℕ → Bool) → ℕ
-count-below zero p = 0
-count-below (suc n) p = cond (p n) 1 0 + count-below n p
+abbrev pub count-below : (n : ℕ) → (ℕ → Bool) → ℕ
+count-below n p = how-many p (numbers 0 n)
 
 -- tags below the old n that have another label word afterwards, and no marked one's kind word before or afterwards
 -- (document 02, CR 4)

@@ -16,7 +16,7 @@ use Rattle.tree.specs.Forest.{Forest, size, labels}
 use Rattle.tree.specs.Reach.{left-in}
 use Rattle.tree.specs.Promise.{Widths}
 use Rattle.tree_laws.proofs.Labels.{length-labels, rising-from, rising-below, node-rising}
-use Rattle.tree_laws.proofs.Ancestors.{number-in, getD-middle, Found, found}
+use Rattle.tree_laws.proofs.Ancestors.{node-number, getD-middle, Found, found}
 use Rattle.edit_model.specs.Image.{Image, image-words}
 use Rattle.edit_model.specs.Split.{left-border}
 use Rattle.edit_model.proofs.Image.{Proper, tag-below}
@@ -60,12 +60,12 @@ module _ {v : Image} (h : Proper v) (few : length (v .facts) ≤ no-tag) (rest :
 module _ {s r : ℕ} {w : ℕ → ℕ} (s-least : 2 ≤ s) (r-least : 2 ≤ r) (widths : Widths s r w) where
   -- the labels left of an ancestor and under it, by its number
   module _ {f : Forest} {j h p a : ℕ} (d : Found s r w f j h p a) where
-    label-left : (q : ℕ) → q < left-in f j (suc h) p → getD (labels f w j a) q 0 < number-in f w j (suc h) p a
+    label-left : (q : ℕ) → q < left-in f j (suc h) p → getD (labels f w j a) q 0 < node-number f w j (suc h) p a
     label-left q l =
         let short : q < length (d .before) = omega (arith, d .left-is) in
         rw (d .whole, d .number-is, List·getD-append (d .before) (labels (d .under) w h (d .number) ++ d .after) 0 q short) (rising-below a (d .number) (d .before) (d .low) q short)
 
-    label-under : (q : ℕ) → left-in f j (suc h) p ≤ q → q < p → number-in f w j (suc h) p a ≤ getD (labels f w j a) q 0
+    label-under : (q : ℕ) → left-in f j (suc h) p ≤ q → q < p → node-number f w j (suc h) p a ≤ getD (labels f w j a) q 0
     label-under q l u =
         let n = d .number in
         let mine = labels (d .under) w h n in
@@ -77,10 +77,10 @@ module _ {s r : ℕ} {w : ℕ → ℕ} (s-least : 2 ≤ s) (r-least : 2 ≤ r) (
   -- TO THE TAG LEFT OF AN ANCESTOR, down to its number
   pub left-ancestor : {v : Image} → Proper v → length (v .facts) ≤ no-tag → (rest : List ℕ) (f : Forest) (u p h : ℕ) → Good s r f u → p ≤ size f → 1 ≤ size f →
       length (v .tags) ≡ size f → v .labels ≡ labels f w u 0 → 1 ≤ h → h ≤ u →
-      left-border (length (v .facts)) (length (v .facts)) (image-words v ++ rest) (number-in f w u h p 0) (tag-before v p) ≡ tag-before v (left-in f u h p)
+      left-border (length (v .facts)) (length (v .facts)) (image-words v ++ rest) (node-number f w u h p 0) (tag-before v p) ≡ tag-before v (left-in f u h p)
   left-ancestor proper few rest f u p zero good fits some many labels-are least most = absurd (omega arith)
   left-ancestor {v} proper few rest f u p (suc h) good fits some many labels-are least most =
       let d = found s-least r-least widths f u h p 0 good most fits some in
-      left-along proper few rest (number-in f w u (suc h) p 0) (length (v .facts)) p (left-in f u (suc h) p)
+      left-along proper few rest (node-number f w u (suc h) p 0) (length (v .facts)) p (left-in f u (suc h) p)
       (omega (arith, proper .as-many)) (omega arith) (omega (arith, d .left-is, d .from))
       (λ q l b. rw labels-are (label-under d q l b)) (λ q e. rw labels-are (label-left d q (omega arith)))

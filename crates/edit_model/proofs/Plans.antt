@@ -23,7 +23,7 @@ use Rattle.tree_laws.proofs.Rows.{member-getD}
 use Rattle.tree_laws.proofs.Spread.{some-power}
 use Rattle.tree_laws.proofs.Labels.{length-labels, Rising, rising-order, rising-from, rising-below}
 use Rattle.tree_laws.proofs.Insertion.{rooted, root-at-limit, split-of-split, split-of-inside}
-use Rattle.tree_laws.proofs.Ancestors.{number-in, at-here, at-inside}
+use Rattle.tree_laws.proofs.Ancestors.{node-number, at-here, at-inside}
 use Rattle.tree_laws.proofs.Flat.{Piece, Flat, split-at-most}
 use Rattle.tree_laws.proofs.Root.{whole, labels-whole, split-flat}
 use Rattle.tree_laws.proofs.Border.{Cut, cut-flat, label-within}
@@ -192,7 +192,7 @@ module _ (ws : List ℕ) (st : Store) (says : Says ws st) where
     size-said = omega (arith, sound-said .as-many)
 
     -- the numbers, and the bound of a height
-    pub number-right : (h : ℕ) → 1 ≤ h → h ≤ height (st .book) → entry (numbers-before ws st p) h ≡ number-in (whole (st .book)) (width st) (height (st .book)) h p 0
+    pub number-right : (h : ℕ) → 1 ≤ h → h ≤ height (st .book) → entry (numbers-before ws st p) h ≡ node-number (whole (st .book)) (width st) (height (st .book)) h p 0
     number-right =
         numbers-whole (st .book) (store-widths st) (sane sound-said) (widths-of ws) p size-said (λ h l. widths-right h (omega arith)) low-enough
 

@@ -78,6 +78,10 @@ pub record File-fits (bs header : List ℕ) (n under : ℕ) (tables : List ℕ) 
   pub counted : n ≡ count-in bs
   pub walk-fits : Pass-fits (file-words bs) n under tables
 
+-- and the widths beside them are those of its tables: what every form of the pass asks
+abbrev pub Judging-fits : (bs header : List ℕ) → (n under : ℕ) → (widths tables : List ℕ) → Type 0
+Judging-fits bs header n under widths tables = File-fits bs header n under tables × (widths ≡ widths-in tables)
+
 -- what it decides: the order of the rows, and the walk
 abbrev pub passes-all : (bytes tables : List ℕ) → (under n : ℕ) → Bool
 passes-all bs t u n =

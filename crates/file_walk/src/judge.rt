@@ -8,10 +8,9 @@ ghost use lib.ListN.{length, getD};
 ghost use Rattle.store_types.specs.Layout.{at-first, header-words, word-at};
 ghost use Rattle.store_types.specs.FileLayout.{file-bytes};
 ghost use Rattle.calls.specs.File.{count-in};
-ghost use Rattle.shape.specs.Packed.{widths-in};
 ghost use Rattle.shape.specs.Needs.{frame-passes};
 ghost use Rattle.file_model.specs.Judge.{judged as judged-so};
-ghost use Rattle.file_walk.specs.Needs.{File-fits, first-state, passes-all, few-open, Judged-so, Said-by};
+ghost use Rattle.file_walk.specs.Needs.{Judging-fits, first-state, passes-all, few-open, Judged-so, Said-by};
 use crate::tags;
 use number_set::SET_WORDS;
 use shape::PACKED_LENGTH;
@@ -23,13 +22,14 @@ use walk::Extent;
 use walk::State;
 use words::Offset;
 
-// Places for begins that are open at once, and one for the tag behind them: for the 1,024 of usual books, and for half of all tags
-// that a book can have.
+// Places for begins that are open at once, and one for the tag behind them: for the 1,024 of usual books, and for half of
+// all tags that a book can have.
 const FEW_OPEN: usize = 1025;
 
 const MOST_OPEN: usize = 100001;
 
-// The judgement: none of both, refusal 2, or more begins open than there are places.
+// What a pass says of a file: that its book is sound; that more begins are open than there are places, which settles
+// nothing; or that it is not sound, by the number of its refusal.
 const SOUND: u32 = 0;
 
 const TOO_DEEP: u32 = 1;
@@ -74,7 +74,7 @@ fn pass(
     tables: &[u64; PACKED_LENGTH],
     opens: &mut [u32],
 ) -> u32
-    requires { ⌜ File-fits (now bytes) (now header) (size .n) (size .under) (now tables) × (widths ≡ widths-in (now tables)) ⌝ }
+    requires { ⌜ Judging-fits (now bytes) (now header) (size .n) (size .under) widths (now tables) ⌝ }
     ensures { λ q. ⌜ Judged-so q (passes-all (now (bytes .entry)) (now (tables .entry)) (size .under) (size .n)) (length (now (opens .entry))) (size .n) ⌝ }
 {
     let pairs = walk_tags::pairs();
@@ -121,7 +121,7 @@ fn with_few(
     widths: [u64; TABLE_LENGTH],
     tables: &[u64; PACKED_LENGTH],
 ) -> u32
-    requires { ⌜ File-fits (now bytes) (now header) (size .n) (size .under) (now tables) × (widths ≡ widths-in (now tables)) ⌝ }
+    requires { ⌜ Judging-fits (now bytes) (now header) (size .n) (size .under) widths (now tables) ⌝ }
     ensures { λ q. ⌜ Judged-so q (passes-all (now (bytes .entry)) (now (tables .entry)) (size .under) (size .n)) few-open (size .n) ⌝ }
 {
     let mut opens = [0u32; FEW_OPEN];
@@ -137,7 +137,7 @@ fn with_most(
     widths: [u64; TABLE_LENGTH],
     tables: &[u64; PACKED_LENGTH],
 ) -> u32
-    requires { ⌜ File-fits (now bytes) (now header) (size .n) (size .under) (now tables) × (widths ≡ widths-in (now tables)) ⌝ }
+    requires { ⌜ Judging-fits (now bytes) (now header) (size .n) (size .under) widths (now tables) ⌝ }
     ensures { λ q. ⌜ q ≡ cond (passes-all (now (bytes .entry)) (now (tables .entry)) (size .under) (size .n)) 0 2 ⌝ }
 {
     let mut opens = [0u32; MOST_OPEN];
@@ -157,7 +157,7 @@ fn all_pass(
     widths: [u64; TABLE_LENGTH],
     tables: &[u64; PACKED_LENGTH],
 ) -> bool
-    requires { ⌜ File-fits (now bytes) (now header) (size .n) (size .under) (now tables) × (widths ≡ widths-in (now tables)) ⌝ }
+    requires { ⌜ Judging-fits (now bytes) (now header) (size .n) (size .under) widths (now tables) ⌝ }
     ensures { λ t. ⌜ t ≡ passes-all (now (bytes .entry)) (now (tables .entry)) (size .under) (size .n) ⌝ }
 {
     let few = with_few(bytes, header, size, widths, tables);

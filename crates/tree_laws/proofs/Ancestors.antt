@@ -10,6 +10,8 @@ use borrow.Author.Tests.{lt-ltb, le-ltb, le-leb, lt-leb, eq-eqb, ne-eqb, ltb-tru
 use lib.Dec.{ltb, leb, eqb}
 use lib.ListN.{length, getD, length-append, List·getD-append}
 use lib.Seq.{getD-append-add}
+use Rattle.lists.specs.Lists.{how-many}
+use Rattle.lists.proofs.HowMany.{how-many-append}
 use Rattle.tree.specs.Good.{Good}
 use Rattle.tree.specs.Forest.{Forest, nil, leaf, node, leaves, size, labels}
 use Rattle.tree.specs.Reach.{left-in, size-in}
@@ -17,49 +19,39 @@ use Rattle.tree.specs.Promise.{Widths}
 use Rattle.tree_laws.proofs.Labels.{trees, next-end, Rising, rising-order, rising-higher, rising-append, rising-from, rising-below, width-least, good-rising, node-rising, children-fit, length-labels}
 
 -- how many numbers of a list lie in [low, high)
-unfoldable pub count-in : (low high : ℕ) → List ℕ → ℕ
-count-in a b [] = 0
-count-in a b (l ∷ ls) = let rest = count-in a b ls in cond (leb a l && ltb l b) (suc rest) rest
+abbrev pub count-within : (low high : ℕ) → List ℕ → ℕ
+count-within a b ls = how-many (λ l. leb a l && ltb l b) ls
 
 -- the number of the tree of height h that p goes into, in a forest of height j numbered from a
-unfoldable pub number-in : Forest → (width : ℕ → ℕ) → (j h p a : ℕ) → ℕ
-number-in nil w j h p a = a
-number-in (leaf z f) w j h p a = a
-number-in (node g f) w j h p a =
-    let right = number-in f w j h (p - size g) (a + w j) in
-    let inside = number-in g w (pred j) h p a in
+unfoldable pub node-number : Forest → (width : ℕ → ℕ) → (j h p a : ℕ) → ℕ
+node-number nil w j h p a = a
+node-number (leaf z f) w j h p a = a
+node-number (node g f) w j h p a =
+    let right = node-number f w j h (p - size g) (a + w j) in
+    let inside = node-number g w (pred j) h p a in
     cond (ltb (size g) p) right (cond (eqb j h) a inside)
 
 -- COUNTS of rising numbers
-pub count-append : (a b : ℕ) (xs ys : List ℕ) → count-in a b (xs ++ ys) ≡ count-in a b xs + count-in a b ys
-unfolding count-in
-count-append a b [] ys = omega arith
-count-append a b (x ∷ xs) ys = go (leb a x && ltb x b) (count-in a b (xs ++ ys)) (count-in a b xs) (count-in a b ys) (count-append a b xs ys)
-  where
-    go : (t : Bool) (n m k : ℕ) → n ≡ m + k → cond t (suc n) n ≡ cond t (suc m) m + k
-    go true n m k e = omega arith
-    go false n m k e = e
-
-pub count-all : (a b c d : ℕ) (ls : List ℕ) → Rising c d ls → a ≤ c → d ≤ b → count-in a b ls ≡ length ls
-unfolding count-in
+pub count-all : (a b c d : ℕ) (ls : List ℕ) → Rising c d ls → a ≤ c → d ≤ b → count-within a b ls ≡ length ls
+unfolding how-many
 count-all a b c d [] r low high = refl
 count-all a b c d (l ∷ ls) r low high =
-    rw (le-leb a l (omega (arith, r .0)), lt-ltb l b (omega (arith, rising-order (suc l) d ls (r .1)))) (ap suc (count-all a b (suc l) d ls (r .1) (omega (arith, r .0)) high))
+    rw (le-leb a l (omega (arith, r .0)), lt-ltb l b (omega (arith, rising-order (suc l) d ls (r .1)))) (omega (arith, count-all a b (suc l) d ls (r .1) (omega (arith, r .0)) high))
 
-pub count-below : (a b c d : ℕ) (ls : List ℕ) → Rising c d ls → d ≤ a → count-in a b ls ≡ 0
-unfolding count-in
+pub count-below : (a b c d : ℕ) (ls : List ℕ) → Rising c d ls → d ≤ a → count-within a b ls ≡ 0
+unfolding how-many
 count-below a b c d [] r low = refl
 count-below a b c d (l ∷ ls) r low =
-    rw (lt-leb a l (omega (arith, rising-order (suc l) d ls (r .1)))) (count-below a b (suc l) d ls (r .1) low)
+    rw (lt-leb a l (omega (arith, rising-order (suc l) d ls (r .1)))) (omega (arith, count-below a b (suc l) d ls (r .1) low))
 
-pub count-above : (a b c d : ℕ) (ls : List ℕ) → Rising c d ls → b ≤ c → count-in a b ls ≡ 0
-unfolding count-in
+pub count-above : (a b c d : ℕ) (ls : List ℕ) → Rising c d ls → b ≤ c → count-within a b ls ≡ 0
+unfolding how-many
 count-above a b c d [] r high = refl
 count-above a b c d (l ∷ ls) r high = go (leb a l) (le-ltb l b (omega (arith, r .0))) (count-above a b (suc l) d ls (r .1) (omega (arith, r .0)))
   where
-    go : (t : Bool) {u : Bool} {n : ℕ} → u ≡ false → n ≡ 0 → cond (t && u) (suc n) n ≡ 0
-    go true e z = rw e z
-    go false e z = z
+    go : (t : Bool) {u : Bool} {n : ℕ} → u ≡ false → n ≡ 0 → cond (t && u) 1 0 + n ≡ 0
+    go true e z = rw (e, z)
+    go false e z = rw z
 
 pub getD-middle : (xs ys zs : List ℕ) (i k : ℕ) → k ≡ length xs + i → i < length ys → getD (xs ++ (ys ++ zs)) k 0 ≡ getD ys i 0
 getD-middle xs ys zs i k e short = rw e (getD-append-add xs (ys ++ zs) i 0 ∙ List·getD-append ys zs 0 i short)
@@ -75,27 +67,27 @@ three-ways {A} n p j h right here inside = go (ltb n p) (eqb j h) refl refl
 
 module _ (g f : Forest) (w : ℕ → ℕ) (j h p a : ℕ) where
   pub at-right : size g < p →
-      (number-in (node g f) w j h p a ≡ number-in f w j h (p - size g) (a + w j))
+      (node-number (node g f) w j h p a ≡ node-number f w j h (p - size g) (a + w j))
       × (left-in (node g f) j h p ≡ size g + left-in f j h (p - size g))
       × (size-in (node g f) j h p ≡ size-in f j h (p - size g))
-  unfolding number-in left-in size-in
+  unfolding node-number left-in size-in
   at-right n = let e = lt-ltb (size g) p n in (rw e, rw e, rw e)
 
   pub at-here : p ≤ size g → j ≡ h →
-      (number-in (node g f) w j h p a ≡ a) × (left-in (node g f) j h p ≡ 0) × (size-in (node g f) j h p ≡ size g)
-  unfolding number-in left-in size-in
+      (node-number (node g f) w j h p a ≡ a) × (left-in (node g f) j h p ≡ 0) × (size-in (node g f) j h p ≡ size g)
+  unfolding node-number left-in size-in
   at-here n i = let e = le-ltb (size g) p n in let d = eq-eqb j h i in (rw (e, d), rw (e, d), rw (e, d))
 
   pub at-inside : p ≤ size g → (j ≡ h → ⊥) →
-      (number-in (node g f) w j h p a ≡ number-in g w (pred j) h p a)
+      (node-number (node g f) w j h p a ≡ node-number g w (pred j) h p a)
       × (left-in (node g f) j h p ≡ left-in g (pred j) h p)
       × (size-in (node g f) j h p ≡ size-in g (pred j) h p)
-  unfolding number-in left-in size-in
+  unfolding node-number left-in size-in
   at-inside n i = let e = le-ltb (size g) p n in let d = ne-eqb j h i in (rw (e, d), rw (e, d), rw (e, d))
 
 -- THE NUMBERS, from the top down: a tree's number is its parent's (the forest's first number) plus a multiple of its width
-pub number-top : (f : Forest) (w : ℕ → ℕ) (j p a : ℕ) → (i : ℕ) × (number-in f w j j p a ≡ a + i * w j)
-unfolding number-in
+pub number-top : (f : Forest) (w : ℕ → ℕ) (j p a : ℕ) → (i : ℕ) × (node-number f w j j p a ≡ a + i * w j)
+unfolding node-number
 number-top nil w j p a = (0, omega arith)
 number-top (leaf z f) w j p a = (0, omega arith)
 number-top (node g f) w j p a =
@@ -105,8 +97,8 @@ number-top (node g f) w j p a =
     (λ n e. (0, at-here g f w j j p a n e .0 ∙ omega arith))
     (λ n e. absurd (e refl))
 
-pub number-next : (f : Forest) (w : ℕ → ℕ) (j h p a : ℕ) → h < j → (i : ℕ) × (number-in f w j h p a ≡ number-in f w j (suc h) p a + i * w h)
-unfolding number-in
+pub number-next : (f : Forest) (w : ℕ → ℕ) (j h p a : ℕ) → h < j → (i : ℕ) × (node-number f w j h p a ≡ node-number f w j (suc h) p a + i * w h)
+unfolding node-number
 number-next nil w j h p a below = (0, omega arith)
 number-next (leaf z f) w j h p a below = (0, omega arith)
 number-next (node g f) w j h p a below =
@@ -116,7 +108,7 @@ number-next (node g f) w j h p a below =
     (ih .0, omega (arith, ih .1, at-right g f w j h p a n .0, at-right g f w j (suc h) p a n .0)))
     (λ n e.
     let top = number-top g w h p a in
-    let inside = at-inside g f w j h p a n (omega arith) .0 ∙ ap (λ (t : ℕ). number-in g w (pred t) h p a) e in
+    let inside = at-inside g f w j h p a n (omega arith) .0 ∙ ap (λ (t : ℕ). node-number g w (pred t) h p a) e in
     (top .0, omega (arith, inside, top .1, at-here g f w j (suc h) p a n e .0)))
     (λ n i.
     let ih = number-next g w (pred j) h p a (omega arith) in
@@ -137,7 +129,7 @@ pub record Found (s r : ℕ) (w : ℕ → ℕ) (f : Forest) (j h p a : ℕ) : Ty
   pub under : Forest
   pub before : List ℕ
   pub after : List ℕ
-  pub number-is : number-in f w j (suc h) p a ≡ number
+  pub number-is : node-number f w j (suc h) p a ≡ number
   pub left-is : left-in f j (suc h) p ≡ length before
   pub size-is : size-in f j (suc h) p ≡ size under
   pub good : Good s r under h
@@ -243,11 +235,11 @@ module _ {s r : ℕ} {w : ℕ → ℕ} (s-least : 2 ≤ s) (r-least : 2 ≤ r) (
     own : Rising (d .number) (d .number + w (suc h)) (labels (d .under) w h (d .number))
     own = node-rising s-least r-least widths (d .under) h (d .number) (d .good) (d .most)
 
-    count-parts : (x y : ℕ) → count-in x y (labels f w j a)
-        ≡ count-in x y (d .before) + (count-in x y (labels (d .under) w h (d .number)) + count-in x y (d .after))
-    count-parts x y = rw d.whole (simp count-append)
+    count-parts : (x y : ℕ) → count-within x y (labels f w j a)
+        ≡ count-within x y (d .before) + (count-within x y (labels (d .under) w h (d .number)) + count-within x y (d .after))
+    count-parts x y = rw d.whole (simp how-many-append)
 
-    pub left-count : count-in 0 (number-in f w j (suc h) p a) (labels f w j a) ≡ left-in f j (suc h) p
+    pub left-count : count-within 0 (node-number f w j (suc h) p a) (labels f w j a) ≡ left-in f j (suc h) p
     left-count =
         let n = d .number in
         let e = n + w (suc h) in
@@ -259,7 +251,7 @@ module _ {s r : ℕ} {w : ℕ → ℕ} (s-least : 2 ≤ s) (r-least : 2 ≤ r) (
           count-above 0 n e (a + trees f * w j) (d .after) (d .high) (omega arith),
         ))
 
-    pub size-count : count-in (number-in f w j (suc h) p a) (number-in f w j (suc h) p a + w (suc h)) (labels f w j a) ≡ size-in f j (suc h) p
+    pub size-count : count-within (node-number f w j (suc h) p a) (node-number f w j (suc h) p a + w (suc h)) (labels f w j a) ≡ size-in f j (suc h) p
     size-count =
         let n = d .number in
         let e = n + w (suc h) in
@@ -272,8 +264,8 @@ module _ {s r : ℕ} {w : ℕ → ℕ} (s-least : 2 ≤ s) (r-least : 2 ≤ r) (
           count-above n e e (a + trees f * w j) (d .after) (d .high) (le-refl e),
         ))
 
-    pub label-within : (number-in f w j (suc h) p a ≤ getD (labels f w j a) (p - 1) 0)
-        × (getD (labels f w j a) (p - 1) 0 < number-in f w j (suc h) p a + w (suc h))
+    pub label-within : (node-number f w j (suc h) p a ≤ getD (labels f w j a) (p - 1) 0)
+        × (getD (labels f w j a) (p - 1) 0 < node-number f w j (suc h) p a + w (suc h))
     label-within =
         let n = d .number in
         let e = n + w (suc h) in
@@ -286,15 +278,15 @@ module _ {s r : ℕ} {w : ℕ → ℕ} (s-least : 2 ≤ s) (r-least : 2 ≤ r) (
 
     -- SO THE LABEL TELLS THE NUMBER, that of the parent (at the top, of the forest) being m: the multiple of the width
     -- is the one that brings it within a width of the label
-    pub number-by-label : (m i : ℕ) → (k : ℕ) × (number-in f w j (suc h) p a ≡ m + k * w (suc h)) →
+    pub number-by-label : (m i : ℕ) → (k : ℕ) × (node-number f w j (suc h) p a ≡ m + k * w (suc h)) →
         m + i * w (suc h) ≤ getD (labels f w j a) (p - 1) 0 → getD (labels f w j a) (p - 1) 0 < m + i * w (suc h) + w (suc h) →
-        number-in f w j (suc h) p a ≡ m + i * w (suc h)
+        node-number f w j (suc h) p a ≡ m + i * w (suc h)
     number-by-label m i k low high =
         let l = getD (labels f w j a) (p - 1) 0 in
         k .1 ∙ multiple-same m (w (suc h)) l i (k .0) (rw k.1 at (label-within .0)) (rw k.1 at (label-within .1)) low high
 
-    pub number-by-quotient : (m : ℕ) → (k : ℕ) × (number-in f w j (suc h) p a ≡ m + k * w (suc h)) →
-        number-in f w j (suc h) p a ≡ m + (getD (labels f w j a) (p - 1) 0 - m) / w (suc h) * w (suc h)
+    pub number-by-quotient : (m : ℕ) → (k : ℕ) × (node-number f w j (suc h) p a ≡ m + k * w (suc h)) →
+        node-number f w j (suc h) p a ≡ m + (getD (labels f w j a) (p - 1) 0 - m) / w (suc h) * w (suc h)
     number-by-quotient m k =
         let l = getD (labels f w j a) (p - 1) 0 in
         let reach : m ≤ l = omega (arith, k .1, label-within .0) in

@@ -16,7 +16,7 @@ use Rattle.tree.specs.Reach.{left-in, size-in}
 use Rattle.tree.specs.Promise.{Widths, Sane}
 use Rattle.tree_laws.proofs.Insertion.{rooted, empty-low}
 use Rattle.tree_laws.proofs.Labels.{Rising, rising-higher, rising-append, node-rising, children-fit, length-labels, label-room}
-use Rattle.tree_laws.proofs.Ancestors.{number-in, found, at-here, at-inside}
+use Rattle.tree_laws.proofs.Ancestors.{node-number, found, at-here, at-inside}
 use Rattle.tree_laws.proofs.Flat.{Flat}
 use Rattle.tree_laws.proofs.Root.{whole, labels-whole}
 
@@ -57,7 +57,7 @@ module _ {w : ℕ → ℕ} (p : ℕ) {k : Book} (widths : Widths (k .s) (k .r) w
 
   -- where those do that stand left of and under a tree below the root, the end of that tree
   cut-ancestor : (h : ℕ) → h < k .under → length front ≡ left-in (k .root) (k .under) (suc h) p + size-in (k .root) (k .under) (suc h) p →
-      Cut 0 (number-in (k .root) w (k .under) (suc h) p 0 + w (suc h)) (w (height k)) front back
+      Cut 0 (node-number (k .root) w (k .under) (suc h) p 0 + w (suc h)) (w (height k)) front back
   cut-ancestor h l n =
       let own = rooted k sane in
       let some : 1 ≤ size (k .root) = by-test (eqb (size (k .root)) 0) (λ t. absurd (omega (arith, empty-low k sane (eqb-true _ _ t)))) (λ t. let n = eqb-false (size (k .root)) 0 t in omega arith) in
@@ -72,13 +72,13 @@ module _ {w : ℕ → ℕ} (p : ℕ) {k : Book} (widths : Widths (k .s) (k .r) w
 
   -- both at once, in the book as a forest of one tree
   pub cut-whole : (h : ℕ) → h < height k → length front ≡ left-in (whole k) (height k) (suc h) p + size-in (whole k) (height k) (suc h) p →
-      Cut 0 (number-in (whole k) w (height k) (suc h) p 0 + w (suc h)) (w (height k)) front back
+      Cut 0 (node-number (whole k) w (height k) (suc h) p 0 + w (suc h)) (w (height k)) front back
   cut-whole h low n =
       by-test (eqb h (k .under))
       (λ t.
       let top = eqb-true h (k .under) t in
       let u = at-here (k .root) nil w (height k) (suc h) p 0 fits (ap suc (sym top)) in
-      let bound : number-in (whole k) w (height k) (suc h) p 0 + w (suc h) ≡ w (height k) = rw (u .0, top) (omega arith) in
+      let bound : node-number (whole k) w (height k) (suc h) p 0 + w (suc h) ≡ w (height k) = rw (u .0, top) (omega arith) in
       rw bound (cut-all (omega (arith, u .1, u .2))))
       (λ t.
       let below : h < k .under = omega (arith, eqb-false h (k .under) t) in
@@ -92,6 +92,6 @@ module _ {w : ℕ → ℕ} {p x : ℕ} {k : Book} (widths : Widths (k .s) (k .r)
 
   -- THE BORDER: the end of the parent
   pub cut-flat : d .height < height k →
-      Cut 0 (number-in (whole k) w (height k) (suc (d .height)) p 0 + w (suc (d .height))) (w (height k)) (d .before ++ (d .old ++ d .beside)) (d .after)
+      Cut 0 (node-number (whole k) w (height k) (suc (d .height)) p 0 + w (suc (d .height))) (w (height k)) (d .before ++ (d .old ++ d .beside)) (d .after)
   cut-flat l =
       cut-whole p widths sane fits (d .before ++ (d .old ++ d .beside)) (d .after) all-parts (d .height) l (simp length-append (omega (arith, d .parent l .border-is)))

@@ -17,7 +17,7 @@ use Rattle.tree_laws.proofs.Rows.{length-insert}
 use Rattle.tree_laws.proofs.Spread.{some-power}
 use Rattle.tree_laws.proofs.Insertion.{size-node, rooted}
 use Rattle.tree_laws.proofs.Labels.{length-labels, labels-shift, labels-joined}
-use Rattle.tree_laws.proofs.Ancestors.{number-in, three-ways, at-right, at-here, at-inside}
+use Rattle.tree_laws.proofs.Ancestors.{node-number, three-ways, at-right, at-here, at-inside}
 use Rattle.tree_laws.proofs.Flat.{trees-spread}
 use Rattle.tree_laws.proofs.Root.{whole, labels-whole}
 use Rattle.tree_laws.proofs.Border.{Cut, cut-whole}
@@ -35,7 +35,7 @@ pub record Pieces (s r : ℕ) (w : ℕ → ℕ) (f : Forest) (j h p a : ℕ) (ns
   pub was : labels f w j a ≡ before ++ (labels under w h number ++ (beside ++ after))
   pub now : labels (split-with f r j (suc h) p ns) w j a
       ≡ before ++ (labels (spread (suc h) r (insert-at offset ns (leaves under))) w (suc h) number ++ (map (λ l. l + (s - 1) * w (suc h)) beside ++ after))
-  pub number-is : number-in f w j (suc h) p a ≡ number
+  pub number-is : node-number f w j (suc h) p a ≡ number
   pub left-is : left-in f j (suc h) p ≡ length before
   pub size-is : size-in f j (suc h) p ≡ size under
   pub place-is : p ≡ length before + offset
@@ -191,7 +191,7 @@ module _ {w : ℕ → ℕ} {p h : ℕ} {ns : List ℕ} {k : Book} (widths : Widt
 
   -- below the root: the end of the parent
   pub pieces-cut : suc h < height k →
-      Cut 0 (number-in (whole k) w (height k) (suc (suc h)) p 0 + w (suc (suc h))) (w (height k)) (d .before ++ (labels (d .under) w h (d .number) ++ d .beside)) (d .after)
+      Cut 0 (node-number (whole k) w (height k) (suc (suc h)) p 0 + w (suc (suc h))) (w (height k)) (d .before ++ (labels (d .under) w h (d .number) ++ d .beside)) (d .after)
   pieces-cut l =
       cut-whole p widths sane fits (d .before ++ (labels (d .under) w h (d .number) ++ d .beside)) (d .after) all-pieces (suc h) l
       (simp (length-append, length-labels (d .under) w h (d .number)) (omega (arith, d .parent l)))

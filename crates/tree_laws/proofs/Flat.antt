@@ -15,7 +15,7 @@ use Rattle.tree.specs.Reach.{left-in, size-in}
 use Rattle.tree_laws.proofs.Spread.{parts-none, parts-one, parts-more, spread-suc, some-power}
 use Rattle.tree_laws.proofs.Insertion.{Turn, right, split, below, turn, put-right, put-split, put-below, height-right, height-split, height-below, size-node, split-length}
 use Rattle.tree_laws.proofs.Labels.{trees, length-labels, labels-shift, labels-joined}
-use Rattle.tree_laws.proofs.Ancestors.{number-in, at-right, at-here, at-inside}
+use Rattle.tree_laws.proofs.Ancestors.{node-number, at-right, at-here, at-inside}
 use Rattle.tree_laws.proofs.Thinnest.{label-inside, label-beyond}
 
 -- a split leaves s trees
@@ -84,7 +84,7 @@ pub record Flat (s r : ℕ) (w : ℕ → ℕ) (f : Forest) (j p x a : ℕ) : Typ
   pub place-is : p ≡ length before + offset
   pub left-is : left-in f j height p ≡ length before
   -- the number of the split node; the new label where none is split
-  pub number-is : (h : ℕ) → height ≡ suc h → number-in f w j (suc h) p a ≡ number
+  pub number-is : (h : ℕ) → height ≡ suc h → node-number f w j (suc h) p a ≡ number
   pub front : p ≡ 0 → number ≡ a
   pub next : height ≡ 0 → (q : ℕ) → p ≡ suc q → number ≡ getD (labels f w j a) q 0 + w 0
   pub most : height ≤ j
@@ -215,7 +215,7 @@ module _ (s r : ℕ) (w : ℕ → ℕ) where
         now = rw (put-split g f s r (suc j) p x fits full, labels-joined (spread (suc j) r row) f w (suc j) a, trees-are, end, labels-shift f w (suc j) (a + v) ((s - 1) * v), append-nil);
         place-is = omega arith;
         left-is = e .1;
-        number-is = λ h i. ap (λ (k : ℕ). number-in (node g f) w (suc j) k p a) (sym i) ∙ e .0;
+        number-is = λ h i. ap (λ (k : ℕ). node-number (node g f) w (suc j) k p a) (sym i) ∙ e .0;
         front = λ i. refl;
         next = λ i. absurd (omega arith);
         most = omega arith;

@@ -7,7 +7,7 @@ use Prim.Native.Nat.{ℕ, suc, _+_, _≤_, _<_}
 use native.Mathlib.Nat.{zero-add}
 use native.Mathlib.Omega.{arith}
 use lib.ListN.{length, getD}
-use Rattle.lists.specs.Lists.{numbers}
+use Rattle.lists.specs.Lists.{numbers, how-many}
 use Rattle.lists.proofs.Numbers.{length-numbers}
 use Rattle.tree.specs.Row.{member}
 use Rattle.tree_laws.proofs.Rows.{Distinct, Among, differs, member-nil, member-first, member-later, member-cases, member-numbers, without, without-first, without-other, length-without, member-without}
@@ -37,7 +37,7 @@ total-same g (x ∷ xs) ys h among l =
 -- the marked facts, counted by number from d on
 marked-total : (g : ℕ → ℕ) (d : ℕ) (ts : List Fact) → ((i : ℕ) → i < length ts → g (d + i) ≡ cond (getD ts i no-fact .marked) 1 0) →
     total g (numbers d (length ts)) ≡ marked-count ts
-unfolding numbers marked-count
+unfolding numbers how-many
 marked-total g d [] each = refl
 marked-total g d (t ∷ ts) each =
     let first : d + 0 ≡ d = omega arith in

@@ -15,7 +15,7 @@ use Rattle.tree.specs.Book.{Book, height, labels-of}
 use Rattle.tree.specs.Promise.{Widths, Sane}
 use Rattle.tree_laws.proofs.Spread.{some-power}
 use Rattle.tree_laws.proofs.Insertion.{rooted}
-use Rattle.tree_laws.proofs.Ancestors.{number-in, number-top, number-next, at-here, at-inside, found, number-by-quotient}
+use Rattle.tree_laws.proofs.Ancestors.{node-number, number-top, number-next, at-here, at-inside, found, number-by-quotient}
 use Rattle.tree_laws.proofs.Root.{whole}
 use Rattle.walk_model.specs.Watch.{ancestor-numbers}
 
@@ -41,14 +41,14 @@ module _ {s r : ℕ} {w : ℕ → ℕ} (s-least : 2 ≤ s) (r-least : 2 ≤ r) (
     (t : List ℕ) (f : Forest) (u p : ℕ) (good : Good s r f u) (fits : p ≤ size f) (some : 1 ≤ size f)
     (wide : (h : ℕ) → h ≤ u → entry t h ≡ w h) where
   -- from a number that the next one down is a multiple of its width behind
-  numbers-from : (h a : ℕ) (ns : List ℕ) → h ≤ u → u < length ns → (k : ℕ) × (number-in f w u h p 0 ≡ a + k * w h) →
-      (i : ℕ) → 1 ≤ i → i ≤ h → entry (ancestor-numbers t h (getD (labels f w u 0) (p - 1) 0) a ns) i ≡ number-in f w u i p 0
+  numbers-from : (h a : ℕ) (ns : List ℕ) → h ≤ u → u < length ns → (k : ℕ) × (node-number f w u h p 0 ≡ a + k * w h) →
+      (i : ℕ) → 1 ≤ i → i ≤ h → entry (ancestor-numbers t h (getD (labels f w u 0) (p - 1) 0) a ns) i ≡ node-number f w u i p 0
   unfolding ancestor-numbers
   numbers-from zero a ns low long k i least most = absurd (omega arith)
   numbers-from (suc h) a ns low long k i least most =
       let l = getD (labels f w u 0) (p - 1) 0 in
       let b = a + (l - a) / entry t (suc h) * entry t (suc h) in
-      let same : number-in f w u (suc h) p 0 ≡ b =
+      let same : node-number f w u (suc h) p 0 ≡ b =
       rw (wide (suc h) (omega arith)) (number-by-quotient s-least r-least widths (found s-least r-least widths f u h p 0 good low fits some) a k) in
       let below = number-next f w u h p 0 low in
       by-test (eqb i (suc h))
@@ -59,12 +59,12 @@ module _ {s r : ℕ} {w : ℕ → ℕ} (s-least : 2 ≤ s) (r-least : 2 ≤ r) (
       numbers-from h b (set ns (suc h) b) (omega arith) (rw length-set long) (below .0, omega (arith, below .1)) i least (omega (arith, eqb-false i (suc h) e)))
 
   pub numbers-below : suc u < table-length → (i : ℕ) → 1 ≤ i → i ≤ u →
-      entry (ancestor-numbers t u (getD (labels f w u 0) (p - 1) 0) 0 (replicate table-length 0)) i ≡ number-in f w u i p 0
+      entry (ancestor-numbers t u (getD (labels f w u 0) (p - 1) 0) 0 (replicate table-length 0)) i ≡ node-number f w u i p 0
   numbers-below small = numbers-from u 0 (replicate table-length 0) (omega arith) (omega arith) (number-top f w u p 0)
 
 -- IN A BOOK, the root's too
 pub numbers-whole : {w : ℕ → ℕ} (k : Book) → Widths (k .s) (k .r) w → Sane k → (t : List ℕ) (p : ℕ) → p ≤ size (k .root) → ((h : ℕ) → h ≤ k .under → entry t h ≡ w h) → height k < table-length →
-    (i : ℕ) → 1 ≤ i → i ≤ height k → entry (ancestor-numbers t (k .under) (getD (labels-of w k) (p - 1) 0) 0 (replicate table-length 0)) i ≡ number-in (whole k) w (height k) i p 0
+    (i : ℕ) → 1 ≤ i → i ≤ height k → entry (ancestor-numbers t (k .under) (getD (labels-of w k) (p - 1) 0) 0 (replicate table-length 0)) i ≡ node-number (whole k) w (height k) i p 0
 numbers-whole {w} k widths sane t p fits wide small i least most =
     let own = rooted k sane in
     let l = getD (labels-of w k) (p - 1) 0 in

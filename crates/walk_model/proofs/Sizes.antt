@@ -10,6 +10,7 @@ use borrow.Author.Tests.{lt-ltb, le-leb, lt-leb, eq-eqb, ne-eqb, ltb-true, ltb-f
 use lib.Dec.{ltb, eqb}
 use lib.ListN.{length, getD, set, length-set, length-replicate, getD-replicate}
 use lib.Seq.{getD-set-same, getD-set-other}
+use Rattle.lists.specs.Lists.{how-many}
 use Rattle.lists.proofs.Tests.{and-left, and-right, by-test}
 use Rattle.store_types.specs.Limits.{label-limit}
 use Rattle.store_types.specs.Layout.{at-height, at-count, at-first, word-at, label-at}
@@ -23,7 +24,7 @@ use Rattle.tree.specs.Reach.{size-in}
 use Rattle.tree.specs.Promise.{Widths}
 use Rattle.tree_laws.proofs.Spread.{some-power}
 use Rattle.tree_laws.proofs.Labels.{Rising, rising-lower, rising-order, children-fit, node-rising, width-least}
-use Rattle.tree_laws.proofs.Ancestors.{count-in, count-above, number-in, number-top, number-next, found, size-count}
+use Rattle.tree_laws.proofs.Ancestors.{count-within, count-above, node-number, number-top, number-next, found, size-count}
 use Rattle.calls.specs.Store.{Store, count, row, width}
 use Rattle.calls.specs.Words.{Says, follow, header-width}
 use Rattle.calls_laws.proofs.Widths.{store-widths, header-unit, header-divides}
@@ -57,20 +58,20 @@ close-kept t ns zero j i v sz h low = refl
 close-kept t ns (suc k) j i v sz h low = close-kept t ns k (suc j) i v _ h (omega arith) ∙ getD-set-other sz j h _ 0 (omega arith)
 
 -- a label within bounds counts, one below does not
-count-inside : (a b l : ℕ) (ls : List ℕ) → a ≤ l → l < b → count-in a b (l ∷ ls) ≡ suc (count-in a b ls)
-unfolding count-in
-count-inside a b l ls low high = rw (le-leb a l low, lt-ltb l b high)
+count-inside : (a b l : ℕ) (ls : List ℕ) → a ≤ l → l < b → count-within a b (l ∷ ls) ≡ suc (count-within a b ls)
+unfolding how-many
+count-inside a b l ls low high = rw (le-leb a l low, lt-ltb l b high) (omega arith)
 
-count-outside : (a b l : ℕ) (ls : List ℕ) → l < a → count-in a b (l ∷ ls) ≡ count-in a b ls
-unfolding count-in
-count-outside a b l ls low = rw (lt-leb a l low)
+count-outside : (a b l : ℕ) (ls : List ℕ) → l < a → count-within a b (l ∷ ls) ≡ count-within a b ls
+unfolding how-many
+count-outside a b l ls low = rw (lt-leb a l low) (omega arith)
 
 -- WHAT COMES OUT at height h, where the node of number n is watched there, by where the open node is: at n, past it, or
 -- before it and n to come
 record Due (n v : ℕ) (end first old i : ℕ) (ls : List ℕ) (out : ℕ) : Type 0 where
-  here : end ≡ n + v → out ≡ i - first + count-in n (n + v) ls
+  here : end ≡ n + v → out ≡ i - first + count-within n (n + v) ls
   past : n + v < end → out ≡ old
-  later : end < n + v → 1 ≤ count-in n (n + v) ls → out ≡ count-in n (n + v) ls
+  later : end < n + v → 1 ≤ count-within n (n + v) ls → out ≡ count-within n (n + v) ls
 
 module _ {w : ℕ → ℕ} {u : ℕ} {t : Tables} (tables : Divided w u t) (ns : List ℕ) (h n : ℕ) (least : 1 ≤ h) (most : h ≤ u)
     (watched : entry ns h ≡ n) (aligned : w h ∣ n) (ends : n + w h < label-limit) where
@@ -105,7 +106,7 @@ module _ {w : ℕ → ℕ} {u : ℕ} {t : Tables} (tables : Divided w u t) (ns :
       ∙ rw (getD-set-other sz j h _ 0 (omega arith)))
 
   due-end : (i : ℕ) (v : Levels) (sz : List ℕ) (out : ℕ) → out ≡ size-taken w ns i v sz h → Due-at i v sz [] out
-  unfolding count-in
+  unfolding how-many
   due-end i v sz out e = record {
     here = λ d. omega (arith, e, taken-own i v sz d);
     past = λ d. e ∙ taken-past i v sz d;
@@ -175,7 +176,7 @@ module _ {w : ℕ → ℕ} {u : ℕ} {t : Tables} (tables : Divided w u t) (ns :
       (first-after begun (s .steps h least most)) next bound (rising-lower (suc l) l b ls (omega arith) (rising .1)) (and-right (q .ok) rest pass))
 
 -- IN A GOOD FOREST: the numbers of ancestors are multiples of their widths
-number-aligned : (w : ℕ → ℕ) → ((g : ℕ) → w g ∣ w (suc g)) → (f : Forest) (u p d h : ℕ) → d + h ≡ u → w h ∣ number-in f w u h p 0
+number-aligned : (w : ℕ → ℕ) → ((g : ℕ) → w g ∣ w (suc g)) → (f : Forest) (u p d h : ℕ) → d + h ≡ u → w h ∣ node-number f w u h p 0
 number-aligned w divides f u p zero h e =
     let top = number-top f w u p 0 in
     let same : h ≡ u = omega arith in
@@ -187,12 +188,12 @@ number-aligned w divides f u p (suc d) h e =
 
 forest-sizes : {s r : ℕ} {w : ℕ → ℕ} {u : ℕ} {t : Tables} → 2 ≤ s → 2 ≤ r → Widths s r w → Divided w u t → length (t .widths) ≡ table-length →
     (f : Forest) → Good s r f u → size f < s * r ^ suc u → (p : ℕ) → p ≤ size f → 1 ≤ size f → labels-pass t u 0 0 (start-levels t) (labels f w u 0) ≡ true →
-    (ns sz : List ℕ) → length sz ≡ table-length → (g : ℕ) → g < u → entry ns (suc g) ≡ number-in f w u (suc g) p 0 →
+    (ns sz : List ℕ) → length sz ≡ table-length → (g : ℕ) → g < u → entry ns (suc g) ≡ node-number f w u (suc g) p 0 →
     entry (labels-sizes t ns u 0 0 (start-levels t) (labels f w u 0) sz) (suc g) ≡ size-in f u (suc g) p
 unfolding start-levels
 forest-sizes {s} {r} {w} {u} {t} s-least r-least widths tables long f good most p fits some pass ns sz sizes g below watched =
     let h = suc g in
-    let n = number-in f w u h p 0 in
+    let n = node-number f w u h p 0 in
     let d = found s-least r-least widths f u g p 0 good below fits some in
     let e : u - h + h ≡ u = omega arith in
     let ends : n + w h < label-limit =
@@ -232,7 +233,7 @@ module _ (ws : List ℕ) (st : Store) (said : Says ws st) (p y : ℕ) (fits : p 
   tables-said = rw (width-said ws st said) at (given-tables (facts ws st said))
 
   -- the numbers that are watched
-  numbers-watched : (h : ℕ) → 1 ≤ h → h ≤ st .book .under → entry (watched-numbers ws y) h ≡ number-in (st .book .root) (width st) (st .book .under) h p 0
+  numbers-watched : (h : ℕ) → 1 ≤ h → h ≤ st .book .under → entry (watched-numbers ws y) h ≡ node-number (st .book .root) (width st) (st .book .under) h p 0
   unfolding watched-numbers
   numbers-watched =
       let k = st .book in
