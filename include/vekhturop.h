@@ -1,9 +1,9 @@
 /* Vekhturop: a verified label store, for C and C++.
  *
  * A book is a row of tags (begins, ends, texts). Each tag has a number for life and a label for now; labels rise along the
- * book. A tag number is an index, a label is only compared: never pass one as the other. Six calls are on a store; two more,
- * vk_write_file and vk_read_file, keep its book as the bytes of a file; and vk_xml_kinds reads the kinds that a book is
- * loaded from out of a sheet of XML.
+ * book. A tag number is an index, a label is only compared: never pass one as the other. Seven calls are on a store; two
+ * more, vk_write_file and vk_read_file, keep its book as the bytes of a file; and vk_xml_kinds reads the kinds that a book
+ * is loaded from, or that vk_insert_sheet puts into one, out of a sheet of XML.
  *
  * WORDS. A store lives in words that the caller lends to each call: 8 + 6n of them for n tags, VK_WORDS(n). Nothing else
  * is kept between calls, nothing is allocated, and the words may be copied as they are.
@@ -47,27 +47,28 @@ extern "C" {
 /* The most tags of a book, marked ones counted. */
 #define VK_MOST_TAGS 200000
 
-/* Stands for no tag; as a place of vk_insert, and to vk_list, it is the front of the book. */
+/* Stands for no tag; as a place of vk_insert and vk_insert_sheet, and to vk_list, it is the front of the book. */
 #define VK_NO_TAG UINT32_C(4294967295)
 #define VK_FRONT VK_NO_TAG
 
 /* The most elements of a sheet that are open at once. */
 #define VK_MOST_DEEP 64
 
-/* Kinds of tags, as vk_load and vk_insert take them and vk_xml_kinds writes them. */
+/* Kinds of tags, as vk_load, vk_insert and vk_insert_sheet take them and vk_xml_kinds writes them. */
 #define VK_BEGIN 1
 #define VK_END 2
 #define VK_TEXT 3
 
-/* Refusals. "All" are the six calls on a store. */
+/* Refusals. "All" are the seven calls on a store; where insert is named, vk_insert_sheet is meant too. */
 #define VK_ACCEPTED 0
 #define VK_TOO_FEW_WORDS 1   /* all, write_file: under 8 words; load, read_file: under 8 + 6n */
 #define VK_NOT_SOUND 2       /* all but load, write_file: the words say no sound store; read_file: the file says none */
 #define VK_DEGREE 3          /* load: s or r outside 2 to 16 */
 #define VK_KIND 4            /* load, insert: a kind not allowed there */
-#define VK_NESTING 5         /* load: kinds not properly nested */
+#define VK_NESTING 5         /* load, insert_sheet: kinds not properly nested */
 #define VK_TOO_MANY_TAGS 6   /* load, insert: over 200,000 tags; insert: also too few words for the new tags */
-#define VK_OUT_OF_LABELS 7   /* load: b^H > 2^32, where b = s*r - 1; insert of k tags: n + k >= s*r^H and b^(H+1) > 2^32 */
+#define VK_OUT_OF_LABELS 7   /* load: b^H > 2^32, where b = s*r - 1; insert of k tags: n + k >= s*r^H and b^h > 2^32, where h
+                                is the least height with n + k < s*r^h, H + 1 for a text or an element */
 #define VK_NO_SUCH_TAG 8     /* all but load: the tag is not below n (VK_FRONT is allowed on insert and list) */
 #define VK_TAG_MARKED 9      /* all but load: the tag is marked */
 #define VK_NOT_A_SECTION 10  /* mark, hold: an end tag; question, list: an end tag or a text */
@@ -91,9 +92,9 @@ typedef struct vk_loaded {
 
 typedef struct vk_inserted {
     uint32_t refusal;
-    uint32_t first; /* the number of the new text or begin; an element's end has the next */
+    uint32_t first; /* the number of the first new tag; the others have the next ones, an element's end too */
     uint32_t moved; /* how many unmarked tags that were there before have another label now */
-    uint32_t split; /* the height of the node that was split, 0 where none was; of an element's two, the greater */
+    uint32_t split; /* the height of the node that was split, 0 where none was; of more than one, the greatest */
 } vk_inserted;
 
 typedef struct vk_marked {
@@ -139,6 +140,15 @@ vk_loaded vk_load(uint32_t s, uint32_t r, uint32_t book, const uint8_t *kinds, s
  * front of the book (VK_FRONT). New tags take the next numbers. Refusals: 1, 2, 4, 8, 9, 6, 7. */
 vk_inserted vk_insert(uint8_t kind, uint32_t place, uint32_t *words, size_t words_len);
 
+/* Inserts a whole sheet: the tags of kinds (VK_BEGIN, VK_END, VK_TEXT), in their order, right behind the tag `place`, or at
+ * the front of the book (VK_FRONT). The labels are those that single insertions give, each tag behind the one before; mates
+ * and ups follow the nesting of the kinds, and the top of the sheet has the up that a text at the place would have. New tags
+ * take the next numbers in the order of the kinds. The stamp rises by 1, however many they are. The call walks over the book
+ * once, where single insertions walk over it once each. With kinds_len 0 an accepted call changes no word, not the stamp
+ * either, and replies the number of tags, 0 and 0.
+ * Refusals, in the order in which they are tested: 1, 2, 4, 5, 8, 9, 6, 7. */
+vk_inserted vk_insert_sheet(const uint8_t *kinds, size_t kinds_len, uint32_t place, uint32_t *words, size_t words_len);
+
 /* Marks a text, or an element by its begin with all that is inside it. Labels stay. Refusals: 1, 2, 8, 9, 10. */
 vk_marked vk_mark(uint32_t tag, uint32_t *words, size_t words_len);
 
@@ -168,7 +178,7 @@ vk_written vk_write_file(const uint32_t *words, size_t words_len, uint8_t *bytes
 vk_loaded vk_read_file(const uint8_t *bytes, size_t bytes_len, uint32_t *words, size_t words_len);
 
 /* Reads a sheet and writes its kinds (VK_BEGIN, VK_END, VK_TEXT) in book order; bytes behind them stay as they are. A list
- * of text_len bytes suffices for every sheet. There is no limit of VK_MOST_TAGS here: vk_load has it.
+ * of text_len bytes suffices for every sheet. There is no limit of VK_MOST_TAGS here: vk_load and vk_insert_sheet have it.
  * A sheet is XML 1.0 (fifth edition) cut down to its content: data, the references &lt; &gt; &amp; &apos; &quot;, CDATA
  * sections, comments and elements, in any number, of the bytes 9, 10, 13 and 32 to 127. A text is a longest run of data,
  * references and CDATA sections, blank ones too; tags and comments end it. The empty sheet has no kinds.

@@ -24,6 +24,10 @@ impl Store for Plain {
         insert::insert(kind, place, words)
     }
 
+    fn insert_sheet(kinds: &[u8], place: u32, words: &mut [u32]) -> [u32; 4] {
+        insert::insert_sheet(kinds, place, words)
+    }
+
     fn mark(tag: u32, words: &mut [u32]) -> [u32; 2] {
         read::mark(tag, words)
     }

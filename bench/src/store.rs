@@ -1,10 +1,11 @@
-//! What is measured: anything that makes document 01's six calls on lent slices and keeps books as files, and anything that
-//! reads sheets.
+//! What is measured: anything that makes the seven calls on a store over lent slices and keeps books as files, and anything
+//! that reads sheets.
 
 /// A reply is a row of words: the refusal's number or 0, then the fields in document 01's order.
 pub trait Store {
     fn load(s: u32, r: u32, book: u32, kinds: &[u8], words: &mut [u32]) -> [u32; 3];
     fn insert(kind: u8, place: u32, words: &mut [u32]) -> [u32; 4];
+    fn insert_sheet(kinds: &[u8], place: u32, words: &mut [u32]) -> [u32; 4];
     fn mark(tag: u32, words: &mut [u32]) -> [u32; 2];
     fn hold(tag: u32, words: &[u32]) -> [u32; 5];
     /// The pair is book, tag, start and end label. Answers: 0 no, 1 yes, 2 stale.

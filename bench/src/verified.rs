@@ -1,12 +1,12 @@
 //! The verified store through its C interface.
 
 use crate::store::{Reader, Store};
-use vekhturop_sys::{vk_hold, vk_insert, vk_list, vk_load, vk_mark, vk_question};
+use vekhturop_sys::{vk_hold, vk_insert, vk_insert_sheet, vk_list, vk_load, vk_mark, vk_question};
 use vekhturop_sys::{vk_read_file, vk_write_file, vk_xml_kinds};
 
 pub struct Verified;
 
-// SAFETY, for all nine: every pointer and length is that of a slice lent for the call.
+// SAFETY, for all ten: every pointer and length is that of a slice lent for the call.
 impl Store for Verified {
     fn load(s: u32, r: u32, book: u32, kinds: &[u8], words: &mut [u32]) -> [u32; 3] {
         unsafe { vk_load(s, r, book, kinds.as_ptr(), kinds.len(), words.as_mut_ptr(), words.len()) }.into()
@@ -14,6 +14,10 @@ impl Store for Verified {
 
     fn insert(kind: u8, place: u32, words: &mut [u32]) -> [u32; 4] {
         unsafe { vk_insert(kind, place, words.as_mut_ptr(), words.len()) }.into()
+    }
+
+    fn insert_sheet(kinds: &[u8], place: u32, words: &mut [u32]) -> [u32; 4] {
+        unsafe { vk_insert_sheet(kinds.as_ptr(), kinds.len(), place, words.as_mut_ptr(), words.len()) }.into()
     }
 
     fn mark(tag: u32, words: &mut [u32]) -> [u32; 2] {

@@ -24,6 +24,7 @@ impl Subject for PlainSubject {
         match *call {
             Call::Load { s, r, book, .. } => reply(Plain::load(s, r, book, given, words)),
             Call::Insert { kind, place } => reply(Plain::insert(kind, place, words)),
+            Call::InsertSheet { place, .. } => reply(Plain::insert_sheet(given, place, words)),
             Call::Mark { tag } => reply(Plain::mark(tag, words)),
             Call::Hold { tag } => reply(Plain::hold(tag, words)),
             Call::Question { book, tag, start, end, d } => reply(Plain::question([book, tag, start, end], d, words)),

@@ -7,7 +7,7 @@ use crate::words::*;
 use std::hint::select_unpredictable;
 
 /// 4 or 5 where the kinds are not those of a book, else 0.
-fn kinds_refused(kinds: &[u8]) -> u32 {
+pub(super) fn kinds_refused(kinds: &[u8]) -> u32 {
     if kinds.iter().any(|kind| !(BEGIN..=TEXT).contains(kind)) {
         return 4;
     }
@@ -40,25 +40,36 @@ pub fn load(s: u32, r: u32, book: u32, kinds: &[u8], words: &mut [u32]) -> [u32;
     let n = n as u32;
     let first = if n == 0 { NO_TAG } else { 0 };
     words[..HEADER].copy_from_slice(&[1, s, r, height as u32, n, first, book, 0]);
-    write_tags(kinds, Spread::new(&shape, u64::from(n), height - 1), words);
+    let mut labels = Spread::new(&shape, u64::from(n), height - 1);
+    let mut next = 0;
+    let label = |x: u32| {
+        let label = labels.label(u64::from(x), next);
+        next = label + 1;
+        label as u32
+    };
+    write_tags(kinds, 0, [NO_TAG; 3], label, words);
     [0, n, height as u32]
 }
 
-fn write_tags(kinds: &[u8], mut labels: Spread, words: &mut [u32]) {
-    let n = kinds.len() as u32;
-    let mut next_label = 0;
-    let mut open = NO_TAG;
-    for (x, &kind) in (0..n).zip(kinds) {
-        let label = labels.label(u64::from(x), next_label);
-        next_label = label + 1;
+/// The records of properly nested tags, numbered from `first` on, which stand between two others in the element of a begin.
+pub(super) fn write_tags(
+    kinds: &[u8],
+    first: u32,
+    [before, behind, up]: [u32; 3],
+    mut label: impl FnMut(u32) -> u32,
+    words: &mut [u32],
+) {
+    let end = first + kinds.len() as u32;
+    let mut open = up;
+    for (x, &kind) in (first..end).zip(kinds) {
         // A begin's mate is written when its end comes, and its own up is the stack. Kinds come in no order that a
         // processor could guess, so a tag that is no end goes the same way with itself for a mate.
         let mate = select_unpredictable(kind == END, open, x);
         words[at(mate, MATE)] = x;
         let up = select_unpredictable(kind == END, words[at(mate, UP)], open);
-        let next = if x + 1 < n { x + 1 } else { NO_TAG };
-        let prior = if x > 0 { x - 1 } else { NO_TAG };
-        words[at(x, 0)..][..RECORD].copy_from_slice(&[label as u32, next, prior, mate, up, u32::from(kind)]);
+        let next = if x + 1 < end { x + 1 } else { behind };
+        let prior = if x > first { x - 1 } else { before };
+        words[at(x, 0)..][..RECORD].copy_from_slice(&[label(x), next, prior, mate, up, u32::from(kind)]);
         open = select_unpredictable(kind == BEGIN, x, up);
     }
 }

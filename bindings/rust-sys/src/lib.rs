@@ -41,11 +41,11 @@ reply!(
 reply!(
     /// `vk_inserted`.
     Inserted {
-        /// The number of the new text or begin; an element's end has the next.
+        /// The number of the first new tag; the others have the next ones, an element's end too.
         first,
         /// How many unmarked tags that were there before have another label now.
         moved,
-        /// The height of the node that was split, 0 where none was; of an element's two, the greater.
+        /// The height of the node that was split, 0 where none was; of more than one, the greatest.
         split
     } 4
 );
@@ -117,6 +117,13 @@ extern "C" {
         words_len: usize,
     ) -> Loaded;
     pub fn vk_insert(kind: u8, place: u32, words: *mut u32, words_len: usize) -> Inserted;
+    pub fn vk_insert_sheet(
+        kinds: *const u8,
+        kinds_len: usize,
+        place: u32,
+        words: *mut u32,
+        words_len: usize,
+    ) -> Inserted;
     pub fn vk_mark(tag: u32, words: *mut u32, words_len: usize) -> Marked;
     pub fn vk_hold(tag: u32, words: *const u32, words_len: usize) -> Held;
     pub fn vk_question(

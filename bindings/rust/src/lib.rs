@@ -24,7 +24,7 @@
 //! ```
 //!
 //! [`Store::write_to`] keeps a book as the bytes of a file, and [`Store::read_from`] brings it back. [`kinds_of_xml`] reads
-//! a sheet of XML as the kinds that a book is loaded from.
+//! a sheet of XML as the kinds that a book is loaded from, or that [`Store::insert_sheet`] puts into one.
 
 #![warn(missing_docs)]
 

@@ -15,7 +15,7 @@ pub enum Refusal {
     Degree,
     /// 4: a kind that is not allowed there. No call of this crate can pass one.
     Kind,
-    /// 5: on load, kinds not properly nested.
+    /// 5: on load and on inserting a sheet, kinds not properly nested.
     Nesting,
     /// 6: over 200,000 tags; on an insertion, also too few words for the new tags.
     TooManyTags,
@@ -89,7 +89,9 @@ impl fmt::Display for Refusal {
                 "the words, or the file, say no sound store: load a book, or bring back sound words or a whole file"
             }
             Refusal::Degree => "s and r must each be from 2 to 16",
-            Refusal::Kind => "a kind is not allowed there: load takes begins, ends and texts, insert a begin or a text",
+            Refusal::Kind => {
+                "a kind is not allowed there: a load and a sheet have begins, ends and texts, insert a begin or a text"
+            },
             Refusal::Nesting => "the kinds do not nest: every begin needs its end, and every end its begin",
             Refusal::TooManyTags => {
                 "no room for more tags: a book has at most 200,000, and no more than its words have room for"

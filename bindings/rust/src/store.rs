@@ -1,4 +1,4 @@
-//! The six calls over lent words, and the two that keep a book as a file.
+//! The seven calls over lent words, and the two that keep a book as a file.
 
 use crate::refusal::Refusal;
 use crate::types::{Answer, HeldPair, Inserted, Kind, Label, Loaded, Place, Tag, Within};
@@ -88,26 +88,54 @@ impl<'a> Store<'a> {
 
     /// Inserts a text.
     pub fn insert_text(&mut self, place: Place) -> Result<Inserted, Refusal> {
-        self.insert(Kind::Text, place, 0)
+        self.insert(Kind::Text, place, 1)
     }
 
     /// Inserts an element: a begin, and its end right behind it.
     pub fn insert_element(&mut self, place: Place) -> Result<Inserted, Refusal> {
-        self.insert(Kind::Begin, place, 1)
+        self.insert(Kind::Begin, place, 2)
     }
 
-    /// Inserts one tag, and `more` behind it.
-    fn insert(&mut self, kind: Kind, place: Place, more: u32) -> Result<Inserted, Refusal> {
+    /// Inserts a text or an element, which are so many tags.
+    fn insert(&mut self, kind: Kind, place: Place, tags: usize) -> Result<Inserted, Refusal> {
         // SAFETY: the pointer and the length are those of a slice that is lent mutably.
         let reply =
             unsafe { vekhturop_sys::vk_insert(kind as u8, place.number(), self.words.as_mut_ptr(), self.words.len()) };
-        Refusal::check(reply.refusal)?;
-        Ok(Inserted {
-            first: Tag::issued(reply.first),
-            last: Tag::issued(reply.first + more),
-            moved: reply.moved,
-            split: reply.split,
-        })
+        Inserted::of(reply, tags)
+    }
+
+    /// Inserts a whole sheet by one call: the tags of these kinds in their order, which nest as the kinds do. The labels are
+    /// those that single insertions give, each tag behind the one before, and the whole takes about as long as one of them.
+    /// An empty sheet changes nothing.
+    ///
+    /// ```
+    /// use vekhturop::{Kind, Place, Store, Tag, kinds_of_xml, words_for};
+    ///
+    /// # fn main() -> Result<(), vekhturop::Refusal> {
+    /// let mut words = [0; words_for(10)];
+    /// let mut store = Store::new(&mut words);
+    /// store.load(2, 2, 7, &[Kind::Begin, Kind::End])?;
+    ///
+    /// let mut bytes = [0; 30];
+    /// let count = kinds_of_xml(b"<pass>gap 4</pass>", &mut bytes)?;
+    /// let sheet = bytes[..count].iter().map(|byte| Kind::try_from(*byte)).collect::<Result<Vec<_>, _>>()?;
+    /// let reply = store.insert_sheet(&sheet, Place::After(Tag::new(0).expect("a tag")))?;
+    /// assert_eq!((reply.first.number(), reply.last.number()), (2, 4));
+    /// # Ok(())
+    /// # }
+    /// ```
+    pub fn insert_sheet(&mut self, kinds: &[Kind], place: Place) -> Result<Inserted, Refusal> {
+        // SAFETY: both pointers and lengths are those of slices, of which one is lent mutably. A kind is one byte.
+        let reply = unsafe {
+            vekhturop_sys::vk_insert_sheet(
+                kinds.as_ptr().cast(),
+                kinds.len(),
+                place.number(),
+                self.words.as_mut_ptr(),
+                self.words.len(),
+            )
+        };
+        Inserted::of(reply, kinds.len())
     }
 
     /// Marks a text, or an element by its begin with all that is inside it; how many tags became marked. Labels stay.
@@ -174,6 +202,7 @@ impl<'a> Store<'a> {
         Refusal::check(reply.refusal)?;
         Ok(reply.count as usize)
     }
+
     /// Writes the book as a file, and replies how many bytes it has: [`bytes_for`] the tags issued. Bytes behind it stay. The
     /// file is the same on every machine, and [`Store::read_from`] makes the same words of it.
     pub fn write_to(&self, bytes: &mut [u8]) -> Result<usize, Refusal> {

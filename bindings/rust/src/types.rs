@@ -125,14 +125,25 @@ pub struct Loaded {
 #[derive(Clone, Copy, PartialEq, Eq, Hash, Debug)]
 #[non_exhaustive]
 pub struct Inserted {
-    /// The new text, or the new element's begin.
+    /// The new text, the new element's begin, or a sheet's first tag. An empty sheet has none: first and last are then the
+    /// number that the next new tag will have.
     pub first: Tag,
-    /// The new text, or the new element's end.
+    /// The new text, the new element's end, or a sheet's last tag.
     pub last: Tag,
     /// How many unmarked tags that were there before have another label now.
     pub moved: u32,
-    /// The height of the node that was split, 0 where none was; of an element's two, the greater.
+    /// The height of the node that was split, 0 where none was; of more than one, the greatest.
     pub split: u32,
+}
+
+impl Inserted {
+    /// Of a reply to an insertion of so many tags. One that is accepted brings a book to at most 200,000 tags.
+    pub(crate) fn of(reply: vekhturop_sys::Inserted, tags: usize) -> Result<Inserted, Refusal> {
+        Refusal::check(reply.refusal)?;
+        let last = reply.first + (tags as u32).saturating_sub(1);
+        let (first, last) = (Tag::issued(reply.first), Tag::issued(last));
+        Ok(Inserted { first, last, moved: reply.moved, split: reply.split })
+    }
 }
 
 /// A section's two labels as they were when it was held, to be shown with later writes.

@@ -1,4 +1,4 @@
--- Lists of calls: on stores by definition, and on words by replies (document 01, "The bare list").
+-- Lists of calls: on stores by definition, and on words by replies (document 01, "The bare list"; document 02, CR 5, for sheets).
 -- Assumes nothing: these are definitions.
 use mathlib.Core.Path.{_≡_}
 use mathlib.Core.Bool.{Bool, true, false, cond}
@@ -17,27 +17,31 @@ use Rattle.store_types.specs.declared.HoldReply.{HoldReply}
 use Rattle.store_types.specs.declared.QuestionReply.{QuestionReply}
 use Rattle.store_types.specs.declared.ListReply.{ListReply}
 use Rattle.store_types.specs.declared.WriteReply.{WriteReply}
+use Rattle.calls.specs.Kind.{kind-of}
 use Rattle.calls.specs.Store.{Store}
 use Rattle.calls.specs.Load.{load-refusal, load-store}
-use Rattle.calls.specs.Insert.{insert-kinds, insert-refusal, insert-store, insert-moved}
+use Rattle.calls.specs.Insert.{insert-kinds, insert-refusal, insert-store, insert-moved, insert-sheet-refusal, insert-sheet-store}
 use Rattle.calls.specs.Mark.{section-refusal, mark-store}
-use Rattle.calls.specs.Replies.{load-reply, load-words, insert-reply, insert-words, mark-reply, mark-words, hold-reply, question-reply, list-reply, list-tags, list-labels, write-reply, write-bytes}
+use Rattle.calls.specs.Replies.{load-reply, load-words, insert-reply, insert-words, insert-sheet-reply, insert-sheet-words, mark-reply, mark-words, hold-reply, question-reply, list-reply, list-tags, list-labels, write-reply, write-bytes}
 
--- the calls that may change a store; their arguments are words
+-- the calls that may change a store; their arguments are words, and kinds are bytes. A sheet is a whole row of kinds at one place
 pub data Call : Type 0 where
   load : (s r number : ℕ) → (kinds : List ℕ) → Call
   insert : (kind place : ℕ) → Call
+  sheet : (kinds : List ℕ) → (place : ℕ) → Call
   mark : (section : ℕ) → Call
 
 -- ON STORES, where so many words are lent: the refusal of a call, the store after it, and after a list of calls
 unfoldable pub refusal : (lent : ℕ) → Call → Store → ℕ
 refusal lent (load s r b cs) st = load-refusal lent s r cs
 refusal lent (insert c y) st = insert-refusal lent c y st
+refusal lent (sheet cs y) st = insert-sheet-refusal lent cs y st
 refusal lent (mark x) st = section-refusal x st
 
 unfoldable pub changed : Call → Store → Store
 changed (load s r b cs) st = load-store s r b cs
 changed (insert c y) st = insert-store (insert-kinds c) y st
+changed (sheet cs y) st = insert-sheet-store (map kind-of cs) y st
 changed (mark x) st = mark-store x st
 
 unfoldable pub accepts : (lent : ℕ) → Call → Store → Bool
@@ -55,6 +59,7 @@ after lent (c ∷ cs) st = after lent cs (after-one lent c st)
 unfoldable pub Fits : Call → Type 0
 Fits (load s r b cs) = b < word-limit
 Fits (insert c y) = Unit {0}
+Fits (sheet cs y) = Unit {0}
 Fits (mark x) = Unit {0}
 
 unfoldable pub All-fit : List Call → Type 0
@@ -66,6 +71,7 @@ All-fit (c ∷ cs) = Fits c × All-fit cs
 pub data Event : Type 0 where
   loads : (s r number : ℕ) → (kinds : List ℕ) → LoadReply → Event
   inserts : (kind place : ℕ) → InsertReply → Event
+  sheets : (kinds : List ℕ) → (place : ℕ) → InsertReply → Event
   marks : (section : ℕ) → MarkReply → Event
   holds : (section : ℕ) → HoldReply → Event
   asks : HeldPair → (d : ℕ) → QuestionReply → Event
@@ -76,6 +82,7 @@ pub data Event : Type 0 where
 unfoldable pub Happens : Event → (before after : List ℕ) → Type 0
 Happens (loads s r b cs q) ws vs = (q ≡ load-reply s r b cs ws) × (vs ≡ load-words s r b cs ws)
 Happens (inserts c y q) ws vs = (q ≡ insert-reply c y ws) × (vs ≡ insert-words c y ws)
+Happens (sheets cs y q) ws vs = (q ≡ insert-sheet-reply cs y ws) × (vs ≡ insert-sheet-words cs y ws)
 Happens (marks x q) ws vs = (q ≡ mark-reply x ws) × (vs ≡ mark-words x ws)
 Happens (holds x q) ws vs = (q ≡ hold-reply x ws) × (vs ≡ ws)
 Happens (asks p d q) ws vs = (q ≡ question-reply p d ws) × (vs ≡ ws)
@@ -105,11 +112,12 @@ unfoldable pub mark-accepted : MarkReply → Bool
 mark-accepted (mark-said.Marked n) = true
 mark-accepted (mark-said.Refused k) = false
 
--- load, insert and mark of a list of events, in order
+-- load, insert, the insertion of a sheet and mark of a list of events, in order
 unfoldable pub told : List Event → List Told
 told [] = []
 told (loads s r b cs q ∷ es) = record { call = load s r b cs; accepted = load-accepted q } ∷ told es
 told (inserts c y q ∷ es) = record { call = insert c y; accepted = insert-accepted q } ∷ told es
+told (sheets cs y q ∷ es) = record { call = sheet cs y; accepted = insert-accepted q } ∷ told es
 told (marks x q ∷ es) = record { call = mark x; accepted = mark-accepted q } ∷ told es
 told (holds x q ∷ es) = told es
 told (asks p d q ∷ es) = told es
@@ -119,7 +127,7 @@ told (writes bs cs q ∷ es) = told es
 unfoldable pub calls-of : List Event → List Call
 calls-of es = map (λ t. t .call) (told es)
 
--- T: the moved numbers that accepted insertions replied since the last accepted load
+-- T: the moved numbers that accepted insertions, of sheets too, replied since the last accepted load
 unfoldable pub total-after-load : LoadReply → (total : ℕ) → ℕ
 total-after-load (load-said.Loaded n h) t = 0
 total-after-load (load-said.Refused k) t = t
@@ -132,6 +140,7 @@ unfoldable pub total-moved : (total : ℕ) → List Event → ℕ
 total-moved t [] = t
 total-moved t (loads s r b cs q ∷ es) = total-moved (total-after-load q t) es
 total-moved t (inserts c y q ∷ es) = total-moved (total-after-insert q t) es
+total-moved t (sheets cs y q ∷ es) = total-moved (total-after-insert q t) es
 total-moved t (marks x q ∷ es) = total-moved t es
 total-moved t (holds x q ∷ es) = total-moved t es
 total-moved t (asks p d q ∷ es) = total-moved t es
@@ -142,6 +151,7 @@ total-moved t (writes bs cs q ∷ es) = total-moved t es
 unfoldable pub moved-by : Call → Store → (total : ℕ) → ℕ
 moved-by (load s r b cs) st t = 0
 moved-by (insert c y) st t = t + insert-moved (insert-kinds c) y st
+moved-by (sheet cs y) st t = t + insert-moved (map kind-of cs) y st
 moved-by (mark x) st t = t
 
 unfoldable pub moved-after : (lent : ℕ) → List Call → Store → (total : ℕ) → ℕ

@@ -1,7 +1,8 @@
--- Insertion (document 01, "The tree", "Calls and their replies"; document 02, CR 4, for the moved number): of a row of
--- kinds, of which a text and an element are the two that the call admits. Assumes nothing: these are definitions.
+-- Insertion (document 01, "The tree", "Calls and their replies"; document 02, CR 4, for the moved number, and CR 5 for sheets): of
+-- a row of kinds, which one call takes as they come; a text and an element are the two rows that the other admits.
+-- Assumes nothing: these are definitions.
 use mathlib.Core.Bool.{Bool, false, _&&_, _||_, not, cond}
-use mathlib.Core.List.{List, [], _∷_, _++_}
+use mathlib.Core.List.{List, [], _∷_, _++_, map}
 use Prim.Native.Nat.{ℕ, zero, suc, _+_, _*_, _^_}
 use lib.Dec.{ltb, leb, eqb}
 use lib.ListN.{length}
@@ -9,9 +10,10 @@ use Rattle.lists.specs.Lists.{first, how-many}
 use Rattle.store_types.specs.Limits.{no-tag, most-tags}
 use Rattle.store_types.specs.Layout.{header-words, words-for}
 use Rattle.tree.specs.Book.{Book, height, inserted-row, split-of-row, moved-among}
-use Rattle.calls.specs.Kind.{Kind, begin, end, text, is-begin}
+use Rattle.calls.specs.Kind.{Kind, begin, end, text, is-begin, kind-of}
 use Rattle.calls.specs.Store.{Store, fact, unmarked, count, row, place-of, width, height-fits}
 use Rattle.calls.specs.Nesting.{new-facts}
+use Rattle.calls.specs.Load.{kinds-tests}
 
 -- kind 1: an element, its begin and then its end; kind 3: a text
 unfoldable pub insert-kinds : (kind : ℕ) → List Kind
@@ -91,3 +93,12 @@ row-refusal lent ks y st =
     let k = length ks in
     let no-labels = labels-run-out (height-fits st) (st .book .s) (st .book .r) k (count st) (height (st .book)) in
     first (place-tests y st ++ room-tests lent k no-labels st) 0
+
+-- A SHEET is a list of kinds as the caller gives them (document 02, CR 5): 4 and 5 are as on load, before the place is looked at
+unfoldable pub insert-sheet-refusal : (lent : ℕ) → (kinds : List ℕ) → (place : ℕ) → Store → ℕ
+insert-sheet-refusal lent cs y st = first (kinds-tests 0 cs) (row-refusal lent (map kind-of cs) y st)
+
+-- an empty one changes nothing, the stamp neither
+unfoldable pub insert-sheet-store : (kinds : List Kind) → (place : ℕ) → Store → Store
+insert-sheet-store [] y st = st
+insert-sheet-store (k ∷ ks) y st = insert-store (k ∷ ks) y st

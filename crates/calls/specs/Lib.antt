@@ -15,3 +15,4 @@ pub mod Reference
 pub mod Promise
 pub mod Specimens
 pub mod FileSpecimens
+pub mod SheetSpecimens

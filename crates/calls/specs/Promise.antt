@@ -1,40 +1,42 @@
--- What is promised of the store (demands 2 and 3), and of its files (document 02, CR 3). Each statement is a type;
--- docs/THEOREMS.md names its proof. Assumes nothing.
+-- What is promised of the store (demands 2 and 3), of its files (document 02, CR 3) and of sheets that go in by one call (CR 5).
+-- Each statement is a type; docs/THEOREMS.md names its proof. Assumes nothing.
 use mathlib.Core.Path.{_≡_}
-use mathlib.Core.Bool.{Bool, true, false, _&&_}
-use mathlib.Core.List.{List, _∷_, _++_, map}
+use mathlib.Core.Bool.{Bool, true, false, _&&_, not}
+use mathlib.Core.List.{List, [], _∷_, _++_, map}
 use mathlib.Core.Option.{some}
 use mathlib.Core.Logic.{_↔_, _⊎_}
-use Prim.Native.Nat.{ℕ, _*_, _-_, _^_, _≤_, _<_}
+use Prim.Native.Nat.{ℕ, _+_, _*_, _-_, _^_, _≤_, _<_}
 use lib.Dec.{ltb, eqb}
 use lib.ListN.{length, take}
 use Rattle.store_types.specs.Limits.{word-limit, most-levels}
 use Rattle.store_types.specs.declared.HeldPair.{HeldPair}
 use Rattle.store_types.specs.declared.Answer.the-variants.{Yes, No, Stale}
 use Rattle.store_types.specs.declared.LoadReply.the-variants.{Loaded}
+use Rattle.store_types.specs.declared.InsertReply.the-variants.{Inserted}
 use Rattle.store_types.specs.declared.QuestionReply.the-variants.{Answered}
 use Rattle.store_types.specs.declared.WriteReply.the-variants.{Written}
 use Rattle.store_types.specs.Layout.{at-s, at-r, at-height, at-count, at-first, at-book, header-words, word-at, words-for, label-at}
 use Rattle.store_types.specs.FileLayout.{row-words}
-use Rattle.lists.specs.Lists.{all-hold}
+use Rattle.lists.specs.Lists.{first, all-hold}
 use Rattle.tree.specs.Row.{rises}
 use Rattle.tree.specs.Book.{height, labels-of}
 use Rattle.tree.specs.Reach.{account-bound}
-use Rattle.calls.specs.Kind.{Kind, is-begin}
+use Rattle.tree.specs.Grown.{height-for}
+use Rattle.calls.specs.Kind.{Kind, is-begin, kind-of}
 use Rattle.calls.specs.Store.{Store, fact, unmarked, count, row, place-of, width, height-fits, label}
 use Rattle.calls.specs.Nesting.{nests}
 use Rattle.calls.specs.Sound.{tree-sound, sound}
 use Rattle.calls.specs.Load.{load-refusal, load-store}
-use Rattle.calls.specs.Insert.{labels-end, labels-run-out, row-refusal, insert-store}
+use Rattle.calls.specs.Insert.{labels-end, labels-run-out, place-tests, row-refusal, insert-store, insert-sheet-refusal, insert-sheet-store}
 use Rattle.calls.specs.Mark.{section-refusal, mark-store}
 use Rattle.calls.specs.Held.{question}
 use Rattle.calls.specs.Words.{words-of, Says, follow, read, in-front}
 use Rattle.calls.specs.File.{form, file-of, formed, read-file}
-use Rattle.calls.specs.Replies.{write-reply, write-bytes, read-reply, read-words}
-use Rattle.calls.specs.Calls.{Call, load, after, All-fit, judged, moved-after, Event, loads, Happens, Run, told, calls-of, total-moved}
-use Rattle.calls.specs.Reference.{Reference, total, reference-load, reference-after}
+use Rattle.calls.specs.Replies.{said, refusal-over, insert-reply, insert-words, insert-sheet-refused, insert-sheet-reply, insert-sheet-words, write-reply, write-bytes, read-reply, read-words}
+use Rattle.calls.specs.Calls.{Call, load, sheet, after, All-fit, judged, moved-after, Event, loads, Happens, Run, told, calls-of, total-moved}
+use Rattle.calls.specs.Reference.{Reference, total, reference-load, reference-call, reference-after}
 
--- ONE STEP, on any sound store: an accepted load, an accepted insertion of any row of kinds that nests, an accepted mark
+-- ONE STEP, on any sound store: an accepted load, an accepted insertion of any row of kinds that nests, of a sheet, an accepted mark
 unfoldable pub Load-sound : Type 0
 Load-sound = (lent s r b : ℕ) (cs : List ℕ) → load-refusal lent s r cs ≡ 0 → sound (load-store s r b cs) ≡ true
 
@@ -42,6 +44,10 @@ unfoldable pub Insert-sound : Type 0
 Insert-sound =
     (lent y : ℕ) (ks : List Kind) (st : Store) → sound st ≡ true → nests 0 ks ≡ true → 1 ≤ length ks → row-refusal lent ks y st ≡ 0 →
     sound (insert-store ks y st) ≡ true
+
+unfoldable pub Sheet-sound : Type 0
+Sheet-sound =
+    (lent y : ℕ) (cs : List ℕ) (st : Store) → sound st ≡ true → insert-sheet-refusal lent cs y st ≡ 0 → sound (insert-sheet-store (map kind-of cs) y st) ≡ true
 
 unfoldable pub Mark-sound : Type 0
 Mark-sound = (x : ℕ) (st : Store) → sound st ≡ true → section-refusal x st ≡ 0 → sound (mark-store x st) ≡ true
@@ -56,6 +62,39 @@ Rows-end =
     (st : Store) (k : ℕ) → sound st ≡ true → 1 ≤ k → k ≤ 2 →
     labels-run-out (height-fits st) (st .book .s) (st .book .r) k (count st) (height (st .book))
     ≡ labels-end (height-fits st) (st .book .s) (st .book .r) k (count st) (height (st .book))
+
+-- of a row of any length: the least height, from H on, whose root has room for n + k tags is above H, and labels of a tree of that
+-- height do not fit
+unfoldable pub least-height : (k : ℕ) → Store → ℕ
+least-height k st = height-for k (st .book .s) (st .book .r) (count st + k) (height (st .book))
+
+unfoldable pub Sheets-run-out : Type 0
+Sheets-run-out =
+    (st : Store) (k : ℕ) → sound st ≡ true →
+    labels-run-out (height-fits st) (st .book .s) (st .book .r) k (count st) (height (st .book))
+    ≡ (ltb (height (st .book)) (least-height k st) && not (height-fits st (least-height k st)))
+
+-- SHEETS, over any words (document 02, CR 5). The empty one is refused by its place alone, once a store is said; it changes no word,
+-- and accepted it replies n, 0, 0
+pub record Empty-does (y : ℕ) (ws : List ℕ) : Type 0 where
+  pub refused : insert-sheet-refused [] y ws ≡ refusal-over ws (λ st. first (place-tests y st) 0)
+  pub words : insert-sheet-words [] y ws ≡ ws
+  pub reply : insert-sheet-refused [] y ws ≡ 0 → insert-sheet-reply [] y ws ≡ Inserted (record { 0 = count (said ws) }) 0 0
+
+unfoldable pub Empty-sheet : Type 0
+Empty-sheet = (y : ℕ) (ws : List ℕ) → Empty-does y ws
+
+-- nor does it change the bare list
+unfoldable pub Empty-reference : Type 0
+Empty-reference = (y : ℕ) (a : Reference) → reference-call (sheet [] y) a ≡ a
+
+-- a text and an element are sheets of one tag and of two
+pub record Same-calls (c : ℕ) (cs : List ℕ) (y : ℕ) (ws : List ℕ) : Type 0 where
+  pub reply : insert-reply c y ws ≡ insert-sheet-reply cs y ws
+  pub words : insert-words c y ws ≡ insert-sheet-words cs y ws
+
+unfoldable pub Singles-are-sheets : Type 0
+Singles-are-sheets = (y : ℕ) (ws : List ℕ) → Same-calls 3 (3 ∷ []) y ws × Same-calls 1 (1 ∷ 2 ∷ []) y ws
 
 -- H is at most 17
 unfoldable pub Height-most : Type 0

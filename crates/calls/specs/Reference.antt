@@ -1,5 +1,6 @@
--- The reference list (document 01, "The bare list"): fed the arguments of load, insert and mark, and of each reply only
--- whether the call was accepted; no word of the store. Assumes nothing: these are definitions.
+-- The reference list (document 01, "The bare list"; document 02, CR 5, for sheets): fed the arguments of load, insert, the
+-- insertion of a sheet and mark, and of each reply only whether the call was accepted; no word of the store.
+-- Assumes nothing: these are definitions.
 use mathlib.Core.Bool.{cond}
 use mathlib.Core.List.{List, [], _∷_}
 use Prim.Native.Nat.{ℕ, zero, suc, _+_}
@@ -10,7 +11,7 @@ use Rattle.lists.specs.Lists.{numbers}
 use Rattle.tree.specs.Row.{place, insert-at}
 use Rattle.tree.specs.Book.{load-under}
 use Rattle.calls.specs.Insert.{insert-kinds, raised}
-use Rattle.calls.specs.Calls.{Call, load, insert, mark, Told}
+use Rattle.calls.specs.Calls.{Call, load, insert, sheet, mark, Told}
 
 -- s, r, the list of tag numbers, n0, m and H
 pub record Reference : Type 0 where
@@ -51,10 +52,12 @@ reference-insert k y a =
       height = raised-by (a .s) (a .r) k n (a .height);
     }
 
--- mark: nothing changes
+-- a sheet's tags are placed and counted as an element's two; an empty sheet has none, so that nothing changes (Empty-reference in
+-- Promise). mark: nothing changes
 unfoldable pub reference-call : Call → Reference → Reference
 reference-call (load s r b cs) a = reference-load s r (length cs)
 reference-call (insert c y) a = reference-insert (length (insert-kinds c)) y a
+reference-call (sheet cs y) a = reference-insert (length cs) y a
 reference-call (mark x) a = a
 
 -- every refused call: nothing changes

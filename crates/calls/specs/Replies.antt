@@ -1,7 +1,7 @@
 -- What each call replies, and what the lent words then hold: for every input, words of any length and content
 -- (document 01, "Calls and their replies"). Assumes nothing: these are definitions.
 use mathlib.Core.Bool.{not, cond}
-use mathlib.Core.List.{List, [], _∷_}
+use mathlib.Core.List.{List, [], _∷_, map}
 use mathlib.Core.Option.{Option, none, some}
 use Prim.Native.Nat.{ℕ, zero, suc}
 use lib.Dec.{ltb}
@@ -27,9 +27,10 @@ use Rattle.store_types.specs.Layout.{header-words, words-for}
 use Rattle.store_types.specs.FileLayout.{file-bytes}
 use Rattle.lists.specs.Lists.{first}
 use Rattle.tree.specs.Book.{height, loaded}
+use Rattle.calls.specs.Kind.{kind-of}
 use Rattle.calls.specs.Store.{Store, count}
 use Rattle.calls.specs.Load.{load-refusal, load-store}
-use Rattle.calls.specs.Insert.{insert-kinds, insert-refusal, insert-store, insert-moved, insert-split}
+use Rattle.calls.specs.Insert.{insert-kinds, insert-refusal, insert-store, insert-moved, insert-split, insert-sheet-refusal, insert-sheet-store}
 use Rattle.calls.specs.Mark.{section-refusal, mark-store, mark-count}
 use Rattle.calls.specs.Held.{hold-pair, question}
 use Rattle.calls.specs.Listing.{list-refusal, listed-tags, listed-labels}
@@ -81,6 +82,19 @@ insert-reply c y ws =
 
 unfoldable pub insert-words : (kind place : ℕ) → (words : List ℕ) → List ℕ
 insert-words c y ws = written (insert-refused c y ws) (words-of (insert-store (insert-kinds c) y (said ws))) ws
+
+-- INSERTION OF A SHEET (document 02, CR 5)
+unfoldable pub insert-sheet-refused : (kinds : List ℕ) → (place : ℕ) → (words : List ℕ) → ℕ
+insert-sheet-refused cs y ws = refusal-over ws (insert-sheet-refusal (length ws) cs y)
+
+unfoldable pub insert-sheet-reply : (kinds : List ℕ) → (place : ℕ) → (words : List ℕ) → InsertReply
+insert-sheet-reply cs y ws =
+    let st = said ws in
+    let ks = map kind-of cs in
+    replied insert.Refused (insert-sheet-refused cs y ws) (insert.Inserted (record { 0 = count st }) (insert-moved ks y st) (insert-split ks y st))
+
+unfoldable pub insert-sheet-words : (kinds : List ℕ) → (place : ℕ) → (words : List ℕ) → List ℕ
+insert-sheet-words cs y ws = written (insert-sheet-refused cs y ws) (words-of (insert-sheet-store (map kind-of cs) y (said ws))) ws
 
 -- MARK
 unfoldable pub mark-reply : (section : ℕ) → (words : List ℕ) → MarkReply

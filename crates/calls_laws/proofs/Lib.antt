@@ -15,6 +15,7 @@ pub mod FileRecords
 pub mod FileForm
 pub mod Reader
 pub mod WordSteps
+pub mod Sheets
 pub mod Files
 pub mod Replies
 pub mod FileCalls

@@ -2,13 +2,15 @@
 -- them moved. Assumes nothing.
 use mathlib.Core.Path.{sym, _≡_, refl, _∙_}
 use mathlib.Core.Bool.{true, cond}
-use mathlib.Core.List.{List, [], _∷_}
+use mathlib.Core.List.{List, [], _∷_, map}
 use Prim.Native.Nat.{ℕ, zero, suc, _+_, _-_, _≤_}
 use native.Mathlib.Omega.{arith}
 use borrow.Author.Tests.{eqb-true}
 use lib.Dec.{eqb}
-use lib.ListN.{length}
+use lib.ListN.{length, length-map, take-append-drop}
+use Rattle.lists.specs.Lists.{numbers}
 use Rattle.lists.proofs.Tests.{by-test}
+use Rattle.tree.specs.Row.{insert-at}
 use Rattle.tree.specs.Forest.{size}
 use Rattle.tree.specs.Book.{Book, height, base, loaded, inserted, inserted-row}
 use Rattle.tree.specs.Promise.{Sane, Labels-rise}
@@ -16,20 +18,20 @@ use Rattle.tree_laws.proofs.Insertion.{size-inserted, sane-inserted, inserted-s
 use Rattle.tree_laws.proofs.Load.{tags-loaded}
 use Rattle.tree_laws.proofs.Labels.{labels-rise}
 use Rattle.tree_laws.proofs.Account.{Account, account-fewer, account-loaded, account-row, account-few, account-low}
-use Rattle.calls.specs.Kind.{Kind}
+use Rattle.calls.specs.Kind.{Kind, kind-of}
 use Rattle.calls.specs.Store.{Store, count, row, width}
 use Rattle.calls.specs.Sound.{sound}
 use Rattle.calls.specs.Load.{load-refusal, load-store}
-use Rattle.calls.specs.Insert.{insert-kinds, position, book-after, insert-store, insert-moved, row-refusal}
+use Rattle.calls.specs.Insert.{insert-kinds, position, book-after, insert-store, insert-moved, row-refusal, insert-sheet-store}
 use Rattle.calls.specs.Mark.{mark-store}
-use Rattle.calls.specs.Calls.{Call, load, insert, mark, refusal, changed, accepts, after-one, after, moved-by, moved-after, judged}
+use Rattle.calls.specs.Calls.{Call, load, insert, sheet, mark, refusal, changed, accepts, after-one, after, moved-by, moved-after, judged}
 use Rattle.calls.specs.Reference.{Reference, reference-load, reference-position, raised-by, reference-insert, reference-call, reference-told, reference-after}
-use Rattle.calls.specs.Promise.{Load-sound, Kept, Lists-keep}
+use Rattle.calls.specs.Promise.{Load-sound, Empty-reference, Kept, Lists-keep}
 use Rattle.calls_laws.proofs.Widths.{store-widths, store-powers}
 use Rattle.calls_laws.proofs.Tests.{facts-of}
 use Rattle.calls_laws.proofs.Inserts.{row-degrees, height-raised, accepted-row, position-fits}
-use Rattle.calls_laws.proofs.Moved.{moved-fewer}
-use Rattle.calls_laws.proofs.Steps.{accepted-load, insert-passed, load-sound, changed-sound}
+use Rattle.calls_laws.proofs.Moved.{moved-fewer, moved-nothing}
+use Rattle.calls_laws.proofs.Steps.{accepted-load, insert-passed, accepted-sheet, load-sound, changed-sound}
 
 -- THE HEADER after a row of insertions: H rises as the reference list says
 height-row : (n p x : ℕ) (k : Book) → Sane k → p ≤ size (k .root) →
@@ -102,6 +104,22 @@ module _ (w y : ℕ) (ks : List Kind) {st : Store} {a : Reference} {t : ℕ} (f 
             (account-row n p (count st) k (store-widths st) fits (sym (h .as-many)) (h .each) (f .account));
       }
 
+-- A SHEET: the empty one changes nothing
+pub empty-reference : Empty-reference
+unfolding Empty-reference reference-call reference-insert raised-by insert-at numbers
+empty-reference y a =
+    let n : a .m + 0 ≡ a .m = omega arith in
+    rw (n, take-append-drop)
+
+module _ (w y : ℕ) {st : Store} {a : Reference} {t : ℕ} (f : Follows st a t) where
+  sheet-beside : (ks : List Kind) → row-refusal w ks y st ≡ 0 → sound (insert-sheet-store ks y st) ≡ true →
+      Follows (insert-sheet-store ks y st) (reference-insert (length ks) y a) (t + insert-moved ks y st)
+  unfolding insert-sheet-store Empty-reference reference-call
+  sheet-beside [] e good =
+      let same : t + insert-moved [] y st ≡ t = omega (arith, moved-nothing y st) in
+      rw (empty-reference y a, same) f
+  sheet-beside (k ∷ ks) e good = inserted-beside w y (k ∷ ks) f e good
+
 -- ONE CALL and every list of calls
 -- accepted
 follows-changed : (w : ℕ) (c : Call) {st : Store} {a : Reference} {t : ℕ} → Follows st a t → refusal w c st ≡ 0 → sound (changed c st) ≡ true →
@@ -109,6 +127,8 @@ follows-changed : (w : ℕ) (c : Call) {st : Store} {a : Reference} {t : ℕ} �
 unfolding refusal changed reference-call moved-by mark-store
 follows-changed w (load s r b ks) f e good = started w s r b ks e
 follows-changed w (insert c y) {st} f e good = inserted-beside w y (insert-kinds c) f (insert-passed w c y st (f .is-sound) e) good
+follows-changed w (sheet cs y) {st} f e good =
+    rw (← length-map cs kind-of) (sheet-beside w y f (map kind-of cs) (accepted-sheet w cs y st e .row) good)
 follows-changed w (mark x) f e good =
     record {
       is-sound = good;

@@ -4,13 +4,14 @@ use mathlib.Core.Path.{_≡_, refl, ap}
 use mathlib.Core.Bool.{Bool, true, _&&_, not, and-self}
 use mathlib.Core.List.{List, [], _∷_, _++_}
 use Prim.Native.Nat.{ℕ, _≤_, _<_}
+use borrow.Author.Tests.{eq-eqb}
 use lib.Dec.{eqb}
 use lib.ListN.{length, List·getD-append}
 use Rattle.lists.specs.Lists.{how-many}
 use Rattle.lists.proofs.Tests.{by-test}
 use Rattle.lists.proofs.HowMany.{how-many-most}
 use Rattle.tree.specs.Row.{member}
-use Rattle.tree.specs.Book.{Book, label-of, moved-among, moved}
+use Rattle.tree.specs.Book.{Book, label-of, inserted-row, moved-among, moved}
 use Rattle.tree_laws.proofs.Rows.{member-first, member-later}
 use Rattle.calls.specs.Kind.{Kind}
 use Rattle.calls.specs.Store.{Store, Fact, no-fact, fact-in, unmarked, count, row, width}
@@ -52,3 +53,13 @@ moved-once ks y {st} own =
 pub moved-fewer : (ks : List Kind) (y : ℕ) (st : Store) → insert-moved ks y st ≤ moved (width st) (st .book) (book-after ks y st)
 unfolding insert-moved insert-store moved
 moved-fewer ks y st = how-many-most _ _
+
+-- and none where no tag goes in
+none-moved : (w : ℕ → ℕ) (xs : List ℕ) (k : Book) → moved-among w xs k k ≡ []
+unfolding moved-among
+none-moved w [] k = refl
+none-moved w (x ∷ xs) k = rw (none-moved w xs k, eq-eqb (label-of w k x) (label-of w k x) refl)
+
+pub moved-nothing : (y : ℕ) (st : Store) → insert-moved [] y st ≡ 0
+unfolding insert-moved insert-store book-after inserted-row how-many
+moved-nothing y st = rw (none-moved (width st) (row st) (st .book))

@@ -102,3 +102,14 @@ module _ (fs : List Fact) (few : length fs ≤ no-tag) (base : ℕ) (free : fact
         }),
         pass-new d u os (suc x) ks (front ++ (f ∷ [])) (t .whole) (t .before) n own,
       )
+
+-- none of them is marked
+pub new-unmarked : (u : ℕ) (os : List ℕ) (x : ℕ) (ks : List Kind) (i : ℕ) → fact-in (new-facts u os x ks) i .marked ≡ false
+unfolding new-facts
+new-unmarked u os x [] i = refl
+new-unmarked u os x (begin ∷ ks) zero = refl
+new-unmarked u os x (begin ∷ ks) (suc i) = new-unmarked x (u ∷ os) (suc x) ks i
+new-unmarked u os x (end ∷ ks) zero = refl
+new-unmarked u os x (end ∷ ks) (suc i) = new-unmarked _ _ (suc x) ks i
+new-unmarked u os x (text ∷ ks) zero = refl
+new-unmarked u os x (text ∷ ks) (suc i) = new-unmarked u os (suc x) ks i

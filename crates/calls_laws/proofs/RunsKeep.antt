@@ -19,14 +19,15 @@ use Rattle.tree.specs.Forest.{size}
 use Rattle.tree_laws.proofs.Insertion.{size-inserted-row}
 use Rattle.tree_laws.proofs.Load.{size-loaded}
 use Rattle.words.proofs.Fields.{words-up}
+use Rattle.calls.specs.Kind.{Kind, kind-of}
 use Rattle.calls.specs.Store.{Store, count}
 use Rattle.calls.specs.Sound.{sound}
 use Rattle.calls.specs.Load.{load-refusal, load-store}
-use Rattle.calls.specs.Insert.{insert-kinds, position, book-after, insert-refusal, insert-store}
+use Rattle.calls.specs.Insert.{insert-kinds, position, book-after, insert-store, row-refusal, insert-sheet-store}
 use Rattle.calls.specs.Mark.{section-refusal, mark-store}
 use Rattle.calls.specs.Words.{words-of, Says, in-front}
-use Rattle.calls.specs.Replies.{refusal-over, written, replied, load-reply, load-words, insert-refused, insert-reply, insert-words, mark-reply, mark-words}
-use Rattle.calls.specs.Calls.{Call, load, insert, mark, refusal, changed, accepts, after-one, after, Event, loads, inserts, marks, holds, asks, lists, writes, Happens, Run, Told, load-accepted, insert-accepted, mark-accepted, told, calls-of, total-after-load, total-after-insert, total-moved, moved-by, moved-after, judged}
+use Rattle.calls.specs.Replies.{refusal-over, said, written, replied, load-reply, load-words, insert-refused, insert-reply, insert-words, insert-sheet-refused, insert-sheet-reply, insert-sheet-words, mark-reply, mark-words}
+use Rattle.calls.specs.Calls.{Call, load, insert, sheet, mark, refusal, changed, accepts, after-one, after, Event, loads, inserts, sheets, marks, holds, asks, lists, writes, Happens, Run, Told, load-accepted, insert-accepted, mark-accepted, told, calls-of, total-after-load, total-after-insert, total-moved, moved-by, moved-after, judged}
 use Rattle.calls.specs.Reference.{Reference}
 use Rattle.calls.specs.Promise.{Load-sound, Kept, Lists-keep, Words-kept, Runs-keep}
 use Rattle.calls_laws.proofs.Tests.{sane, facts-of}
@@ -34,7 +35,7 @@ use Rattle.calls_laws.proofs.Fields.{length-words}
 use Rattle.calls_laws.proofs.WordSteps.{said-store, words-fit, refusal-said, header-said, row-said, labels-said, says-in-front, length-in-front, written-says, length-written}
 use Rattle.lists.proofs.Tests.{either-way}
 use Rattle.calls_laws.proofs.Inserts.{accepted-row, position-fits}
-use Rattle.calls_laws.proofs.Steps.{accepted-load, insert-passed, load-sound, changed-sound}
+use Rattle.calls_laws.proofs.Steps.{accepted-load, insert-passed, accepted-sheet, load-sound, changed-sound}
 use Rattle.calls_laws.proofs.Replies.{replied-accepted, read-replied, replied-told}
 use Rattle.calls_laws.proofs.ListsKeep.{lists-keep}
 
@@ -50,16 +51,25 @@ load-fits w s r b cs e good =
     let passed = accepted-load w s r cs e in
     rw (length-sound (load-store s r b cs) good, size-loaded s r (length cs) (passed .degrees .r-least)) (passed .room)
 
-pub changed-fits : (w : ℕ) (c : Call) (st : Store) → sound st ≡ true → words-for header-words (count st) ≤ w → refusal w c st ≡ 0 → sound (changed c st) ≡ true →
-    length (words-of (changed c st)) ≤ w
-unfolding refusal changed insert-store book-after mark-store
-changed-fits w (load s r b cs) st h room e good = load-fits w s r b cs e good
-changed-fits w (insert c y) st h room e good =
-    let ks = insert-kinds c in
+pub row-fits : (w : ℕ) (ks : List Kind) (y : ℕ) (st : Store) → sound st ≡ true → row-refusal w ks y st ≡ 0 → sound (insert-store ks y st) ≡ true →
+    length (words-of (insert-store ks y st)) ≤ w
+unfolding insert-store book-after
+row-fits w ks y st h e good =
     let f = facts-of st h in
-    let accepted = accepted-row w ks y st (insert-passed w c y st h e) in
+    let accepted = accepted-row w ks y st e in
     let grown = size-inserted-row (length ks) (position y st) (count st) (st .book) (sane f) (position-fits w ks y st f accepted) in
     omega (arith, length-sound (insert-store ks y st) good, words-up (size (book-after ks y st .root)) (count st + length ks) (omega (arith, grown, f .as-many)), accepted .room)
+
+pub changed-fits : (w : ℕ) (c : Call) (st : Store) → sound st ≡ true → words-for header-words (count st) ≤ w → refusal w c st ≡ 0 → sound (changed c st) ≡ true →
+    length (words-of (changed c st)) ≤ w
+unfolding refusal changed insert-sheet-store mark-store
+changed-fits w (load s r b cs) st h room e good = load-fits w s r b cs e good
+changed-fits w (insert c y) st h room e good = row-fits w (insert-kinds c) y st h (insert-passed w c y st h e) good
+changed-fits w (sheet cs y) st h room e good = go (map kind-of cs) (accepted-sheet w cs y st e .row) good
+  where
+    go : (ks : List Kind) → row-refusal w ks y st ≡ 0 → sound (insert-sheet-store ks y st) ≡ true → length (words-of (insert-sheet-store ks y st)) ≤ w
+    go [] passed sound-after = omega (arith, length-words st, room)
+    go (k ∷ ks) passed sound-after = row-fits w (k ∷ ks) y st h passed sound-after
 changed-fits w (mark x) st h room e good =
     omega (arith, length-sound (mark-store x st) good, words-up (size (st .book .root)) (count st) (omega (arith, facts-of st h .as-many)), room)
 
@@ -107,17 +117,30 @@ load-replied s r b cs ws us q st t h =
     }
 
 module _ (ws us : List ℕ) (st : Store) (h : Says ws st) where
+  -- an insertion, of a sheet too, which replies m moved
+  insertion-replied : (c : Call) (q : InsertReply) (t : ℕ) (x : TagId) (m j : ℕ) →
+      q ≡ replied inserting.Refused (refusal-over ws (refusal (length ws) c)) (inserting.Inserted x m j) → t + m ≡ moved-by c st t →
+      us ≡ written (refusal-over ws (refusal (length ws) c)) (words-of (changed c (said ws))) ws →
+      Replied (length ws) c st (insert-accepted q) t (total-after-insert q t) ws us
+  unfolding accepts
+  insertion-replied c q t x m j reply moved new =
+      let k = refusal-over ws (refusal (length ws) c) in
+      let same = refusal-said ws st h (refusal (length ws) c) in
+      record {
+        right = ap insert-accepted reply ∙ (insert-told k x m j ∙ ap (λ k. eqb k 0) same);
+        total = ap (λ p. total-after-insert p t) reply ∙ (insert-total k x m j t ∙ rw (same, moved));
+        words = new ∙ rw (same, said-store ws st h);
+      }
+
   pub insert-replied : (c y : ℕ) (q : InsertReply) (t : ℕ) → Happens (inserts c y q) ws us →
       Replied (length ws) (insert c y) st (insert-accepted q) t (total-after-insert q t) ws us
-  unfolding Happens accepts refusal changed moved-by insert-reply insert-words insert-refused
-  insert-replied c y q t (reply, new) =
-      let same = refusal-said ws st h (insert-refusal (length ws) c y) in
-      let store = said-store ws st h in
-      record {
-        right = ap insert-accepted reply ∙ (insert-told (insert-refused c y ws) _ _ _ ∙ ap (λ k. eqb k 0) same);
-        total = ap (λ p. total-after-insert p t) reply ∙ (insert-total (insert-refused c y ws) _ _ _ t ∙ rw (same, store));
-        words = new ∙ rw (same, store);
-      }
+  unfolding Happens refusal changed moved-by insert-reply insert-words insert-refused
+  insert-replied c y q t (reply, new) = insertion-replied (insert c y) q t _ _ _ reply (rw (said-store ws st h)) new
+
+  pub sheet-replied : (cs : List ℕ) (y : ℕ) (q : InsertReply) (t : ℕ) → Happens (sheets cs y q) ws us →
+      Replied (length ws) (sheet cs y) st (insert-accepted q) t (total-after-insert q t) ws us
+  unfolding Happens refusal changed moved-by insert-sheet-reply insert-sheet-words insert-sheet-refused
+  sheet-replied cs y q t (reply, new) = insertion-replied (sheet cs y) q t _ _ _ reply (rw (said-store ws st h)) new
 
   pub mark-replied : (x : ℕ) (q : MarkReply) (t : ℕ) → Happens (marks x q) ws us → Replied (length ws) (mark x) st (mark-accepted q) t t ws us
   unfolding Happens accepts refusal changed moved-by mark-reply mark-words
@@ -171,6 +194,8 @@ ran w (loads s r b cs q ∷ es) ws end st t l h (us, here, rest) =
     ran-on l h (load-replied s r b cs ws us q st t here) (λ m g. ran w es us end _ _ m g rest)
 ran w (inserts c y q ∷ es) ws end st t l h (us, here, rest) =
     ran-on l h (insert-replied ws us st h c y q t here) (λ m g. ran w es us end _ _ m g rest)
+ran w (sheets cs y q ∷ es) ws end st t l h (us, here, rest) =
+    ran-on l h (sheet-replied ws us st h cs y q t here) (λ m g. ran w es us end _ _ m g rest)
 ran w (marks x q ∷ es) ws end st t l h (us, here, rest) =
     ran-on l h (mark-replied ws us st h x q t here) (λ m g. ran w es us end _ _ m g rest)
 ran w (holds x q ∷ es) ws end st t l h (us, here, rest) = ran w es ws end st t l h (rw (here .1) at rest)

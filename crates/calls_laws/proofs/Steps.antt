@@ -14,15 +14,15 @@ use Rattle.store_types.specs.Layout.{header-words, words-for}
 use Rattle.tree.specs.Book.{loaded, load-under}
 use Rattle.tree_laws.proofs.Rows.{all-below-numbers}
 use Rattle.tree_laws.proofs.Load.{tags-loaded, size-loaded, sane-loaded}
-use Rattle.calls.specs.Kind.{begin, end, text, kind-of}
+use Rattle.calls.specs.Kind.{Kind, begin, end, text, kind-of}
 use Rattle.calls.specs.Store.{Store, Fact, power-fits, fact-in}
 use Rattle.calls.specs.Nesting.{nests, new-facts}
 use Rattle.calls.specs.Sound.{degrees-fit, tree-sound, row-sound, sound}
 use Rattle.calls.specs.Load.{all-kinds, kinds-tests, early-tests, load-refusal, load-store}
-use Rattle.calls.specs.Insert.{insert-kinds, insert-store, insert-refusal, row-refusal}
+use Rattle.calls.specs.Insert.{insert-kinds, insert-store, insert-refusal, row-refusal, insert-sheet-refusal, insert-sheet-store}
 use Rattle.calls.specs.Mark.{mark-store}
-use Rattle.calls.specs.Calls.{Call, load, insert, mark, refusal, changed, accepts, after-one, after, Fits, All-fit}
-use Rattle.calls.specs.Promise.{Load-sound, Insert-sound, Mark-sound, Rows-end, Stays-good, Stores-sound, Numbers-fit}
+use Rattle.calls.specs.Calls.{Call, load, insert, sheet, mark, refusal, changed, accepts, after-one, after, Fits, All-fit}
+use Rattle.calls.specs.Promise.{Load-sound, Insert-sound, Sheet-sound, Mark-sound, Rows-end, Stays-good, Stores-sound, Numbers-fit}
 use Rattle.calls_laws.proofs.Tests.{passes, Degrees, degrees-of, sound-of}
 use Rattle.calls_laws.proofs.Nesting.{nested-of, no-tag-fact}
 use Rattle.calls_laws.proofs.NewFacts.{length-new-facts, pass-new}
@@ -97,13 +97,36 @@ insert-passed w c y st e z =
     let k = kinds-nest c in
     rw (rows-end st (length (insert-kinds c)) e (k .1) (k .2)) (passes (not (eqb c 1 || eqb c 3)) 3 _ z .1)
 
+-- A SHEET: what an accepted one is asked of
+pub record Sheet-accepted (w : ℕ) (cs : List ℕ) (y : ℕ) (st : Store) : Type 0 where
+  pub kinds : all-kinds cs ≡ true
+  pub nesting : nests 0 (map kind-of cs) ≡ true
+  pub row : row-refusal w (map kind-of cs) y st ≡ 0
+
+pub accepted-sheet : (w : ℕ) (cs : List ℕ) (y : ℕ) (st : Store) → insert-sheet-refusal w cs y st ≡ 0 → Sheet-accepted w cs y st
+unfolding insert-sheet-refusal kinds-tests first
+accepted-sheet w cs y st e =
+    let a = passes (not (all-kinds cs)) 3 _ e in
+    let b = passes (not (nests 0 (map kind-of cs))) 4 _ (a .1) in
+    record { kinds = not-false _ (a .0); nesting = not-false _ (b .0); row = b .1 }
+
+-- it leaves a sound store, the empty one the same
+pub sheet-sound : Sheet-sound
+unfolding Sheet-sound Insert-sound insert-sheet-store
+sheet-sound w y cs st e r = let a = accepted-sheet w cs y st r in go (map kind-of cs) (a .nesting) (a .row)
+  where
+    go : (ks : List Kind) → nests 0 ks ≡ true → row-refusal w ks y st ≡ 0 → sound (insert-sheet-store ks y st) ≡ true
+    go [] n passed = e
+    go (k ∷ ks) n passed = insert-sound w y (k ∷ ks) st e n (omega arith) passed
+
 -- one call: an accepted one leaves a sound store, a refused one the same
 pub changed-sound : (w : ℕ) (c : Call) (st : Store) → sound st ≡ true → refusal w c st ≡ 0 → sound (changed c st) ≡ true
-unfolding refusal changed Load-sound Insert-sound Mark-sound
+unfolding refusal changed Load-sound Insert-sound Sheet-sound Mark-sound
 changed-sound w (load s r b cs) st e n = load-sound w s r b cs n
 changed-sound w (insert c y) st e n =
     let k = kinds-nest c in
     insert-sound w y (insert-kinds c) st e (k .0) (k .1) (insert-passed w c y st e n)
+changed-sound w (sheet cs y) st e n = sheet-sound w y cs st e n
 changed-sound w (mark x) st e n = mark-sound x st e n
 
 pub one-sound : (w : ℕ) (c : Call) (st : Store) → sound st ≡ true → sound (after-one w c st) ≡ true
@@ -129,10 +152,16 @@ stays-good w s r b ks cs e =
     and-left (tree-sound st) (row-sound st) (and-left (tree-sound st && row-sound st) _ (stores-sound w s r b ks cs e))
 
 -- THE STORE'S NUMBER is that of a load, so a word where each of them is
+sheet-number : (ks : List Kind) (y : ℕ) (st : Store) → insert-sheet-store ks y st .number ≡ st .number
+unfolding insert-sheet-store insert-store
+sheet-number [] y st = refl
+sheet-number (k ∷ ks) y st = refl
+
 number-changed : (w : ℕ) (c : Call) (st : Store) → Fits c → st .number < word-limit → changed c st .number < word-limit
 unfolding changed Fits load-store insert-store mark-store
 number-changed w (load s r b cs) st fits l = fits
 number-changed w (insert c y) st fits l = l
+number-changed w (sheet cs y) st fits l = rw (sheet-number (map kind-of cs) y st) l
 number-changed w (mark x) st fits l = l
 
 number-after : (w : ℕ) (cs : List Call) (st : Store) → All-fit cs → st .number < word-limit → after w cs st .number < word-limit

@@ -106,3 +106,12 @@ narrower st h d fits = narrow-power (width st) (st .book .s) (st .book .r) h d (
 
 pub header-narrower : (ws : List ℕ) (h : ℕ) → Degrees (word-at ws at-s) (word-at ws at-r) → labels-fit (header-width ws) h ≡ true → header-width ws h < label-limit
 header-narrower ws h d fits = narrow-power (header-width ws) (word-at ws at-s) (word-at ws at-r) h d (header-powers ws h) fits
+
+-- LOWER TREES fit where a higher one does
+pub fits-below : (st : Store) (i j : ℕ) → Degrees (st .book .s) (st .book .r) → i ≤ j → height-fits st j ≡ true → height-fits st i ≡ true
+unfolding base
+fits-below st i j d l fits =
+    let b = base (st .book .s) (st .book .r) in
+    let least : 1 ≤ b = omega (arith, mul-le-mul (d .s-least) (d .r-least)) in
+    let powers : b ^ i ≤ b ^ j = pow-le-pow-right least l in
+    limit-fits (width st) i (omega (arith, powers, store-powers st i, store-powers st j, fits-limit (width st) j fits))

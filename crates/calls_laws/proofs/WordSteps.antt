@@ -10,7 +10,7 @@ use native.Mathlib.Omega.{arith}
 use borrow.Author.Tests.{le-ltb}
 use lib.Dec.{ltb, eqb, eqb·suc-zero}
 use lib.ListN.{length, drop, length-append, length-drop}
-use lib.Seq.{sets, sets-eq}
+use lib.Seq.{sets, sets-eq, drop-append-seam}
 use Rattle.store_types.specs.Layout.{at-first, header-words, word-at, words-for, label-at}
 use Rattle.tree.specs.Book.{labels-of}
 use Rattle.words.proofs.Fields.{header-fits}
@@ -70,6 +70,20 @@ refusal-passed ws f r = go (read ws) refl (passes (ltb (length ws) header-words)
     go : (o : Option Store) → read ws ≡ o → on-store o f ≡ 0 → Says ws (store-or o) × (f (store-or o) ≡ 0)
     go none q e = absurd (omega arith)
     go (some st) q e = (reader-right ws st .0 q, e)
+
+-- two refusals that agree on what words say are the same over them
+pub refusal-same : (ws : List ℕ) (f g : Store → ℕ) → ((st : Store) → Says ws st → f st ≡ g st) → refusal-over ws f ≡ refusal-over ws g
+unfolding refusal-over on-store Reader-right
+refusal-same ws f g agree = ap (cond (ltb (length ws) header-words) 1) (go (read ws) refl)
+  where
+    go : (o : Option Store) → read ws ≡ o → on-store o f ≡ on-store o g
+    go none q = refl
+    go (some st) q = agree st (reader-right ws st .0 q)
+
+-- A STORE'S OWN WORDS in front of those that say it change none
+pub front-same : (ws : List ℕ) (st : Store) → Says ws st → in-front (words-of st) ws ≡ ws
+unfolding Says in-front
+front-same ws st h = rw (h .1 .1, drop-append-seam)
 
 -- NEW WORDS in front say their store, and where they fit there are as many words as before
 pub says-in-front : (ws : List ℕ) (su : Store) → sound su ≡ true → Says (in-front (words-of su) ws) su

@@ -1,8 +1,8 @@
 -- Moved and marked are differences of words: how many tags with unmarked kind words have another label word, how many kind
 -- words became marked ones. Assumes nothing.
 use mathlib.Core.Path.{_≡_, refl, sym, _∙_}
-use mathlib.Core.Bool.{Bool, true, false, _&&_, _||_, not, cond}
-use mathlib.Core.List.{List, [], _∷_}
+use mathlib.Core.Bool.{Bool, true, false, _&&_, _||_, not, cond, and-self}
+use mathlib.Core.List.{List, [], _∷_, map}
 use Prim.Native.Nat.{ℕ, zero, suc, _+_, _<_}
 use native.Mathlib.Nat.{zero-add}
 use native.Mathlib.Omega.{arith}
@@ -14,18 +14,21 @@ use Rattle.store_types.specs.declared.TagId.{TagId}
 use Rattle.lists.proofs.Tests.{by-test}
 use Rattle.lists.specs.Lists.{numbers, how-many}
 use Rattle.lists.proofs.Numbers.{length-numbers}
-use Rattle.tree.specs.Book.{Book, label-of, moved-among}
+use Rattle.tree.specs.Book.{Book, label-of, inserted-row, moved-among}
 use Rattle.tree_laws.proofs.Rows.{member-numbers}
+use Rattle.calls.specs.Kind.{Kind, kind-of}
 use Rattle.calls.specs.Store.{Store, Fact, no-fact, fact, unmarked, count, row, width, label}
 use Rattle.calls.specs.Nesting.{new-facts}
-use Rattle.calls.specs.Insert.{insert-kinds, position, up-at, book-after, insert-store, insert-moved, insert-refusal}
+use Rattle.calls.specs.Insert.{insert-kinds, position, up-at, book-after, insert-store, insert-moved, insert-sheet-store}
 use Rattle.calls.specs.Mark.{within, mark-store, new-marks, mark-count, section-refusal}
-use Rattle.calls.specs.Words.{Says}
-use Rattle.calls.specs.Replies.{said, refusal-over, replied, written, insert-refused, insert-reply, insert-words, mark-reply, mark-words}
-use Rattle.calls.specs.Calls.{insert, mark, refusal, changed}
+use Rattle.calls.specs.Words.{words-of, Says}
+use Rattle.calls.specs.Replies.{said, refusal-over, replied, written, insert-refused, insert-reply, insert-words, insert-sheet-refused, insert-sheet-reply, insert-sheet-words, mark-reply, mark-words}
+use Rattle.calls.specs.Calls.{Call, insert, sheet, mark, refusal, changed}
+use Rattle.calls.specs.Promise.{Marks-stay}
 use Rattle.calls_laws.proofs.Reader.{kind-back}
 use Rattle.calls_laws.proofs.Sections.{distinct-row, row-below}
 use Rattle.calls_laws.proofs.Inserts.{row-degrees}
+use Rattle.calls_laws.proofs.Moved.{marks-stay, moved-once}
 use Rattle.calls_laws.proofs.Marks.{length-marked, mark-of}
 use Rattle.calls_laws.proofs.Steps.{changed-sound}
 use Rattle.calls_laws.proofs.WordSteps.{refusal-passed, header-said, says-in-front}
@@ -33,7 +36,7 @@ use Rattle.calls_laws.proofs.Replies.{replied-accepted}
 use Rattle.walk_model.proofs.Passes.{total}
 use Rattle.walk_model.proofs.Counts.{total-same}
 use Rattle.demands.specs.Words.{is-marked, count-below, unmarked-changed, became-marked}
-use Rattle.demands.specs.Promise.{Moved-right, Marked-right}
+use Rattle.demands.specs.Promise.{Moved-right, Sheet-moved-right, Marked-right}
 use Rattle.demands.proofs.Said.{sound-said, tag-said}
 
 -- COUNTING: numbers added up along a row of numbers are a count
@@ -67,60 +70,81 @@ inserted-said : (k : ℕ) (x y : TagId) (m h m′ h′ : ℕ) → replied insert
 inserted-said k x y m h m′ h′ e =
     let (z, same) = replied-accepted inserting.Refused k (inserting.Inserted x m h) (inserting.Inserted y m′ h′) (λ i f. let n : _≡_ {A = ℕ} 0 1 = cc in omega arith) e in (z, cc)
 
-module _ (c y : ℕ) (ws : List ℕ) (z : insert-refused c y ws ≡ 0) where
-  abbrev st : Store
-  st = said ws
+-- A ROW OF KINDS at a place: the store afterwards has the tags of the one before, marked or not as they were, and the book with
+-- the new tags. The empty row leaves the store
+still : (ks : List Kind) (y x : ℕ) (st : Store) → x < count st → x < count (insert-sheet-store ks y st)
+unfolding insert-sheet-store insert-store
+still [] y x st l = l
+still (k ∷ ks) y x st l = omega (arith, length-append (st .facts) (new-facts (up-at y st) [] (count st) (k ∷ ks)))
 
-  abbrev su : Store
-  su = insert-store (insert-kinds c) y st
+mark-same : (ks : List Kind) (y x : ℕ) (st : Store) → x < count st → unmarked (insert-sheet-store ks y st) x ≡ unmarked st x
+unfolding insert-sheet-store Marks-stay
+mark-same [] y x st l = refl
+mark-same (k ∷ ks) y x st l = marks-stay (k ∷ ks) y x st l
 
-  says : Says ws st
-  unfolding insert-refused
-  says = refusal-passed ws (insert-refusal (length ws) c y) z .0
+same-book : (ks : List Kind) (y : ℕ) (st : Store) → insert-sheet-store ks y st .book ≡ book-after ks y st
+unfolding insert-sheet-store insert-store book-after inserted-row
+same-book [] y st = refl
+same-book (k ∷ ks) y st = refl
 
-  says-after : Says (insert-words c y ws) su
-  unfolding insert-words written replied refusal changed Says insert-refused
-  says-after =
-      let fine = refusal-passed ws (insert-refusal (length ws) c y) z .1 in
-      rw z (says-in-front ws su (changed-sound (length ws) (insert c y) st (says .0) fine))
+-- s and r stay, so the widths do
+label-after : (ks : List Kind) (y x : ℕ) (st : Store) → label (insert-sheet-store ks y st) x ≡ label-of (width st) (book-after ks y st) x
+unfolding book-after
+label-after ks y x st =
+    let d = row-degrees (length ks) (position y st) (count st) (st .book) in rw (same-book ks y st, d .0, d .1)
 
-  still : (x : ℕ) → x < count st → x < count su
-  unfolding insert-store
-  still x l = omega (arith, length-append (st .facts) (new-facts (up-at y st) [] (count st) (insert-kinds c)))
+moved-words : (ks : List Kind) (y : ℕ) (ws vs : List ℕ) (st : Store) → Says ws st → Says vs (insert-sheet-store ks y st) →
+    insert-moved ks y st ≡ unmarked-changed ws vs
+unfolding unmarked-changed
+moved-words ks y ws vs st says says-after =
+    let after = book-after ks y st in
+    let su = insert-sheet-store ks y st in
+    let g : ℕ → ℕ = λ x. cond (not (eqb (label-of (width st) (st .book) x) (label-of (width st) after x)) && unmarked st x) 1 0 in
+    let own = sound-said ws st says in
+    moved-once ks y own ∙ (moved-total (unmarked st) (width st) (st .book) after (row st)
+    ∙ (total-same g (row st) (numbers 0 (count st)) (distinct-row own)
+    (λ v m. member-numbers v 0 (count st) (omega arith) (omega (arith, row-below own v m))) (omega (arith, length-numbers 0 (count st), own .as-many))
+    ∙ rw (header-said ws st says .issued)
+    (count-total g _ (count st)
+    (λ x l. rw (
+      tag-said ws st says x l .label-word,
+      tag-said vs su says-after x (still ks y x st l) .label-word,
+      label-after ks y x st,
+      mark-said ws st says x l,
+      mark-said vs su says-after x (still ks y x st l),
+      mark-same ks y x st l,
+      and-self (unmarked st x),
+    )))))
 
-  same-book : su .book ≡ book-after (insert-kinds c) y st
-  unfolding insert-store
-  same-book = refl
+-- the words after an accepted call say the store after it
+module _ (c : Call) (ws : List ℕ) (z : refusal-over ws (refusal (length ws) c) ≡ 0) where
+  says-before : Says ws (said ws)
+  says-before = refusal-passed ws (refusal (length ws) c) z .0
 
-  -- s and r stay, so the widths do
-  label-after : (x : ℕ) → label su x ≡ label-of (width st) (book-after (insert-kinds c) y st) x
-  unfolding insert-store book-after
-  label-after x = let d = row-degrees (length (insert-kinds c)) (position y st) (count st) (st .book) in rw (d .0, d .1)
+  says-then : Says (written (refusal-over ws (refusal (length ws) c)) (words-of (changed c (said ws))) ws) (changed c (said ws))
+  unfolding written replied Says
+  says-then =
+      rw z (says-in-front ws (changed c (said ws)) (changed-sound (length ws) c (said ws) (says-before .0) (refusal-passed ws (refusal (length ws) c) z .1)))
 
-  moved-words : insert-moved (insert-kinds c) y st ≡ unmarked-changed ws (insert-words c y ws)
-  unfolding insert-moved unmarked-changed
-  moved-words =
-      let after = book-after (insert-kinds c) y st in
-      let f : ℕ → Bool = λ x. unmarked st x && unmarked su x in
-      let g : ℕ → ℕ = λ x. cond (not (eqb (label-of (width st) (st .book) x) (label-of (width st) after x)) && f x) 1 0 in
-      let own = sound-said ws st says in
-      rw same-book (moved-total f (width st) (st .book) after (row st))
-      ∙ (total-same g (row st) (numbers 0 (count st)) (distinct-row own)
-      (λ v m. member-numbers v 0 (count st) (omega arith) (omega (arith, row-below own v m))) (omega (arith, length-numbers 0 (count st), own .as-many))
-      ∙ rw (header-said ws st says .issued)
-      (count-total g _ (count st)
-      (λ x l. rw (
-        tag-said ws st says x l .label-word,
-        tag-said (insert-words c y ws) su says-after x (still x l) .label-word,
-        label-after x,
-        mark-said ws st says x l,
-        mark-said (insert-words c y ws) su says-after x (still x l),
-      ))))
+-- an insertion's row is never empty
+insert-is-sheet : (c y : ℕ) (st : Store) → insert-store (insert-kinds c) y st ≡ insert-sheet-store (insert-kinds c) y st
+unfolding insert-kinds insert-sheet-store
+insert-is-sheet c y st = by-test (eqb c 1) (λ e. rw e) (λ e. rw e)
+
+says-same : (vs : List ℕ) {st su : Store} → st ≡ su → Says vs st → Says vs su
+says-same vs e h = rw e at h
 
 pub moved-right : Moved-right
-unfolding Moved-right insert-reply
+unfolding Moved-right insert-reply insert-words insert-refused refusal changed
 moved-right c y x m h ws e =
-    let (z, same) = inserted-said (insert-refused c y ws) _ (record { 0 = x }) _ _ m h e in sym same ∙ moved-words c y ws z
+    let (z, same) = inserted-said (insert-refused c y ws) _ (record { 0 = x }) _ _ m h e in
+    sym same ∙ moved-words (insert-kinds c) y ws (insert-words c y ws) (said ws) (says-before (insert c y) ws z) (says-same (insert-words c y ws) (insert-is-sheet c y (said ws)) (says-then (insert c y) ws z))
+
+pub sheet-moved-right : Sheet-moved-right
+unfolding Sheet-moved-right insert-sheet-reply insert-sheet-words insert-sheet-refused refusal changed
+sheet-moved-right cs y x m h ws e =
+    let (z, same) = inserted-said (insert-sheet-refused cs y ws) _ (record { 0 = x }) _ _ m h e in
+    sym same ∙ moved-words (map kind-of cs) y ws (insert-sheet-words cs y ws) (said ws) (says-before (sheet cs y) ws z) (says-then (sheet cs y) ws z)
 
 -- MARKED
 marked-said : (k n n′ : ℕ) → replied marking.Refused k (marking.Marked n) ≡ marking.Marked n′ → (k ≡ 0) × (n ≡ n′)
@@ -148,13 +172,12 @@ module _ (x : ℕ) (ws : List ℕ) (z : refusal-over ws (section-refusal x) ≡ 
   after = mark-store x before
 
   said-before : Says ws before
-  said-before = refusal-passed ws (section-refusal x) z .0
+  unfolding refusal
+  said-before = says-before (mark x) ws z
 
   said-after : Says (mark-words x ws) after
-  unfolding mark-words written replied refusal changed Says
-  said-after =
-      let fine = refusal-passed ws (section-refusal x) z .1 in
-      rw z (says-in-front ws after (changed-sound (length ws) (mark x) before (said-before .0) fine))
+  unfolding mark-words refusal changed
+  said-after = says-then (mark x) ws z
 
   marked-tag : (i : ℕ) → i < count before → (is-marked ws i ≡ fact before i .marked) × (is-marked (mark-words x ws) i ≡ (fact before i .marked || within before x i))
   unfolding mark-store

@@ -17,14 +17,13 @@ use Rattle.calls.specs.Kind.{is-begin}
 use Rattle.calls.specs.Store.{Store, fact, count, label}
 use Rattle.calls.specs.Sound.{sound}
 use Rattle.calls.specs.Load.{load-refusal, load-store}
-use Rattle.calls.specs.Insert.{insert-kinds, insert-refusal, insert-store}
-use Rattle.calls.specs.Mark.{section-refusal, mark-store}
+use Rattle.calls.specs.Mark.{section-refusal}
 use Rattle.calls.specs.Listing.{listed-tags, listed-labels, inside-tests, list-refusal}
 use Rattle.calls.specs.Words.{words-of, Says, in-front}
 use Rattle.tree.specs.Book.{height}
 use Rattle.calls.specs.File.{file-of, read-file}
-use Rattle.calls.specs.Replies.{said, refusal-over, replied, written, load-reply, load-words, insert-refused, insert-reply, insert-words, mark-reply, mark-words, list-refused, list-reply, list-tags, list-labels, write-refused, write-reply, write-bytes, store-or, file-refusal, read-reply, read-words}
-use Rattle.calls.specs.Calls.{Call, insert, mark, refusal, changed, loads, inserts, marks, holds, asks, lists, writes, Happens, load-accepted, insert-accepted, mark-accepted}
+use Rattle.calls.specs.Replies.{said, refusal-over, replied, written, load-reply, load-words, insert-refused, insert-reply, insert-words, insert-sheet-refused, insert-sheet-reply, insert-sheet-words, mark-reply, mark-words, list-refused, list-reply, list-tags, list-labels, write-refused, write-reply, write-bytes, store-or, file-refusal, read-reply, read-words}
+use Rattle.calls.specs.Calls.{Call, Event, insert, sheet, mark, refusal, changed, loads, inserts, sheets, marks, holds, asks, lists, writes, Happens, load-accepted, insert-accepted, mark-accepted}
 use Rattle.calls.specs.Promise.{Load-sound}
 use Rattle.calls_laws.proofs.Tests.{passes}
 use Rattle.calls_laws.proofs.Steps.{load-sound, changed-sound}
@@ -35,7 +34,7 @@ use Rattle.calls_laws.proofs.Fields.{length-words}
 use Rattle.calls_laws.proofs.FileCalls.{file-fits, Was-read, read-accepted}
 use Rattle.calls_laws.proofs.RunsKeep.{load-fits, changed-fits, load-told, insert-told, mark-told}
 use Rattle.demands.specs.Words.{Fronted}
-use Rattle.demands.specs.Promise.{listed, filed, accepted, changes, Lists-stay, Lists-hold, Every-call, Every-reading}
+use Rattle.demands.specs.Promise.{listed, filed, accepted, changes, Lists-stay, Lists-hold, Call-right, Every-call, Every-reading}
 
 -- A RESULT IN FRONT, where it fits
 fronted : (new old : List ℕ) → length new ≤ length old → Fronted new old (in-front new old)
@@ -73,7 +72,7 @@ load-right : (s r b : ℕ) (cs ws : List ℕ) → load-refusal (length ws) s r c
 unfolding Load-sound
 load-right s r b cs ws z = let good = load-sound (length ws) s r b cs z in (good, load-fits (length ws) s r b cs z good)
 
--- insert and mark: on the store that the words say
+-- insert, of a sheet too, and mark: on the store that the words say
 change-right : (c : Call) (ws : List ℕ) → refusal-over ws (refusal (length ws) c) ≡ 0 →
     (sound (changed c (said ws)) ≡ true) × (length (words-of (changed c (said ws))) ≤ length ws)
 unfolding Says
@@ -81,6 +80,20 @@ change-right c ws z =
     let (says, fine) = refusal-passed ws (refusal (length ws) c) z in
     let good = changed-sound (length ws) c (said ws) (says .0) fine in
     (good, changed-fits (length ws) c (said ws) (says .0) (words-fit ws (said ws) says) fine good)
+
+-- so an event that is one of them, and lends no list, is right
+change-call : (e : Event) (c : Call) (ws vs : List ℕ) → accepted e ≡ eqb (refusal-over ws (refusal (length ws) c)) 0 →
+    vs ≡ written (refusal-over ws (refusal (length ws) c)) (words-of (changed c (said ws))) ws → changes e ≡ true → Lists-stay e → Lists-hold e ws → Call-right e ws vs
+change-call e c ws vs told new alters stay hold =
+    let k = refusal-over ws (refusal (length ws) c) in
+    let st = changed c (said ws) in
+    record {
+      refused = λ f. (new ∙ written-stays k (accepted e) told (words-of st) ws f, stay);
+      changed = λ f _. let z = zero-told k (accepted e) told (words-of st) ws f in
+          (st, change-right c ws z .0, rw new (written-fronted k (accepted e) told (words-of st) ws (λ z. change-right c ws z .1) f));
+      reads = λ f. absurd (true≢false (sym alters ∙ f));
+      writes-lists = λ _. hold;
+    }
 
 -- LIST
 list-told : (k n : ℕ) → listed (replied Refused k (Listed n)) ≡ eqb k 0
@@ -110,7 +123,7 @@ write-fits ws bs z = let (says, room) = file-fits ws bs z in omega (arith, lengt
 
 -- EVERY CALL
 pub every-call : Every-call
-unfolding Every-call Happens accepted changes Lists-stay Lists-hold load-reply load-words insert-reply insert-words insert-refused mark-reply mark-words list-reply list-tags list-labels list-refused listed-labels write-reply write-bytes refusal changed
+unfolding Every-call Happens accepted changes Lists-stay Lists-hold load-reply load-words insert-reply insert-words insert-refused insert-sheet-reply insert-sheet-words insert-sheet-refused mark-reply mark-words list-reply list-tags list-labels list-refused listed-labels write-reply write-bytes refusal changed
 every-call (loads s r b cs q) ws vs (reply, new) =
     let k = load-refusal (length ws) s r cs in
     let told = ap load-accepted reply ∙ load-told k _ _ in
@@ -123,27 +136,11 @@ every-call (loads s r b cs q) ws vs (reply, new) =
       writes-lists = λ _. tt;
     }
 every-call (inserts c y q) ws vs (reply, new) =
-    let k = refusal-over ws (insert-refusal (length ws) c y) in
-    let told = ap insert-accepted reply ∙ insert-told k _ _ _ in
-    let st = insert-store (insert-kinds c) y (said ws) in
-    record {
-      refused = λ e. (new ∙ written-stays k (insert-accepted q) told (words-of st) ws e, tt);
-      changed = λ e _. let z = zero-told k (insert-accepted q) told (words-of st) ws e in
-          (st, change-right (insert c y) ws z .0, rw new (written-fronted k (insert-accepted q) told (words-of st) ws (λ z. change-right (insert c y) ws z .1) e));
-      reads = λ e. absurd (true≢false e);
-      writes-lists = λ _. tt;
-    }
+    change-call (inserts c y q) (insert c y) ws vs (ap insert-accepted reply ∙ insert-told (insert-refused c y ws) _ _ _) new refl tt tt
+every-call (sheets cs y q) ws vs (reply, new) =
+    change-call (sheets cs y q) (sheet cs y) ws vs (ap insert-accepted reply ∙ insert-told (insert-sheet-refused cs y ws) _ _ _) new refl tt tt
 every-call (marks x q) ws vs (reply, new) =
-    let k = refusal-over ws (section-refusal x) in
-    let told = ap mark-accepted reply ∙ mark-told k _ in
-    let st = mark-store x (said ws) in
-    record {
-      refused = λ e. (new ∙ written-stays k (mark-accepted q) told (words-of st) ws e, tt);
-      changed = λ e _. let z = zero-told k (mark-accepted q) told (words-of st) ws e in
-          (st, change-right (mark x) ws z .0, rw new (written-fronted k (mark-accepted q) told (words-of st) ws (λ z. change-right (mark x) ws z .1) e));
-      reads = λ e. absurd (true≢false e);
-      writes-lists = λ _. tt;
-    }
+    change-call (marks x q) (mark x) ws vs (ap mark-accepted reply ∙ mark-told (refusal-over ws (section-refusal x)) _) new refl tt tt
 every-call (holds x q) ws vs (reply, same) =
     record { refused = λ _. (same, tt); changed = λ _ e. absurd (true≢false (sym e)); reads = λ _. same; writes-lists = λ _. tt }
 every-call (asks p d q) ws vs (reply, same) =

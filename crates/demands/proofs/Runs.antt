@@ -11,8 +11,8 @@ use Rattle.lists.proofs.Numbers.{length-numbers}
 use Rattle.tree_laws.proofs.Rows.{length-insert}
 use Rattle.calls.specs.Insert.{insert-kinds}
 use Rattle.calls.specs.Load.{load-store}
-use Rattle.calls.specs.Replies.{load-reply, load-words, insert-reply, insert-words, mark-reply, mark-words, hold-reply, question-reply, list-reply, list-tags, list-labels, write-reply, write-bytes}
-use Rattle.calls.specs.Calls.{Call, load, insert, mark, after, calls-of, Event, loads, inserts, marks, holds, asks, lists, writes, Happens, Run, Told, told}
+use Rattle.calls.specs.Replies.{load-reply, load-words, insert-reply, insert-words, insert-sheet-reply, insert-sheet-words, mark-reply, mark-words, hold-reply, question-reply, list-reply, list-tags, list-labels, write-reply, write-bytes}
+use Rattle.calls.specs.Calls.{Call, load, insert, sheet, mark, after, calls-of, Event, loads, inserts, sheets, marks, holds, asks, lists, writes, Happens, Run, Told, told}
 use Rattle.calls.specs.Reference.{Reference, total, reference-load, reference-position, reference-insert, reference-call, reference-told, reference-after}
 use Rattle.calls.specs.Promise.{Runs-keep}
 use Rattle.calls_laws.proofs.RunsKeep.{runs-keep}
@@ -21,13 +21,17 @@ use Rattle.demands.specs.Promise as ask
 use Rattle.demands.proofs.Said.{book-row}
 
 -- N IS THE LIST'S LENGTH, after every call
-total-call : (c : Call) (a : Reference) → total a ≡ length (a .row) → total (reference-call c a) ≡ length (reference-call c a .row)
-unfolding reference-call reference-load reference-insert
-total-call (load s r b cs) a e = omega (arith, length-numbers 0 (length cs))
-total-call (insert c y) a e =
+total-insert : (k y : ℕ) (a : Reference) → total a ≡ length (a .row) → total (reference-insert k y a) ≡ length (reference-insert k y a .row)
+unfolding reference-insert
+total-insert k y a e =
     let n = length (a .row) in
-    let k = length (insert-kinds c) in
     omega (arith, length-insert (reference-position y (a .row)) (numbers n k) (a .row), length-numbers n k)
+
+total-call : (c : Call) (a : Reference) → total a ≡ length (a .row) → total (reference-call c a) ≡ length (reference-call c a .row)
+unfolding reference-call reference-load
+total-call (load s r b cs) a e = omega (arith, length-numbers 0 (length cs))
+total-call (insert c y) a e = total-insert (length (insert-kinds c)) y a e
+total-call (sheet cs y) a e = total-insert (length cs) y a e
 total-call (mark x) a e = e
 
 total-after : (ts : List Told) (a : Reference) → total a ≡ length (a .row) → total (reference-after ts a) ≡ length (reference-after ts a .row)
@@ -52,6 +56,7 @@ runs-along s r b n h ks old ws end es first run =
 event : List ℕ → Request → Event
 event ws (ask.load s r b cs) = loads s r b cs (load-reply s r b cs ws)
 event ws (ask.insert c y) = inserts c y (insert-reply c y ws)
+event ws (ask.sheet cs y) = sheets cs y (insert-sheet-reply cs y ws)
 event ws (ask.mark x) = marks x (mark-reply x ws)
 event ws (ask.hold x) = holds x (hold-reply x ws)
 event ws (ask.ask p d) = asks p d (question-reply p d ws)
@@ -61,6 +66,7 @@ event ws (ask.write bs) = writes bs (write-bytes ws bs) (write-reply ws bs)
 then : List ℕ → Request → List ℕ
 then ws (ask.load s r b cs) = load-words s r b cs ws
 then ws (ask.insert c y) = insert-words c y ws
+then ws (ask.sheet cs y) = insert-sheet-words cs y ws
 then ws (ask.mark x) = mark-words x ws
 then ws (ask.hold x) = ws
 then ws (ask.ask p d) = ws
@@ -71,6 +77,7 @@ happens : (ws : List ℕ) (q : Request) → Happens (event ws q) ws (then ws q) 
 unfolding Happens request event then
 happens ws (ask.load s r b cs) = ((refl, refl), refl)
 happens ws (ask.insert c y) = ((refl, refl), refl)
+happens ws (ask.sheet cs y) = ((refl, refl), refl)
 happens ws (ask.mark x) = ((refl, refl), refl)
 happens ws (ask.hold x) = ((refl, refl), refl)
 happens ws (ask.ask p d) = ((refl, refl), refl)

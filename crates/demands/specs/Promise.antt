@@ -24,8 +24,8 @@ use Rattle.calls.specs.Sound.{sound}
 use Rattle.calls.specs.Listing.{listed-tags, listed-labels}
 use Rattle.calls.specs.Words.{words-of, Says}
 use Rattle.calls.specs.File.{file-of}
-use Rattle.calls.specs.Replies.{said, refusal-over, insert-reply, insert-words, mark-reply, mark-words, hold-reply, question-reply, list-reply, list-tags, list-labels, read-reply, read-words}
-use Rattle.calls.specs.Calls.{Event, loads, inserts, marks, holds, asks, lists, writes, Happens, Run, load-accepted, insert-accepted, mark-accepted, told}
+use Rattle.calls.specs.Replies.{said, refusal-over, insert-reply, insert-words, insert-sheet-reply, insert-sheet-words, mark-reply, mark-words, hold-reply, question-reply, list-reply, list-tags, list-labels, read-reply, read-words}
+use Rattle.calls.specs.Calls.{Event, loads, inserts, sheets, marks, holds, asks, lists, writes, Happens, Run, load-accepted, insert-accepted, mark-accepted, told}
 use Rattle.calls.specs.Reference.{Reference, total, reference-load, reference-after}
 use Rattle.demands.specs.Sound.{Sound-words}
 use Rattle.demands.specs.Words.{Book-row, Stand, is-marked, unmarked-of, Inside, Fronted, unmarked-changed, became-marked}
@@ -50,6 +50,7 @@ filed (write-said.Refused k) = false
 unfoldable pub accepted : Event → Bool
 accepted (loads s r b cs q) = load-accepted q
 accepted (inserts c y q) = insert-accepted q
+accepted (sheets cs y q) = insert-accepted q
 accepted (marks x q) = mark-accepted q
 accepted (holds x q) = held q
 accepted (asks p d q) = answered q
@@ -59,6 +60,7 @@ accepted (writes bs cs q) = filed q
 unfoldable pub changes : Event → Bool
 changes (loads s r b cs q) = true
 changes (inserts c y q) = true
+changes (sheets cs y q) = true
 changes (marks x q) = true
 changes (holds x q) = false
 changes (asks p d q) = false
@@ -69,6 +71,7 @@ changes (writes bs cs q) = false
 unfoldable pub Lists-stay : Event → Type 0
 Lists-stay (loads s r b cs q) = Unit {0}
 Lists-stay (inserts c y q) = Unit {0}
+Lists-stay (sheets cs y q) = Unit {0}
 Lists-stay (marks x q) = Unit {0}
 Lists-stay (holds x q) = Unit {0}
 Lists-stay (asks p d q) = Unit {0}
@@ -78,6 +81,7 @@ Lists-stay (writes bs cs q) = cs ≡ bs
 unfoldable pub Lists-hold : Event → (words : List ℕ) → Type 0
 Lists-hold (loads s r b cs q) ws = Unit {0}
 Lists-hold (inserts c y q) ws = Unit {0}
+Lists-hold (sheets cs y q) ws = Unit {0}
 Lists-hold (marks x q) ws = Unit {0}
 Lists-hold (holds x q) ws = Unit {0}
 Lists-hold (asks p d q) ws = Unit {0}
@@ -107,6 +111,11 @@ unfoldable pub Moved-right : Type 0
 Moved-right =
     (c y x m h : ℕ) (ws : List ℕ) → insert-reply c y ws ≡ Inserted (record { 0 = x }) m h → m ≡ unmarked-changed ws (insert-words c y ws)
 
+-- of a sheet (document 02, CR 5): between the words before and after the whole call
+unfoldable pub Sheet-moved-right : Type 0
+Sheet-moved-right =
+    (cs : List ℕ) (y x m h : ℕ) (ws : List ℕ) → insert-sheet-reply cs y ws ≡ Inserted (record { 0 = x }) m h → m ≡ unmarked-changed ws (insert-sheet-words cs y ws)
+
 unfoldable pub Marked-right : Type 0
 Marked-right = (x n : ℕ) (ws : List ℕ) → mark-reply x ws ≡ Marked n → n ≡ became-marked ws (mark-words x ws)
 
@@ -124,6 +133,7 @@ Runs-along =
 pub data Request : Type 0 where
   load : (s r number : ℕ) → (kinds : List ℕ) → Request
   insert : (kind place : ℕ) → Request
+  sheet : (kinds : List ℕ) → (place : ℕ) → Request
   mark : (section : ℕ) → Request
   hold : (section : ℕ) → Request
   ask : HeldPair → (d : ℕ) → Request
@@ -133,6 +143,7 @@ pub data Request : Type 0 where
 unfoldable pub request : Event → Request
 request (loads s r b cs q) = load s r b cs
 request (inserts c y q) = insert c y
+request (sheets cs y q) = sheet cs y
 request (marks x q) = mark x
 request (holds x q) = hold x
 request (asks p d q) = ask p d

@@ -1,14 +1,15 @@
 -- A renumbering on the words of an image: they are those of the image with the new labels, and it says how many labels
--- are others. And labels of complete trees: they depend only on how many tags there are. Assumes nothing.
+-- are others. And labels by widths of another table. Assumes nothing.
 use mathlib.Core.Path.{_≡_, refl, ap, _∙_}
-use mathlib.Core.List.{List, [], _∷_, _++_, map, append-assoc}
-use Prim.Native.Nat.{ℕ, zero, suc, pred, _+_, _-_, _/_, _^_, _≤_, _<_}
+use mathlib.Core.List.{List, _++_, map, append-assoc}
+use Prim.Native.Nat.{ℕ, pred, _+_, _-_, _≤_, _<_}
 use native.Mathlib.Omega.{arith}
-use lib.ListN.{length, getD, take, drop, length-append, length-take, length-drop}
+use lib.ListN.{length, getD, take, drop, length-append}
 use lib.Seq.{take-at, drop-at, getD-append-add}
 use Rattle.store_types.specs.Limits.{no-tag, word-limit, most-tags}
 use Rattle.shape.specs.Tables.{entry}
-use Rattle.tree.specs.Forest.{Forest, nil, leaf, node, labels, leaf-row, parts, spread}
+use Rattle.tree.specs.Forest.{Forest, nil, leaf, node, labels}
+use Rattle.tree.specs.Grown.{path}
 use Rattle.tree_laws.proofs.Ancestors.{getD-middle}
 use Rattle.edit_model.specs.Image.{Image, image-words, with-labels}
 use Rattle.edit_model.specs.Relabel.{relabel, shift}
@@ -18,7 +19,7 @@ use Rattle.edit_model.proofs.Along.{unmarked-row, follow-at, along-at}
 use Rattle.edit_model.proofs.Differ.{differ}
 use Rattle.shape.proofs.Sums.{cut-all}
 use Rattle.edit_model.proofs.Relabels.{relabel-words, relabel-proper, relabel-moved, Stretch, shift-words, shift-moved}
-use Rattle.edit_model.proofs.Added.{tag-before, behind-place}
+use Rattle.edit_model.proofs.Behind.{tag-before, behind-place}
 
 -- LABELS BY HEIGHTS: widths of greater heights do not matter
 pub labels-widths : (f : Forest) (w w′ : ℕ → ℕ) (j a : ℕ) → ((h : ℕ) → h ≤ j → w h ≡ w′ h) → labels f w j a ≡ labels f w′ j a
@@ -28,35 +29,13 @@ labels-widths (leaf x f) w w′ j a same = rw (same j (omega arith), labels-widt
 labels-widths (node g f) w w′ j a same =
     rw (same j (omega arith), labels-widths g w w′ (pred j) a (λ h l. same h (omega arith)), labels-widths f w w′ j (a + w′ j) same)
 
--- LABELS OF COMPLETE TREES: two rows of one length have the same
-leaf-labels : (w : ℕ → ℕ) (xs ys : List ℕ) (j a : ℕ) → length xs ≡ length ys → labels (leaf-row xs) w j a ≡ labels (leaf-row ys) w j a
-unfolding labels leaf-row
-leaf-labels w [] [] j a e = refl
-leaf-labels w [] (y ∷ ys) j a e = absurd (omega arith)
-leaf-labels w (x ∷ xs) [] j a e = absurd (omega arith)
-leaf-labels w (x ∷ xs) (y ∷ ys) j a e = rw (leaf-labels w xs ys j (a + w j) (omega arith))
-
-parts-labels : (w : ℕ → ℕ) (c e j : ℕ) (g : List ℕ → Forest) →
-    ((us vs : List ℕ) (b : ℕ) → length us ≡ length vs → labels (g us) w j b ≡ labels (g vs) w j b) → (xs ys : List ℕ) (a : ℕ) → length xs ≡ length ys →
-    labels (parts c e g xs) w (suc j) a ≡ labels (parts c e g ys) w (suc j) a
-unfolding labels parts
-parts-labels w zero e j g under xs ys a same = refl
-parts-labels w (suc zero) e j g under xs ys a same = rw (under xs ys a same)
-parts-labels w (suc (suc c)) e j g under xs ys a same =
-    rw (under (take e xs) (take e ys) a (simp (length-take, same)), parts-labels w (suc c) e j g under (drop e xs) (drop e ys) (a + w (suc j)) (simp (length-drop, same)))
-
-pub spread-labels : (w : ℕ → ℕ) (j r : ℕ) (xs ys : List ℕ) (a : ℕ) → length xs ≡ length ys → labels (spread j r xs) w j a ≡ labels (spread j r ys) w j a
-unfolding spread
-spread-labels w zero r xs ys a e = leaf-labels w xs ys 0 a e
-spread-labels w (suc j) r xs ys a e = rw e (parts-labels w (length ys / r ^ suc j) (r ^ suc j) j (λ zs. spread j r zs) (λ us vs b same. spread-labels w j r us vs b same) xs ys a e)
-
 -- WHERE A PLAN APPLIES: along the row stand labels that are kept, then those that are numbered anew, those that are
 -- shifted, which are below the bound, and those behind it
-pub record Applies (v : Image) (widths : List ℕ) (r : ℕ) (q : Plan) (before old new beside after : List ℕ) : Type 0 where
+pub record Applies (v : Image) (widths : List ℕ) (s r : ℕ) (q : Plan) (before old new beside after : List ℕ) : Type 0 where
   pub was : v .labels ≡ before ++ (old ++ (beside ++ after))
   pub left : q .left ≡ tag-before v (length before)
   pub count : q .count ≡ length old
-  pub new-is : labels (spread (q .height) r (take (length old) (drop (length before) (v .tags)))) (entry widths) (q .height) (q .number) ≡ new
+  pub new-is : labels (path s r (q .height) (q .cursor) (q .rest) (take (length old) (drop (length before) (v .tags)))) (entry widths) (q .height) (q .number) ≡ new
   pub as-many : length new ≡ length old
   pub small : (i : ℕ) → i < length new → getD new i 0 < word-limit
   pub low : (i : ℕ) → i < length beside → getD beside i 0 < q .bound
@@ -71,8 +50,8 @@ module _ (xs ys zs : List ℕ) where
   two-back : (m : ℕ) → length xs + length ys ≡ m → drop m (xs ++ (ys ++ zs)) ≡ zs
   two-back m e = rw (← append-assoc xs ys zs) (drop-at (xs ++ ys) zs m (length-append xs ys ∙ e))
 
-module _ {v : Image} (h : Proper v) (few : length (v .facts) ≤ most-tags) (rest w : List ℕ) (r : ℕ) (q : Plan)
-    (before old new beside after : List ℕ) (a : Applies v w r q before old new beside after) where
+module _ {v : Image} (h : Proper v) (few : length (v .facts) ≤ most-tags) (rest w : List ℕ) (s r : ℕ) (q : Plan)
+    (before old new beside after : List ℕ) (a : Applies v w s r q before old new beside after) where
   -- how many labels there are
   all : length before + (length old + (length beside + length after)) ≡ length (v .tags)
   all = omega (arith, simp length-append at (ap length (a .was)), h .labelled)
@@ -90,7 +69,7 @@ module _ {v : Image} (h : Proper v) (few : length (v .facts) ≤ most-tags) (res
   relabelled = before ++ (new ++ (beside ++ after))
 
   -- the steps
-  steps : applied ws w r (length (v .facts)) q
+  steps : applied ws w s r (length (v .facts)) q
       ≡ record {
         words = shift (length (v .facts)) (length (v .facts)) (relabel (take (length old) (drop i (v .tags))) new ws .words) (getD (v .tags) j no-tag) (q .bound) (q .by) .words;
         moved = relabel (take (length old) (drop i (v .tags))) new ws .moved
@@ -146,7 +125,7 @@ module _ {v : Image} (h : Proper v) (few : length (v .facts) ≤ most-tags) (res
         stop = λ l. rw after-at (a .stop (omega (arith, a .as-many)));
       }
 
-  pub applied-words : applied ws w r (length (v .facts)) q .words ≡ image-words (with-labels (before ++ (new ++ (map (λ l. l + q .by) beside ++ after))) v) ++ rest
+  pub applied-words : applied ws w s r (length (v .facts)) q .words ≡ image-words (with-labels (before ++ (new ++ (map (λ l. l + q .by) beside ++ after))) v) ++ rest
   unfolding with-labels
   applied-words =
       let front : length before + length new ≡ j = omega (arith, a .as-many) in
@@ -157,7 +136,7 @@ module _ {v : Image} (h : Proper v) (few : length (v .facts) ≤ most-tags) (res
       (shift-words relabelled-proper rest (length (v .facts)) j (j + length beside) (q .bound) (q .by) few stretch all-fit
       ∙ rw (two-front before new (beside ++ after) j front, two-back before new (beside ++ after) j front, count, take-at beside after (length beside) refl, behind, append-assoc))
 
-  pub applied-moved : applied ws w r (length (v .facts)) q .moved
+  pub applied-moved : applied ws w s r (length (v .facts)) q .moved
       ≡ differ (take (length old) (drop i (unmarked-row v))) old new + differ (take (length beside) (drop j (unmarked-row v))) beside (map (λ l. l + q .by) beside)
   unfolding with-labels
   applied-moved =

@@ -1,4 +1,5 @@
--- Walking left from a place along the row of a sound store, down to a label: it ends left of an ancestor of that place.
+-- Walking left from a place along the row of a sound store, down to a label: it ends left of an ancestor of that place, with
+-- as many steps as the place is behind it.
 -- Assumes nothing.
 use mathlib.Core.Path.{_≡_, _∙_}
 use mathlib.Core.Bool.{true, _||_, or-true}
@@ -18,28 +19,32 @@ use Rattle.tree.specs.Promise.{Widths}
 use Rattle.tree_laws.proofs.Labels.{length-labels, rising-from, rising-below, node-rising}
 use Rattle.tree_laws.proofs.Ancestors.{node-number, getD-middle, Found, found}
 use Rattle.edit_model.specs.Image.{Image, image-words}
-use Rattle.edit_model.specs.Split.{left-border}
+use Rattle.edit_model.specs.Split.{Border, left-border}
 use Rattle.edit_model.proofs.Image.{Proper, tag-below}
 use Rattle.edit_model.proofs.Along.{label-of-place, prior-at}
-use Rattle.edit_model.proofs.Added.{tag-before}
+use Rattle.edit_model.proofs.Behind.{tag-before}
+
+-- the end of a walk
+abbrev pub ended : (tag steps : ℕ) → Border
+ended x k = record { tag = x; steps = k }
 
 -- the equations of the walk: it stops at no tag or at a lower label, and else goes on
 module _ (k n : ℕ) (ws : List ℕ) (low x : ℕ) where
-  left-stops : (leb n x || ltb (label-at ws x) low) ≡ true → left-border (suc k) n ws low x ≡ x
+  left-stops : (leb n x || ltb (label-at ws x) low) ≡ true → left-border (suc k) n ws low x ≡ ended x 0
   unfolding left-border
   left-stops e = rw e
 
-  left-goes : x < n → low ≤ label-at ws x → left-border (suc k) n ws low x ≡ left-border k n ws low (field ws x at-prior)
+  left-goes : (y steps : ℕ) → left-border k n ws low (field ws x at-prior) ≡ ended y steps → x < n → low ≤ label-at ws x → left-border (suc k) n ws low x ≡ ended y (suc steps)
   unfolding left-border
-  left-goes tag inside = rw (lt-leb n x tag, le-ltb (label-at ws x) low inside)
+  left-goes y steps e tag inside = rw (lt-leb n x tag, le-ltb (label-at ws x) low inside, e)
 
 -- ALONG THE ROW OF AN IMAGE, from the place behind its first i tags down to the least place with labels of at least low
 -- from there up to i
 module _ {v : Image} (h : Proper v) (few : length (v .facts) ≤ no-tag) (rest : List ℕ) where
   pub left-along : (low k i to : ℕ) → i ≤ k → i ≤ length (v .tags) → to ≤ i → ((q : ℕ) → to ≤ q → q < i → low ≤ getD (v .labels) q 0) →
-      ((q : ℕ) → to ≡ suc q → getD (v .labels) q 0 < low) → left-border k (length (v .facts)) (image-words v ++ rest) low (tag-before v i) ≡ tag-before v to
+      ((q : ℕ) → to ≡ suc q → getD (v .labels) q 0 < low) → left-border k (length (v .facts)) (image-words v ++ rest) low (tag-before v i) ≡ ended (tag-before v to) (i - to)
   unfolding left-border
-  left-along low zero i to steps fits order inside outside = let e : i ≡ to = omega arith in rw e
+  left-along low zero i to steps fits order inside outside = let e : i ≡ to = omega arith in let none : to - to ≡ 0 = omega arith in rw (e, none)
   left-along low (suc k) zero to steps fits order inside outside =
       let e : to ≡ 0 = omega arith in
       left-stops k (length (v .facts)) (image-words v ++ rest) low no-tag (rw (le-leb (length (v .facts)) no-tag few)) ∙ rw e
@@ -51,11 +56,18 @@ module _ {v : Image} (h : Proper v) (few : length (v .facts) ≤ no-tag) (rest :
       by-test (eqb to (suc i))
       (λ t.
       let e = eqb-true to (suc i) t in
-      left-stops k n ws low x (rw (label, lt-ltb (getD (v .labels) i 0) low (outside i e)) (or-true (leb n x))) ∙ rw e)
+      left-stops k n ws low x (rw (label, lt-ltb (getD (v .labels) i 0) low (outside i e)) (or-true (leb n x))) ∙ (let none : suc i - suc i ≡ 0 = omega arith in rw (e, none)))
       (λ t.
       let further : to ≤ i = omega (arith, eqb-false to (suc i) t) in
-      left-goes k n ws low x (tag-below h i no-tag fits) (rw label (inside i further (omega arith)))
-      ∙ rw (prior-at h rest i no-tag fits) (left-along low k i to (omega arith) (omega arith) further (λ q l b. inside q l (omega arith)) outside))
+      let one : suc i - to ≡ suc (i - to) = omega arith in
+      rw one (left-goes k n ws low x (tag-before v to) (i - to)
+      (rw (prior-at h rest i no-tag fits) (left-along low k i to (omega arith) (omega arith) further (λ q l b. inside q l (omega arith)) outside))
+      (tag-below h i no-tag fits) (rw label (inside i further (omega arith)))))
+
+  -- to the front, where no label is too low
+  pub left-front : (i : ℕ) → i ≤ length (v .facts) → i ≤ length (v .tags) → left-border (length (v .facts)) (length (v .facts)) (image-words v ++ rest) 0 (tag-before v i) ≡ ended no-tag i
+  left-front i steps fits =
+      left-along 0 (length (v .facts)) i 0 steps fits (omega arith) (λ q l u. omega arith) (λ q e. absurd (omega arith)) ∙ (let all : i - 0 ≡ i = omega arith in rw all)
 
 module _ {s r : ℕ} {w : ℕ → ℕ} (s-least : 2 ≤ s) (r-least : 2 ≤ r) (widths : Widths s r w) where
   -- the labels left of an ancestor and under it, by its number
@@ -77,7 +89,7 @@ module _ {s r : ℕ} {w : ℕ → ℕ} (s-least : 2 ≤ s) (r-least : 2 ≤ r) (
   -- TO THE TAG LEFT OF AN ANCESTOR, down to its number
   pub left-ancestor : {v : Image} → Proper v → length (v .facts) ≤ no-tag → (rest : List ℕ) (f : Forest) (u p h : ℕ) → Good s r f u → p ≤ size f → 1 ≤ size f →
       length (v .tags) ≡ size f → v .labels ≡ labels f w u 0 → 1 ≤ h → h ≤ u →
-      left-border (length (v .facts)) (length (v .facts)) (image-words v ++ rest) (node-number f w u h p 0) (tag-before v p) ≡ tag-before v (left-in f u h p)
+      left-border (length (v .facts)) (length (v .facts)) (image-words v ++ rest) (node-number f w u h p 0) (tag-before v p) ≡ ended (tag-before v (left-in f u h p)) (p - left-in f u h p)
   left-ancestor proper few rest f u p zero good fits some many labels-are least most = absurd (omega arith)
   left-ancestor {v} proper few rest f u p (suc h) good fits some many labels-are least most =
       let d = found s-least r-least widths f u h p 0 good most fits some in

@@ -25,6 +25,6 @@ module _ (i : ℕ) (low : i < header-words) where
       by-test (leb n x || leb b (label-at ws x)) (λ e. rw e)
       (λ e. rw e (shift-header k n (with-label ws x (cut (label-at ws x + d))) (field ws x at-next) b d ∙ header-kept-label ws x (cut (label-at ws x + d)) i low))
 
-  pub applied-header : (ws w : List ℕ) (r n : ℕ) (p : Plan) → word-at (applied ws w r n p .words) i ≡ word-at ws i
+  pub applied-header : (ws w : List ℕ) (s r n : ℕ) (p : Plan) → word-at (applied ws w s r n p .words) i ≡ word-at ws i
   unfolding applied
-  applied-header ws w r n p = shift-header n n _ _ (p .bound) (p .by) ∙ relabel-header _ _ ws
+  applied-header ws w s r n p = shift-header n n _ _ (p .bound) (p .by) ∙ relabel-header _ _ ws

@@ -1,12 +1,12 @@
--- The plan of one tag: it is what the flat view of that insertion says. Assumes nothing.
-use mathlib.Core.Path.{_≡_, refl, ap, sym, _∙_}
+-- The plan of a row of tags: it is what the flat view of that row says. Assumes nothing.
+use mathlib.Core.Path.{_≡_, refl, sym, _∙_}
 use mathlib.Core.Bool.{true, false, cond}
 use mathlib.Core.List.{List, _∷_, _++_}
-use Prim.Native.Nat.{ℕ, zero, suc, _+_, _*_, _-_, _^_, _≤_, _<_}
+use Prim.Native.Nat.{ℕ, zero, suc, pred, _+_, _*_, _-_, _^_, _≤_, _<_}
 use native.Mathlib.Nat.{le-refl}
 use native.Mathlib.Omega.{arith}
-use borrow.Author.Tests.{le-ltb, lt-ltb, eq-eqb, ne-eqb, eqb-true, eqb-false}
-use lib.Dec.{eqb}
+use borrow.Author.Tests.{le-ltb, lt-ltb, ltb-true, ltb-false, eq-eqb, ne-eqb, eqb-true, eqb-false}
+use lib.Dec.{ltb, eqb}
 use lib.ListN.{length, getD, replicate, length-append, List·getD-append, List·getD-eq-default}
 use lib.Seq.{getD-append-add}
 use Rattle.store_types.specs.Limits.{no-tag, label-limit}
@@ -16,17 +16,19 @@ use Rattle.shape.specs.Tables.{entry, widths-of, highs-of, table-length}
 use Rattle.shape.specs.Sums.{cut}
 use Rattle.shape.proofs.Sums.{cut-below}
 use Rattle.tree.specs.Good.{Good}
-use Rattle.tree.specs.Forest.{Forest, nil, leaf, node, leaves, size, labels, split-height}
-use Rattle.tree.specs.Book.{height, labels-of, root-full, split-of}
+use Rattle.tree.specs.Forest.{Forest, nil, leaf, node, leaves, size, labels}
+use Rattle.tree.specs.Book.{height, labels-of}
 use Rattle.tree.specs.Reach.{left-in, size-in}
+use Rattle.tree.specs.Grown.{height-for}
 use Rattle.tree_laws.proofs.Rows.{member-getD}
 use Rattle.tree_laws.proofs.Spread.{some-power}
 use Rattle.tree_laws.proofs.Labels.{length-labels, Rising, rising-order, rising-from, rising-below}
-use Rattle.tree_laws.proofs.Insertion.{rooted, root-at-limit, split-of-split, split-of-inside}
-use Rattle.tree_laws.proofs.Ancestors.{node-number, at-here, at-inside}
-use Rattle.tree_laws.proofs.Flat.{Piece, Flat, split-at-most}
-use Rattle.tree_laws.proofs.Root.{whole, labels-whole, split-flat}
-use Rattle.tree_laws.proofs.Border.{Cut, cut-flat, label-within}
+use Rattle.tree_laws.proofs.Insertion.{rooted, empty-low}
+use Rattle.tree_laws.proofs.Ancestors.{size-most, node-number, at-inside}
+use Rattle.tree_laws.proofs.Root.{whole}
+use Rattle.tree_laws.proofs.Border.{Cut, label-within}
+use Rattle.tree_laws.proofs.Full.{split-root, split-inner}
+use Rattle.tree_laws.proofs.RowFlat.{Row-flat, row-parts, row-cut}
 use Rattle.calls.specs.Store.{Store, count, row, width}
 use Rattle.calls.specs.Words.{Says}
 use Rattle.calls_laws.proofs.Widths.{store-widths}
@@ -46,9 +48,9 @@ use Rattle.edit_model.specs.Split.{highest-full, left-border}
 use Rattle.edit_model.specs.Insert.{Plan, numbers-at, plain-plan, root-plan, split-plan, plan, plan-of}
 use Rattle.edit_model.proofs.Image.{store-image, proper-image}
 use Rattle.edit_model.proofs.Along.{label-of-place}
-use Rattle.edit_model.proofs.Splits.{Highest, Fills, highest-one, split-highest, full-found}
-use Rattle.edit_model.proofs.Added.{behind-place}
-use Rattle.edit_model.proofs.Borders.{left-ancestor}
+use Rattle.edit_model.proofs.Splits.{Highest, Fills, highest-one, full-highest, full-found}
+use Rattle.edit_model.proofs.Behind.{behind-place}
+use Rattle.edit_model.proofs.Borders.{ended, left-front, left-ancestor}
 
 -- the first label of a forest is its number
 first-label : (s r : ℕ) (f : Forest) (w : ℕ → ℕ) (j a : ℕ) → 2 ≤ r → Good s r f j → 1 ≤ size f → getD (labels f w j a) 0 0 ≡ a
@@ -74,25 +76,22 @@ sizes-before ws st p = sizes-at ws (place-tag st p) (replicate table-length 0)
 abbrev pub height-found : (ws : List ℕ) → Store → (p m : ℕ) → ℕ
 height-found ws st p m = highest-full (highs-of ws) (sizes-before ws st p) m (st .book .under) 1 0
 
--- the flat view of an insertion into a store
-abbrev pub Flat-in : Store → (p x : ℕ) → Type 0
-Flat-in st p x = Flat (st .book .s) (st .book .r) (width st) (whole (st .book)) (height (st .book)) p x 0
+-- the flat view of a row of new tags in a store
+abbrev pub Row-in-store : Store → (p : ℕ) → (new : List ℕ) → Type 0
+Row-in-store st p ns = Row-flat (width st) p ns (st .book)
 
--- A PLAN THAT IS RIGHT: what the flat view says; its bound cuts what is shifted from what stands behind
-pub record Planned (st : Store) (p x : ℕ) (d : Flat-in st p x) (q : Plan) : Type 0 where
+-- A PLAN THAT IS RIGHT: what the flat view says; its bound cuts what is shifted from what stands behind. What it shifts by is cut
+-- to a label.
+pub record Planned (st : Store) (p : ℕ) (ns : List ℕ) (d : Row-in-store st p ns) (q : Plan) : Type 0 where
   pub height-is : q .height ≡ d .height
   pub left-is : q .left ≡ place-tag st (length (d .before))
   pub number-is : q .number ≡ d .number
-  pub count-is : q .count ≡ suc (length (d .old))
-  pub by-is : 1 ≤ length (d .beside) → q .by ≡ d .shift
+  pub count-is : q .count ≡ length (d .old) + length ns
+  pub cursor-is : q .cursor ≡ d .cursor
+  pub rest-is : q .rest ≡ d .rest
+  pub by-is : 1 ≤ length (d .beside) → d .shift < label-limit → q .by ≡ d .shift
   pub low : (i : ℕ) → i < length (d .beside) → getD (d .beside) i 0 < q .bound
   pub stop : 1 ≤ length (d .after) → q .bound ≤ getD (d .after) 0 0
-
--- how many labels there are
-parts-of : (st : Store) (p x : ℕ) (d : Flat-in st p x) → length (d .before) + (length (d .old) + (length (d .beside) + length (d .after))) ≡ size (st .book .root)
-parts-of st p x d =
-    let k = st .book in
-    omega (arith, simp length-append at (ap length (labels-whole (width st) k ∙ d .was)), length-labels (k .root) (width st) (k .under) 0)
 
 -- a bound within the width of a root that a label can hold is a sum that is not cut
 pub bound-whole : (c e : ℕ) (behind : List ℕ) → Rising c e behind → e < label-limit → cut c ≡ c
@@ -184,9 +183,9 @@ module _ (ws : List ℕ) (st : Store) (says : Says ws st) where
     numbers-said = rw (watched-said p fits)
 
     -- the plan of m tags
-    pub plan-said : (m : ℕ) → plan-of ws m (place-tag st p) ≡ plan ws (st .book .s) (widths-of ws) (highs-of ws) (sizes-before ws st p) (count st) m (st .book .under) (place-tag st p)
+    pub plan-said : (m : ℕ) → plan-of ws m (place-tag st p) ≡ plan ws (st .book .s) (st .book .r) (widths-of ws) (highs-of ws) (sizes-before ws st p) (count st) m (st .book .under) (place-tag st p)
     unfolding plan-of
-    plan-said m = let head = header-said ws st says in rw (head .degree-s, head .levels, head .issued)
+    plan-said m = let head = header-said ws st says in rw (head .degree-s, head .degree-r, head .levels, head .issued)
 
     pub size-said : p ≤ size (st .book .root)
     size-said = omega (arith, sound-said .as-many)
@@ -198,7 +197,8 @@ module _ (ws : List ℕ) (st : Store) (says : Says ws st) where
 
     -- the tag left of the ancestor of a height below the root
     pub left-said : (h : ℕ) → 1 ≤ h → h ≤ st .book .under →
-        left-border (count st) (count st) ws (entry (numbers-before ws st p) h) (place-tag st p) ≡ place-tag st (left-in (whole (st .book)) (height (st .book)) h p)
+        left-border (count st) (count st) ws (entry (numbers-before ws st p) h) (place-tag st p)
+        ≡ ended (place-tag st (left-in (whole (st .book)) (height (st .book)) h p)) (p - left-in (whole (st .book)) (height (st .book)) h p)
     unfolding image-of
     left-said h least most =
         let k = st .book in
@@ -207,111 +207,135 @@ module _ (ws : List ℕ) (st : Store) (says : Says ws st) where
         (left-ancestor (sound-said .degrees .s-least) (sound-said .degrees .r-least) (store-widths st) (proper-image sound-said) (omega (arith, sound-said .few)) (image-said .0) (k .root) (k .under) p h
         (rooted k (sane sound-said) .good) size-said (omega (arith, some-said (omega arith), sound-said .as-many)) refl refl least most)
 
+    -- to the front
+    front-said : left-border (count st) (count st) ws 0 (place-tag st p) ≡ ended no-tag p
+    unfolding image-of
+    front-said =
+        rw (image-said .1) (left-front (proper-image sound-said) (omega (arith, sound-said .few)) (image-said .0) p fits (omega (arith, sound-said .as-many)))
+
     -- its size, and the height that is found by the sizes
     sizes-said : (h : ℕ) → 1 ≤ h → h ≤ st .book .under → entry (sizes-before ws st p) h ≡ size-in (st .book .root) (st .book .under) h p
     sizes-said h least most =
         sizes-right ws st says p (place-tag st p) fits (some-said (omega arith)) (watched-said p fits) (replicate table-length 0) refl h least most
 
-    pub found-highest : (m : ℕ) → Highest (Fills (st .book .s) (st .book .r) (st .book .root) (st .book .under) p m) 0 (st .book .under) (height-found ws st p m)
+    pub sizes-few : (h : ℕ) → 1 ≤ h → h ≤ st .book .under → entry (sizes-before ws st p) h ≤ count st
+    sizes-few h least most = rw (sizes-said h least most) (omega (arith, size-most (st .book .root) (st .book .under) h p, sound-said .as-many))
+
+    pub found-highest : (m : ℕ) → Highest (Fills (st .book .s) (st .book .r) (st .book .root) (st .book .under) p m) (st .book .under) (height-found ws st p m)
     found-highest =
         full-found (st .book .s) (st .book .r) (st .book .root) (st .book .under) p (highs-of ws) (sizes-before ws st p) (λ h l. highs-right h (omega arith)) sizes-said
 
-    pub bound-cuts : (x : ℕ) (d : Flat-in st p x) → d .height ≤ st .book .under →
-        Cut 0 (entry (numbers-before ws st p) (suc (d .height)) + entry (widths-of ws) (suc (d .height))) (width st (height (st .book))) (d .before ++ (d .old ++ d .beside)) (d .after)
-    bound-cuts x d low =
-        rw (number-right (suc (d .height)) (omega arith) (omega arith), widths-right (suc (d .height)) (omega arith))
-        (cut-flat (store-widths st) (sane sound-said) size-said d (omega arith))
-
-    module _ (x : ℕ) (d : Flat-in st p x) where
-      split-is : split-of p (st .book) ≡ d .height
-      split-is = split-flat size-said d
+    module _ (ns : List ℕ) (d : Row-in-store st p ns) where
+      bound-cuts : d .height ≤ st .book .under →
+          Cut 0 (entry (numbers-before ws st p) (suc (d .height)) + entry (widths-of ws) (suc (d .height))) (width st (height (st .book))) (d .before ++ (d .old ++ d .beside)) (d .after)
+      bound-cuts low =
+          rw (number-right (suc (d .height)) (omega arith) (omega arith), widths-right (suc (d .height)) (omega arith))
+          (row-cut (store-widths st) (sane sound-said) size-said d low)
 
       -- A ROOT SPLIT numbers all tags anew
-      root-planned : root-full (st .book) ≡ true → Planned st p x d (root-plan (height (st .book)) (count st + 1))
+      root-planned : st .book .under < d .height → Planned st p ns d (root-plan (st .book .s) (st .book .r) (d .height) (count st) (length ns) (ended no-tag p))
       unfolding root-plan
-      root-planned t =
-          let k = st .book in
-          let top : d .height ≡ height k = sym split-is ∙ split-of-split p k t in
-          let piece : Piece (k .s) (k .r) (width st) x (suc (k .under)) (d .offset) (d .number) (d .old) (d .new) (d .shift) = rw top at (d .piece) in
-          let old = ap length (piece .old-is) ∙ length-labels (piece .under) (width st) (k .under) (d .number) in
-          let all = parts-of st p x d in
-          let full = root-at-limit k t in
-          let none : length (d .before) ≡ 0 = omega (arith, piece .limit) in
-          let zero-number : d .number ≡ 0 = sym (d .number-is (k .under) top) ∙ at-here (k .root) nil (width st) (height k) (height k) p 0 size-said refl .0 in
+      root-planned above =
+          let none = d .root above in
+          let all = rw (none .1, none .2, none .3) at (row-parts d) in
+          let many : length (d .old) ≡ count st = omega (arith, sound-said .as-many) in
+          let here : p ≡ d .offset = d .place-is ∙ rw (none .1) (omega arith) in
+          let piece = rw many at (d .split (omega arith)) in
           record {
-            height-is = sym top;
-            left-is = rw none;
-            number-is = sym zero-number;
-            count-is = omega (arith, piece .limit, sound-said .as-many);
-            by-is = λ l. absurd (omega (arith, piece .limit));
-            low = λ i l. absurd (omega (arith, piece .limit));
-            stop = λ l. absurd (omega (arith, piece .limit));
+            height-is = refl;
+            left-is = rw (none .1);
+            number-is = sym (none .0);
+            count-is = rw many;
+            cursor-is = rw here (sym (piece .cursor-is));
+            rest-is = sym (piece .rest-is);
+            by-is = rw (none .2) (λ l. absurd (omega arith));
+            low = rw (none .2) (λ i l. absurd (omega arith));
+            stop = rw (none .3) (λ l. absurd (omega arith));
           }
 
-      -- NO SPLIT: the new tag alone
-      plain-planned : d .height ≡ 0 → Planned st p x d (plain-plan ws (widths-of ws) (st .book .under) (place-tag st p))
+      -- NO SPLIT: the new tags alone
+      plain-planned : d .height ≡ 0 → Planned st p ns d (plain-plan ws (widths-of ws) (length ns) (st .book .under) (place-tag st p))
       unfolding plain-plan
       plain-planned none =
-          let k = st .book in
-          let piece : Piece (k .s) (k .r) (width st) x 0 (d .offset) (d .number) (d .old) (d .new) (d .shift) = rw none at (d .piece) in
-          let here : p ≡ length (d .before) = omega (arith, d .place-is, piece .0) in
-          let cuts = rw none at (bound-cuts x d (omega arith)) in
+          let piece = d .plain none in
+          let here : p ≡ length (d .before) = omega (arith, d .place-is, piece .offset-is) in
+          let cuts = rw none at (bound-cuts (omega arith)) in
           record {
             height-is = sym none;
             left-is = rw (← here);
-            number-is =
-                next-number p (d .number) fits (d .front) (λ q e. d .next none q e ∙ rw (← labels-whole (width st) k));
-            count-is = rw (piece .1);
-            by-is = λ l. widths-right 0 (omega arith) ∙ sym (piece .3);
+            number-is = next-number p (d .number) fits (d .front) (d .next none);
+            count-is = rw (piece .none) (omega arith);
+            cursor-is = sym (piece .cursor-is);
+            rest-is = sym (piece .rest-is);
+            by-is = λ l small. rw (widths-right 0 (omega arith), ← piece .shift-is) (cut-below (d .shift) small);
             low = rw (numbers-said, bound-whole _ _ (d .after) (cuts .1) narrow-said) (cut-low _ _ _ (d .before) (d .old) (d .beside) (d .after) cuts);
             stop = rw (numbers-said, bound-whole _ _ (d .after) (cuts .1) narrow-said) (rising-from _ _ (d .after) (cuts .1) 0);
           }
 
       -- BELOW THE ROOT: the height that is found is that of the split
-      module _ (room : root-full (st .book) ≡ false) where
-        split-inside : split-height (st .book .root) (st .book .s) (st .book .r) (st .book .under) p ≡ d .height
-        split-inside = sym (split-of-inside p (st .book) room) ∙ split-is
+      split-planned : 1 ≤ d .height → d .height ≤ st .book .under →
+          Planned st p ns d (split-plan (st .book .s) (st .book .r) (widths-of ws) (numbers-before ws st p) (d .height) (length (d .old)) (length ns)
+          (ended (place-tag st (length (d .before))) (d .offset)))
+      unfolding split-plan
+      split-planned least most =
+          let piece = d .split least in
+          let cuts = bound-cuts most in
+          record {
+            height-is = refl;
+            left-is = refl;
+            number-is = number-right (d .height) least (omega arith) ∙ d .number-is most least;
+            count-is = refl;
+            cursor-is = sym (piece .cursor-is);
+            rest-is = sym (piece .rest-is);
+            by-is = λ l small. rw (widths-right (d .height) (omega arith), ← piece .shift-is) (cut-below (d .shift) small);
+            low = rw (bound-whole _ _ (d .after) (cuts .1) narrow-said) (cut-low _ _ _ (d .before) (d .old) (d .beside) (d .after) cuts);
+            stop = rw (bound-whole _ _ (d .after) (cuts .1) narrow-said) (rising-from _ _ (d .after) (cuts .1) 0);
+          }
 
-        at-most : d .height ≤ st .book .under
-        at-most = omega (arith, split-inside, split-at-most (st .book .root) (st .book .s) (st .book .r) (st .book .under) p (rooted (st .book) (sane sound-said) .good))
+      -- what is found: whether the root is split, its height, and that below it
+      abbrev top-found : ℕ
+      top-found = height-for (length ns) (st .book .s) (st .book .r) (count st + length ns) (height (st .book))
 
-        split-height-said : height-found ws st p 1 ≡ d .height
-        split-height-said =
-            let k = st .book in
-            highest-one (found-highest 1) (split-highest (sound-said .degrees .s-least) (sound-said .degrees .r-least) (k .root) (k .under) p (rooted k (sane sound-said) .good)) ∙ split-inside
+      root-found : ltb (height (st .book)) top-found ≡ ltb (st .book .under) (d .height)
+      root-found = rw (← sound-said .as-many) (d .grows)
 
-        split-planned : (h : ℕ) → d .height ≡ suc h →
-            Planned st p x d (split-plan (st .book .s) (widths-of ws) (highs-of ws) (numbers-before ws st p) (d .height)
-            (left-border (count st) (count st) ws (entry (numbers-before ws st p) (d .height)) (place-tag st p)))
-        unfolding split-plan
-        split-planned h e =
-            let k = st .book in
-            let piece : Piece (k .s) (k .r) (width st) x (suc h) (d .offset) (d .number) (d .old) (d .new) (d .shift) = rw e at (d .piece) in
-            let old = ap length (piece .old-is) ∙ length-labels (piece .under) (width st) h (d .number) in
-            let cuts = bound-cuts x d at-most in
-            record {
-              height-is = refl;
-              left-is = left-said (d .height) (omega arith) at-most ∙ rw (d .left-is);
-              number-is = number-right (d .height) (omega arith) (omega (arith, at-most)) ∙ rw e (d .number-is h e);
-              count-is = rw (highs-right (d .height) (omega (arith, at-most)), e, ← piece .limit, old);
-              by-is = λ l. rw (widths-right (d .height) (omega (arith, at-most)), e) (sym (piece .shift-is));
-              low = rw (bound-whole _ _ (d .after) (cuts .1) narrow-said) (cut-low _ _ _ (d .before) (d .old) (d .beside) (d .after) cuts);
-              stop = rw (bound-whole _ _ (d .after) (cuts .1) narrow-said) (rising-from _ _ (d .after) (cuts .1) 0);
-            }
+      top-said : ltb (st .book .under) (d .height) ≡ true → pred top-found ≡ d .height
+      top-said t = rw (← sound-said .as-many) (sym (split-root (length ns) p (st .book) (d .grows ∙ t)) ∙ d .height-is)
 
-      -- THE PLAN OF ONE TAG
-      pub planned : Planned st p x d (plan-of ws 1 (place-tag st p))
-      unfolding plan root-full
-      planned =
+      height-said : ltb (st .book .under) (d .height) ≡ false → height-found ws st p (length ns) ≡ d .height
+      height-said t =
           let k = st .book in
-          let more : count st + 1 ≡ suc (size (k .root)) = omega (arith, sound-said .as-many) in
-          let tested : eqb (count st + 1) (entry (highs-of ws) (height k)) ≡ root-full k = rw (highs-right (height k) (omega arith), more) in
-          rw (plan-said 1) (by-test (root-full k) (λ t. rw (tested ∙ t) (root-planned t)) (λ t. rw (tested ∙ t) (inside t (d .height) refl)))
-        where
-          inside : root-full (st .book) ≡ false → (h : ℕ) → d .height ≡ h → Planned st p x d
-              (cond (eqb (height-found ws st p 1) 0)
-              (plain-plan ws (widths-of ws) (st .book .under) (place-tag st p))
-              (split-plan (st .book .s) (widths-of ws) (highs-of ws) (numbers-at ws (widths-of ws) (st .book .under) (place-tag st p)) (height-found ws st p 1)
-              (left-border (count st) (count st) ws (entry (numbers-at ws (widths-of ws) (st .book .under) (place-tag st p)) (height-found ws st p 1)) (place-tag st p))))
-          inside t zero e = rw (eq-eqb _ 0 (split-height-said t ∙ e)) (plain-planned e)
-          inside t (suc h) e = rw (split-height-said t, numbers-said, ne-eqb (d .height) 0 (λ i. omega arith)) (split-planned t h e)
+          highest-one (found-highest (length ns)) (full-highest (k .s) (k .r) (sound-said .degrees .r-least) (k .root) (k .under) (length ns) p (rooted k (sane sound-said) .good) size-said (empty-low k (sane sound-said)))
+          ∙ sym (split-inner (length ns) p k (d .grows ∙ t)) ∙ d .height-is
+
+      -- the tags of the split node, and the tag left of it
+      split-size : 1 ≤ d .height → d .height ≤ st .book .under → entry (sizes-before ws st p) (d .height) ≡ length (d .old)
+      split-size least most =
+          let k = st .book in
+          sizes-said (d .height) least most ∙ sym (at-inside (k .root) nil (width st) (height k) (d .height) p 0 size-said (λ i. omega arith) .2) ∙ d .size-is most
+
+      split-left : 1 ≤ d .height → d .height ≤ st .book .under →
+          left-border (count st) (count st) ws (entry (numbers-before ws st p) (d .height)) (place-tag st p) ≡ ended (place-tag st (length (d .before))) (d .offset)
+      split-left least most =
+          let steps : p - length (d .before) ≡ d .offset = omega (arith, d .place-is) in
+          left-said (d .height) least most ∙ rw (d .left-is most, steps)
+
+      inside-planned : ltb (st .book .under) (d .height) ≡ false → (h : ℕ) → d .height ≡ h → Planned st p ns d
+          (cond (eqb (height-found ws st p (length ns)) 0)
+          (plain-plan ws (widths-of ws) (length ns) (st .book .under) (place-tag st p))
+          (split-plan (st .book .s) (st .book .r) (widths-of ws) (numbers-at ws (widths-of ws) (st .book .under) (place-tag st p)) (height-found ws st p (length ns))
+          (entry (sizes-before ws st p) (height-found ws st p (length ns))) (length ns)
+          (left-border (count st) (count st) ws (entry (numbers-at ws (widths-of ws) (st .book .under) (place-tag st p)) (height-found ws st p (length ns))) (place-tag st p))))
+      inside-planned t zero e = rw (eq-eqb _ 0 (height-said t ∙ e)) (plain-planned e)
+      inside-planned t (suc h) e =
+          let most = ltb-false (st .book .under) (d .height) t in
+          rw (height-said t, numbers-said, ne-eqb (d .height) 0 (λ i. omega arith), split-size (omega arith) most, split-left (omega arith) most) (split-planned (omega arith) most)
+
+      -- THE PLAN OF A ROW OF TAGS
+      pub planned : Planned st p ns d (plan-of ws (length ns) (place-tag st p))
+      unfolding plan
+      planned =
+          rw (plan-said (length ns))
+          (by-test (ltb (st .book .under) (d .height))
+          (λ t. rw (root-found ∙ t, top-said t, front-said) (root-planned (ltb-true _ _ t)))
+          (λ t. rw (root-found ∙ t) (inside-planned t (d .height) refl)))

@@ -9,7 +9,8 @@ use lib.ListN.{length, getD, take, drop, length-append, length-drop, length-map,
 use lib.Seq.{length-take-le, getD-append-add, drop-drop}
 use Rattle.store_types.specs.Limits.{no-tag, most-tags}
 use Rattle.shape.specs.Tables.{entry}
-use Rattle.tree.specs.Forest.{labels, spread}
+use Rattle.tree.specs.Forest.{labels}
+use Rattle.tree.specs.Grown.{path}
 use Rattle.tree_laws.proofs.Ancestors.{getD-middle}
 use Rattle.calls_laws.proofs.Reader.{getD-map}
 use Rattle.edit_model.specs.Image.{Image, image-words, with-labels}
@@ -17,7 +18,7 @@ use Rattle.edit_model.specs.Insert.{Plan, applied}
 use Rattle.edit_model.proofs.Image.{Proper}
 use Rattle.edit_model.proofs.Along.{unmarked-row}
 use Rattle.edit_model.proofs.Differ.{differ, differ-append, differ-same}
-use Rattle.edit_model.proofs.Added.{tag-before}
+use Rattle.edit_model.proofs.Behind.{tag-before}
 use Rattle.edit_model.proofs.Applied.{labels-widths, Applies, applied-words, applied-moved}
 
 -- the same added to each number, where there are any
@@ -41,13 +42,13 @@ differ-parts ts before old new beside raised after same same-beside =
       differ-same (drop (length beside) from-beside) after,
     )
 
--- A PLAN THAT IS RIGHT on an image: its labels in parts, of which the second becomes that of complete trees, the third is
--- raised by a, and the bound cuts the third from the fourth
-pub record Right (v : Image) (table : List ℕ) (w : ℕ → ℕ) (r : ℕ) (q : Plan) (before old new beside after : List ℕ) (a : ℕ) : Type 0 where
+-- A PLAN THAT IS RIGHT on an image: its labels in parts, of which the second becomes that of trees of which only the cursor's is
+-- not complete, the third is raised by a, and the bound cuts the third from the fourth
+pub record Right (v : Image) (table : List ℕ) (w : ℕ → ℕ) (s r : ℕ) (q : Plan) (before old new beside after : List ℕ) (a : ℕ) : Type 0 where
   pub was : v .labels ≡ before ++ (old ++ (beside ++ after))
   pub left : q .left ≡ tag-before v (length before)
   pub count : q .count ≡ length old
-  pub complete : (zs : List ℕ) → length zs ≡ length old → labels (spread (q .height) r zs) w (q .height) (q .number) ≡ new
+  pub complete : (zs : List ℕ) → length zs ≡ length old → labels (path s r (q .height) (q .cursor) (q .rest) zs) w (q .height) (q .number) ≡ new
   pub as-many : length new ≡ length old
   pub wide : (h : ℕ) → h ≤ q .height → entry table h ≡ w h
   pub by-is : 1 ≤ length beside → q .by ≡ a
@@ -68,9 +69,9 @@ pub record Row-in (us : List ℕ) (n : ℕ) (q : Plan) : Type 0 where
   pub left-is : q .left ≡ tag-before (words-in .image) from
   pub fits : from + q .count ≤ length (words-in .image .tags)
 
-pub row-in : {us : List ℕ} {n : ℕ} (q : Plan) (g : Words-in us n) (table : List ℕ) (w : ℕ → ℕ) (r : ℕ) (before old new beside after : List ℕ) (a : ℕ) →
-    Right (g .image) table w r q before old new beside after a → Row-in us n q
-row-in q g table w r before old new beside after a e =
+pub row-in : {us : List ℕ} {n : ℕ} (q : Plan) (g : Words-in us n) (table : List ℕ) (w : ℕ → ℕ) (s r : ℕ) (before old new beside after : List ℕ) (a : ℕ) →
+    Right (g .image) table w s r q before old new beside after a → Row-in us n q
+row-in q g table w s r before old new beside after a e =
     record {
       words-in = g;
       from = length before;
@@ -78,8 +79,8 @@ row-in q g table w r before old new beside after a e =
       fits = omega (arith, e .count, simp length-append at (ap length (e .was)), g .proper .labelled);
     }
 
-module _ {v : Image} (h : Proper v) (few : length (v .facts) ≤ most-tags) (table : List ℕ) (w : ℕ → ℕ) (r : ℕ) (q : Plan) (before old new beside after : List ℕ) (a : ℕ)
-    (e : Right v table w r q before old new beside after a) (ls : List ℕ) (now : ls ≡ before ++ (new ++ (map (λ l. l + a) beside ++ after)))
+module _ {v : Image} (h : Proper v) (few : length (v .facts) ≤ most-tags) (table : List ℕ) (w : ℕ → ℕ) (s r : ℕ) (q : Plan) (before old new beside after : List ℕ) (a : ℕ)
+    (e : Right v table w s r q before old new beside after a) (ls : List ℕ) (now : ls ≡ before ++ (new ++ (map (λ l. l + a) beside ++ after)))
     (small : (i : ℕ) → i < length ls → getD ls i 0 < no-tag) where
   many-now : length ls ≡ length before + (length new + (length beside + length after))
   many-now = simp (length-append, length-map) at (ap length now)
@@ -100,7 +101,7 @@ module _ {v : Image} (h : Proper v) (few : length (v .facts) ≤ most-tags) (tab
       (List·getD-append (map (λ l. l + a) beside) after 0 i (rw length-map l) ∙ getD-map (λ l. l + a) beside i 0 0 l) in
       rw here at (small at (omega (arith, many-now)))
 
-  applies : Applies v table r q before old new beside after
+  applies : Applies v table s r q before old new beside after
   applies =
       let part = take (length old) (drop (length before) (v .tags)) in
       let part-long : length part ≡ length old = length-take-le _ _ (rw length-drop (omega (arith, many-then))) in
@@ -108,7 +109,7 @@ module _ {v : Image} (h : Proper v) (few : length (v .facts) ≤ most-tags) (tab
         was = e .was;
         left = e .left;
         count = e .count;
-        new-is = labels-widths (spread (q .height) r part) (entry table) w (q .height) (q .number) (e .wide) ∙ e .complete part part-long;
+        new-is = labels-widths (path s r (q .height) (q .cursor) (q .rest) part) (entry table) w (q .height) (q .number) (e .wide) ∙ e .complete part part-long;
         as-many = e .as-many;
         small = λ i l. omega (arith, new-below i l);
         low = e .low;
@@ -117,14 +118,14 @@ module _ {v : Image} (h : Proper v) (few : length (v .facts) ≤ most-tags) (tab
       }
 
   -- the words with the labels afterwards
-  pub renumbered-words : (rest : List ℕ) → applied (image-words v ++ rest) table r (length (v .facts)) q .words ≡ image-words (with-labels ls v) ++ rest
+  pub renumbered-words : (rest : List ℕ) → applied (image-words v ++ rest) table s r (length (v .facts)) q .words ≡ image-words (with-labels ls v) ++ rest
   renumbered-words rest =
-      applied-words h few rest table r q before old new beside after applies ∙ rw (raised-same (q .by) a beside (e .by-is), now)
+      applied-words h few rest table s r q before old new beside after applies ∙ rw (raised-same (q .by) a beside (e .by-is), now)
 
   -- and how many labels of unmarked tags are others
-  pub renumbered-moved : (rest : List ℕ) → applied (image-words v ++ rest) table r (length (v .facts)) q .moved ≡ differ (unmarked-row v) (v .labels) ls
+  pub renumbered-moved : (rest : List ℕ) → applied (image-words v ++ rest) table s r (length (v .facts)) q .moved ≡ differ (unmarked-row v) (v .labels) ls
   renumbered-moved rest =
       let raised = map (λ l. l + a) beside in
-      applied-moved h few rest table r q before old new beside after applies
+      applied-moved h few rest table s r q before old new beside after applies
       ∙ rw (raised-same (q .by) a beside (e .by-is), e .was, now)
       (sym (differ-parts (unmarked-row v) before old new beside raised after (sym (e .as-many)) (sym (length-map beside (λ l. l + a)))))

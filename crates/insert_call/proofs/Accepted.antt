@@ -1,216 +1,340 @@
--- An accepted insertion: its place, the tables and its plans are as the code asks, and so are the words with the new tags.
+-- An accepted sheet that has tags: its place, the tables and its plan are as the code asks, and so are the words with the new tags.
 -- Assumes nothing.
-use mathlib.Core.Path.{_≡_, sym, _∙_}
-use mathlib.Core.Bool.{false}
-use mathlib.Core.List.{List, _∷_}
+use mathlib.Core.Path.{_≡_, refl, ap, sym, _∙_}
+use mathlib.Core.Bool.{true, false, cond}
+use mathlib.Core.List.{List, [], map}
 use mathlib.Core.Logic.{_⊎_, inl, inr}
-use Prim.Native.Nat.{ℕ, suc, pred, _*_, _-_, _^_, _≤_, _<_}
-use native.Mathlib.Nat.{one-mul, mul-one, pow-zero, pow-succ', one-le-pow}
+use Prim.Native.Nat.{ℕ, zero, suc, pred, _+_, _*_, _-_, _^_, _≤_, _<_}
+use native.Mathlib.Numerals.{sub-one}
 use native.Mathlib.Omega.{arith}
-use borrow.Author.Tests.{ne-eqb, eqb-true}
-use lib.Dec.{eqb}
-use lib.ListN.{length, getD, replicate}
-use Rattle.lists.specs.Lists.{first}
-use Rattle.store_types.specs.Limits.{no-tag, label-limit, most-tags}
+use borrow.Author.Tests.{eq-eqb, ne-eqb, le-ltb}
+use lib.ListN.{length, getD, replicate, length-map}
+use Rattle.store_types.specs.Limits.{no-tag, most-tags}
+use Rattle.store_types.specs.Layout.{at-s, at-r, at-height, at-count, header-words, word-at, words-for, Records}
 use Rattle.lists.proofs.Tests.{by-test}
-use Rattle.store_types.specs.Layout.{at-s, at-r, at-height, at-count, word-at, Records}
-use Rattle.shape.proofs.TableLaws.{table-at, table-bound}
-use Rattle.shape.proofs.Fits.{power-below}
-use Rattle.shape.specs.Tables.{entry, entry-limit, widths-of, lows-of, highs-of, table-length}
-use Rattle.shape.specs.Packed.{Packed, widths-in, s-in, r-in}
-use Rattle.tree.specs.Book.{height}
-use Rattle.calls.specs.Kind.{Kind, kind-word}
-use Rattle.calls.specs.Store.{Fact, fact, count, row}
-use Rattle.calls.specs.Insert.{insert-kinds, position, insert-refusal}
+use Rattle.words.specs.Places.{Tag-or-none, Place-there, behind, up-word}
+use Rattle.words.proofs.PlaceLaws.{place-in}
+use Rattle.shape.specs.Tables.{entry, entry-limit, table, table-length, widths-of, lows-of, highs-of}
+use Rattle.shape.specs.Packed.{Packed, widths-in, highs-in, s-in, r-in}
+use Rattle.shape.specs.Needs.{Tables-fit}
+use Rattle.shape.specs.Sums.{cut}
+use Rattle.shape.proofs.Sums.{cut-small}
+use Rattle.shape.proofs.Fits.{Fits, widths-fit, lows-fit, highs-fit}
+use Rattle.tree.specs.Forest.{size}
+use Rattle.tree.specs.Book.{height, inserted-row}
+use Rattle.tree.specs.Grown.{height-for}
+use Rattle.tree_laws.proofs.RowHeight.{search-least, height-grown}
+use Rattle.calls.specs.Kind.{Kind, kind-of, is-begin}
+use Rattle.calls.specs.Store.{Store, fact, count, row}
+use Rattle.calls.specs.Nesting.{new-facts}
+use Rattle.calls.specs.Insert.{position, up-at, book-after, insert-store, insert-sheet-refusal, insert-sheet-store}
 use Rattle.calls.specs.Words.{Says}
-use Rattle.calls.specs.Replies.{said, insert-refused}
-use Rattle.calls_laws.proofs.Inserts.{Row-accepted, accepted-row}
-use Rattle.calls_laws.proofs.Steps.{insert-passed}
+use Rattle.calls.specs.Promise.{Insert-sound}
+use Rattle.calls.specs.Replies.{said, insert-sheet-refused}
+use Rattle.calls_laws.proofs.Tests.{Sound, sane, facts-of}
+use Rattle.calls_laws.proofs.Heights.{sound-height}
+use Rattle.calls_laws.proofs.Sections.{up-fits}
+use Rattle.calls_laws.proofs.Inserts.{row-degrees, Row-accepted, accepted-row, insert-sound}
+use Rattle.calls_laws.proofs.Steps.{Sheet-accepted, accepted-sheet}
 use Rattle.calls_laws.proofs.WordSteps.{header-said}
 use Rattle.walk_model.specs.Walk.{shape-of}
 use Rattle.walk_model.specs.Watch.{watched-numbers, Tables-at, sizes-at}
 use Rattle.edit_model.specs.Image.{image-of}
-use Rattle.words.specs.Places.{Tag-or-none, Place-there, behind}
-use Rattle.words.proofs.PlaceLaws.{place-in}
-use Rattle.edit_model.specs.Insert.{numbers-at, added, plan-of}
+use Rattle.edit_model.specs.Split.{left-border}
+use Rattle.edit_model.specs.Insert.{Plan, numbers-at, added-row, raised-words, root-plan, plan, plan-of, row-edit}
 use Rattle.edit_model.proofs.Image.{proper-image}
-use Rattle.edit_model.proofs.Plans.{sound-said, image-said, behind-said}
-use Rattle.edit_model.proofs.Single.{single-row}
+use Rattle.edit_model.proofs.Plans.{place-tag, sound-said, image-said, behind-said, sizes-few}
 use Rattle.edit_model.proofs.Renumbered.{Words-in, Row-in}
-use Rattle.edit_model.proofs.Inserted.{place-said, position-said, few-said, room-said, labels-said}
-use Rattle.shape.proofs.Sums.{cut-small}
+use Rattle.edit_model.proofs.Row.{place-said, up-said, fits, row-found, path-there, levels-there, lower-there, header-there}
 use Rattle.store_refuse.proofs.Laws.{accepted-says, accepted-store}
-use Rattle.insert_link.specs.Needs.{New-tag-fits}
-use Rattle.insert_plan.specs.Needs.{Plan-reads, Applicable}
+use Rattle.insert_link.specs.Needs.{New-row-fits}
+use Rattle.insert_plan.specs.Parts.{inner-plan}
+use Rattle.insert_plan.specs.Needs.{Node-fits, Root-reads, Plan-reads, Applicable}
+use Rattle.insert_plan.proofs.Plans.{plan-root, plan-inner, plan-by}
 use Rattle.insert_refuse.proofs.Headers.{Ranges, ranges, fits-of}
-use Rattle.insert_plan.proofs.Plans.{Plan-fits, plan-fits}
-use Rattle.insert_call.proofs.Rows.{records-in, issued-in, place-or-none, behind-or-none, left-or-none, row-there}
+use Rattle.insert_call.specs.Parts.{row-put, put-edit}
+use Rattle.insert_call.specs.Needs.{Edits, Put-fits, Accepted, Rises}
+use Rattle.insert_call.proofs.Rows as rows
+use Rattle.insert_call.proofs.Tables.{Tables-to, r-said, s-said, widths-most, highs-most, splits-said}
 
--- WORDS THAT SAY A STORE: the place is one of its tags or the front
-module _ (ws : List ℕ) (says : Says ws (said ws)) where
-  here : Ranges (word-at ws at-s) (word-at ws at-r) (word-at ws at-height) (word-at ws at-count)
+module _ {ws cs : List ℕ} {y : ℕ} (a : Accepted ws cs y) where
+  abbrev st : Store
+  st = said ws
+
+  abbrev ks : List Kind
+  ks = map kind-of cs
+
+  abbrev n : ℕ
+  n = word-at ws at-count
+
+  abbrev s : ℕ
+  s = word-at ws at-s
+
+  abbrev r : ℕ
+  r = word-at ws at-r
+
+  pub says : Says ws st
+  unfolding insert-sheet-refused
+  says = accepted-says ws (insert-sheet-refusal (length ws) cs y) (a .refusal)
+
+  sheet : Sheet-accepted (length ws) cs y st
+  unfolding insert-sheet-refused
+  sheet = accepted-sheet (length ws) cs y st (accepted-store ws (insert-sheet-refusal (length ws) cs y) (a .refusal))
+
+  as-many : length ks ≡ length cs
+  as-many = length-map cs kind-of
+
+  pub some-kinds : 1 ≤ length ks
+  some-kinds = rw as-many (a .some)
+
+  pub accepted : Row-accepted (length ws) ks y st
+  accepted = accepted-row (length ws) ks y st (sheet .row)
+
+  pub here : Ranges s r (word-at ws at-height) n
   here = ranges ws says
 
-  -- THE TABLES
-  pub widths-at : (h : ℕ) → h ≤ word-at ws at-height → entry (widths-of ws) h ≡ (word-at ws at-s * word-at ws at-r - 1) ^ h
-  unfolding widths-of
-  widths-at h l = table-at 1 _ (word-at ws at-height) h l ∙ one-mul ((word-at ws at-s * word-at ws at-r - 1) ^ h)
+  own : Sound st
+  own = sound-said ws st says
 
-  pub widths-most : (h : ℕ) → entry (widths-of ws) h ≤ label-limit
-  unfolding widths-of
-  widths-most h =
-      omega (arith, table-bound 1 (word-at ws at-s * word-at ws at-r - 1) (word-at ws at-height) (omega (arith, here .product)) h, one-mul ((word-at ws at-s * word-at ws at-r - 1) ^ word-at ws at-height), power-below (fits-of here))
+  issued : n ≡ count st
+  issued = header-said ws st says .issued
 
-  pub widths-least : (h : ℕ) → h ≤ word-at ws at-height → 1 ≤ entry (widths-of ws) h
-  widths-least h l = rw (widths-at h l) (one-le-pow h _ (omega (arith, here .product)))
-
-  pub highs-at : (h : ℕ) → h ≤ word-at ws at-height → entry (highs-of ws) h ≡ word-at ws at-s * word-at ws at-r ^ h
-  unfolding highs-of
-  highs-at h l = table-at _ _ (word-at ws at-height) h l
-
-  pub lows-at : (h : ℕ) → h ≤ word-at ws at-height → entry (lows-of ws) h ≡ word-at ws at-r ^ h
-  unfolding lows-of
-  lows-at h l = table-at 1 _ (word-at ws at-height) h l ∙ one-mul (word-at ws at-r ^ h)
-
-  -- THE PLAN of k tags
-  pub plan-said : (k y : ℕ) → Plan-fits (word-at ws at-r) (word-at ws at-height) (plan-of ws k y)
-  unfolding plan-of
-  plan-said k y =
-      let levels : suc (pred (word-at ws at-height)) ≡ word-at ws at-height = omega (arith, here .low) in
-      rw levels at (plan-fits ws (word-at ws at-s) (word-at ws at-r) (widths-of ws) (highs-of ws) (sizes-at ws y (replicate table-length 0)) (word-at ws at-count) k (pred (word-at ws at-height)) y
-      (omega (arith, here .degrees .s-least)) (here .degrees .s-most) (λ h l. highs-at h (omega arith)) widths-most)
-
-  -- in one array
-  module _ {t : List ℕ} (packed : Packed t (widths-of ws) (lows-of ws) (highs-of ws)) where
-    pub r-said : r-in t ≡ word-at ws at-r
-    r-said = rw (packed .lows-are) (lows-at 1 (omega (arith, here .low)) ∙ pow-succ' (word-at ws at-r) 0 ∙ rw pow-zero (mul-one (word-at ws at-r)))
-
-    pub s-said : s-in t ≡ word-at ws at-s
-    s-said = rw (packed .highs-are) (highs-at 0 (omega arith) ∙ rw pow-zero (mul-one (word-at ws at-s)))
-
-    pub widths-said : (h : ℕ) → entry (widths-in t) h ≤ entry-limit
-    widths-said h = rw (packed .widths-are) (omega (arith, widths-most h))
-
-    -- the plan can be done on words where its row is
-    pub applicable : (k y m : ℕ) (us : List ℕ) → m ≤ most-tags → Row-in us m (plan-of ws k y) → Applicable us (plan-of ws k y) t
-    applicable k y m us few e =
-        let p = plan-said k y in
-        let issued = issued-in (e .words-in) few in
-        record {
-          records = rw issued (records-in (e .words-in) few);
-          left = rw issued (left-or-none e few);
-          row = row-there e few;
-          trees = record {
-            degree = rw r-said (here .degrees .r-least);
-            height = omega (arith, p .height, here .high);
-            least = λ l. rw r-said (p .least);
-            number = cut-small _;
-            widths = widths-said;
-            lows = λ h l. rw r-said (rw (packed .lows-are) (lows-at h (omega (arith, p .height))));
-          };
-          by = p .by;
-        }
-
--- AN ACCEPTED ROW of new tags
-module _ (ws : List ℕ) (says : Says ws (said ws)) (ks : List Kind) (y : ℕ) (a : Row-accepted (length ws) ks y (said ws)) where
-  issued : word-at ws at-count ≡ count (said ws)
-  issued = header-said ws (said ws) says .issued
-
-  words-said : Words-in ws (word-at ws at-count)
+  -- THE PLACE, the tag behind it and the begin around it
+  words-said : Words-in ws n
   unfolding image-of
-  words-said =
-      let g = image-said ws (said ws) says in
-      record { image = image-of (said ws); rest = g .0; words-are = g .1; proper = proper-image (sound-said ws (said ws) says); counted = sym issued }
+  words-said = let g = image-said ws st says in record { image = image-of st; rest = g .0; words-are = g .1; proper = proper-image own; counted = sym issued }
 
-  few-there : word-at ws at-count ≤ most-tags
-  few-there = ranges ws says .few
+  pub few-all : n + length cs ≤ most-tags
+  few-all = rw (issued, ← as-many) (accepted .few)
 
-  pub records-said : Records ws (word-at ws at-count)
-  records-said = records-in words-said few-there
+  pub records-said : Records ws n
+  records-said = rows.records-in words-said (here .few)
 
-  pub place-or-front : Tag-or-none (word-at ws at-count) y
-  place-or-front = go (a .place)
+  place-or-front : Tag-or-none n y
+  place-or-front = go (accepted .place)
     where
-      go : (y ≡ no-tag) ⊎ ((y < count (said ws)) × (fact (said ws) y .marked ≡ false)) → Tag-or-none (word-at ws at-count) y
+      go : (y ≡ no-tag) ⊎ ((y < count st) × (fact st y .marked ≡ false)) → Tag-or-none n y
       go (inl e) other = absurd (other e)
       go (inr l) other = rw issued (l .0)
 
-  pub plan-reads : {t : List ℕ} → Tables-at ws y t → Plan-reads ws y t
-  unfolding watched-numbers numbers-at shape-of
-  plan-reads {t} tables =
-      let f = ranges ws says in
-      record {
-        records = records-said;
-        place = place-or-front;
-        low = f .low;
-        high = omega (arith, f .high);
-        least = rw (s-said ws says (tables .packed)) (omega (arith, f .degrees .s-least));
-        most = rw (s-said ws says (tables .packed)) (f .degrees .s-most);
-        widths = widths-said ws says (tables .packed);
-        numbers-are = tables .numbers ∙ rw (tables .packed .widths-are);
-        numbers = tables .fit;
-      }
+  pub place-there : Place-there ws y
+  place-there = place-in records-said place-or-front
 
--- of which the first goes in
-module _ (ws : List ℕ) (says : Says ws (said ws)) (c : Kind) (ks : List Kind) (y : ℕ) (a : Row-accepted (length ws) (c ∷ ks) y (said ws)) where
-  count-is : word-at ws at-count ≡ count (said ws)
-  count-is = issued ws says (c ∷ ks) y a
-
-  pub tag-fits : New-tag-fits ws (word-at ws at-count) y
+  next-or-none : Tag-or-none n (behind ws y)
   unfolding image-of words-said
-  tag-fits =
-      let p = position y (said ws) in
-      let next : behind ws y ≡ getD (row (said ws)) p no-tag =
-      rw (place-said ws (said ws) says c ks y a) at (behind-said ws (said ws) says p (position-said ws (said ws) says c ks y a)) in
+  next-or-none =
+      let p = position y st in
+      let next : behind ws y ≡ getD (row st) p no-tag = rw (place-said ws st says ks y some-kinds accepted) at (behind-said ws st says p (fits ws st says ks y some-kinds accepted)) in
+      rw next (rows.place-or-none words-said (here .few) p)
+
+  up-or-none : Tag-or-none n (up-word ws y)
+  unfolding up-at
+  up-or-none = rw (up-said ws st says ks y some-kinds accepted) (go (accepted .place))
+    where
+      around : (x : ℕ) → (x ≡ no-tag) ⊎ (x < count st) → Tag-or-none n x
+      around x (inl e) other = absurd (other e)
+      around x (inr l) other = rw issued l
+
+      go : (y ≡ no-tag) ⊎ ((y < count st) × (fact st y .marked ≡ false)) → Tag-or-none n (up-at y st)
+      go (inl e) = rw (eq-eqb y no-tag e) (λ other. absurd (other refl))
+      go (inr l) =
+          rw (ne-eqb y no-tag (λ e. omega (arith, own .few, l .0)))
+          (by-test (is-begin (fact st y .kind)) (λ t. rw t (around y (inr (l .0)))) (λ t. rw t (around (fact st y .up) (up-fits own y (l .0)))))
+
+  pub new-row : New-row-fits ws cs n y (up-word ws y)
+  new-row =
       record {
-        records = record { few = rw count-is (few-said ws (said ws) says c ks y a); long = rw count-is (room-said ws (said ws) says c ks y a) };
-        place = place-or-front ws says (c ∷ ks) y a;
-        next = rw next (place-or-none (words-said ws says (c ∷ ks) y a) (few-there ws says (c ∷ ks) y a) p);
+        records = record { few = few-all; long = rw (issued, ← as-many) (accepted .room) };
+        some = a .some;
+        kinds = sheet .kinds;
+        nesting = sheet .nesting;
+        place = place-or-front;
+        next = next-or-none;
+        up = up-or-none;
       }
 
-  -- with it in, its plan can be done
-  module _ (t : Fact) where
-    row-one : Row-in (added ws (word-at ws at-count) y (t .mate) (t .up) (kind-word (t .kind) (t .marked))) (suc (word-at ws at-count)) (plan-of ws 1 y)
-    row-one =
-        rw count-is
-        (rw (place-said ws (said ws) says c ks y a) at
-        (single-row ws (said ws) says (position y (said ws)) (position-said ws (said ws) says c ks y a) t (few-said ws (said ws) says c ks y a) (room-said ws (said ws) says c ks y a) (labels-said ws (said ws) says c ks y a)))
+  -- H AFTERWARDS is the least height with room, and labels fit there
+  abbrev top : ℕ
+  top = height-for (length cs) s r (n + length cs) (word-at ws at-height)
 
-    few-more : suc (word-at ws at-count) ≤ most-tags
-    few-more = rw count-is (few-said ws (said ws) says c ks y a)
+  top-is : height (inserted-row (length ks) (position y st) (count st) (st .book)) ≡ top
+  top-is =
+      let head = header-said ws st says in
+      let inside : position y st ≤ size (st .book .root) = omega (arith, fits ws st says ks y some-kinds accepted, own .as-many) in
+      sym (height-grown (length ks) (position y st) (count st) (st .book) (sane own) inside)
+      ∙ rw (as-many, own .as-many, head .degree-s, head .degree-r, head .issued, head .levels)
 
-    pub one-applicable : {tables : List ℕ} → Packed tables (widths-of ws) (lows-of ws) (highs-of ws) →
-        Applicable (added ws (word-at ws at-count) y (t .mate) (t .up) (kind-word (t .kind) (t .marked))) (plan-of ws 1 y) tables
-    one-applicable packed = applicable ws says packed 1 y (suc (word-at ws at-count)) _ few-more row-one
+  -- as the code has searched it
+  pub height-read : {m g : ℕ} → m ≡ n → g ≡ height-for (m + length cs - n) s r (m + length cs) (word-at ws at-height) → g ≡ top
+  height-read {m} counted found =
+      let more : n + length cs - n ≡ length cs = omega arith in
+      rw (counted, more) at found
 
-    -- a tag right behind it has none or a tag behind it
-    pub next-or-none : Tag-or-none (suc (word-at ws at-count)) (behind (added ws (word-at ws at-count) y (t .mate) (t .up) (kind-word (t .kind) (t .marked))) (word-at ws at-count))
-    next-or-none = behind-or-none (row-one .words-in) few-more (word-at ws at-count) (omega arith)
+  pub stays-read : {m g h : ℕ} → m ≡ n → g ≡ height-for (m + length cs - n) s r (m + length cs) (word-at ws at-height) → h ≡ word-at ws at-height → g ≤ h → top ≤ word-at ws at-height
+  stays-read counted found high low = omega (arith, height-read counted found)
 
--- AN ACCEPTED CALL of kind c
-module _ (ws : List ℕ) (c y : ℕ) (z : insert-refused c y ws ≡ 0) where
-  pub says-accepted : Says ws (said ws)
-  unfolding insert-refused
-  says-accepted = accepted-says ws (insert-refusal (length ws) c y) z
+  pub raised : word-at ws at-height ≤ top
+  raised = search-least (length cs) s r (n + length cs) (word-at ws at-height) (here .degrees .s-least) (here .degrees .r-least) (omega (arith, here .below)) .low
 
-  pub store-accepted : insert-refusal (length ws) c y (said ws) ≡ 0
-  unfolding insert-refused
-  store-accepted = accepted-store ws (insert-refusal (length ws) c y) z
+  sound-after : Sound (insert-store ks y st)
+  unfolding Insert-sound Says
+  sound-after = facts-of (insert-store ks y st) (insert-sound (length ws) y ks st (says .0) (sheet .nesting) some-kinds (sheet .row))
 
-  pub row-accepted : Row-accepted (length ws) (insert-kinds c) y (said ws)
-  unfolding Says
-  row-accepted = accepted-row (length ws) (insert-kinds c) y (said ws) (insert-passed (length ws) c y (said ws) (says-accepted .0) store-accepted)
+  pub fits-after : Fits s r top
+  unfolding insert-store book-after
+  fits-after =
+      let head = header-said ws st says in
+      let same = row-degrees (length ks) (position y st) (count st) (st .book) in
+      let labels = rw (same .0, same .1, top-is, ← head .degree-s, ← head .degree-r) at (sound-after .labels-fit) in
+      record {
+        s-least = here .degrees .s-least;
+        s-most = here .degrees .s-most;
+        r-least = here .degrees .r-least;
+        r-most = here .degrees .r-most;
+        high = rw top-is at (sound-height sound-after);
+        labels = labels;
+      }
 
-  -- its kind is 1 or 3
-  pub kind-accepted : (c ≡ 1 → ⊥) → c ≡ 3
-  unfolding insert-refusal first
-  kind-accepted other =
-      by-test (eqb c 3) (eqb-true c 3)
-      (λ t. let refused : _≡_ {A = ℕ} 4 0 = rw (ne-eqb c 1 other, t) at store-accepted in absurd (omega arith))
+  some-top : 1 ≤ top
+  some-top = omega (arith, raised, here .low)
 
-  -- its place, and what its plans read
-  pub place-accepted : Place-there ws y
-  place-accepted = let row = row-accepted in place-in (records-said ws says-accepted (insert-kinds c) y row) (place-or-front ws says-accepted (insert-kinds c) y row)
+  pub tables-fit : Tables-fit s r top
+  tables-fit = record { s-most = here .degrees .s-most; r-most = here .degrees .r-most; widths = widths-fit fits-after; lows = lows-fit fits-after; highs = highs-fit fits-after }
 
-  pub plan-accepted : {t : List ℕ} → Tables-at ws y t → Plan-reads ws y t
-  plan-accepted = plan-reads ws says-accepted (insert-kinds c) y row-accepted
+  -- THE PLAN, with the tables of H afterwards
+  abbrev q : Plan
+  q = plan-of ws (length cs) y
+
+  -- the words with the new tags
+  put-is : row-put ws cs n y (up-word ws y) q ≡ raised-words (added-row ws (count st) y (new-facts (up-at y st) [] (count st) ks)) (plan-of ws (length ks) y .height)
+  unfolding row-put
+  put-is = rw (issued, up-said ws st says ks y some-kinds accepted, as-many)
+
+  by-fits : (k : ℕ) → plan-of ws k y .by ≤ entry-limit
+  unfolding plan-of
+  by-fits k = plan-by ws _ _ _ _ y _ _ _ _
+
+  module _ {t : List ℕ} (packed : Tables-to s r top t) where
+    pub applicable : Applicable (row-put ws cs n y (up-word ws y) q) q t
+    applicable =
+        let e = row-found ws st says ks y some-kinds accepted in
+        let few = accepted .few in
+        let counted = rows.issued-in (e .words-in) few in
+        let path = rw (← header-said ws st says .degree-r) at (path-there ws st says ks y some-kinds accepted) in
+        let lower = rw top-is at (lower-there ws st says ks y some-kinds accepted) in
+        rw (put-is, ← as-many)
+        (record {
+          records = rw counted (rows.records-in (e .words-in) few);
+          left = rw counted (rows.left-or-none e few);
+          row = rows.row-there e few;
+          path = record {
+            most = rows.row-there e few .most;
+            path = rw (r-said fits-after some-top packed) path;
+            splits = splits-said fits-after some-top packed _ (omega arith);
+          };
+          numbers = record { number = cut-small _; widths = widths-most fits-after some-top packed };
+          by = by-fits (length ks);
+        })
+
+    -- and doing it is the edit of the row
+    pub edits-row : put-edit ws cs n y (up-word ws y) q t ≡ row-edit ks y ws
+    unfolding put-edit row-put row-edit widths-of
+    edits-row =
+        let up = up-said ws st says ks y some-kinds accepted in
+        let e = row-found ws st says ks y some-kinds accepted in
+        let counted = rw (← issued, ← up, as-many) at (rows.issued-in (e .words-in) (accepted .few)) in
+        let head = header-said ws st says in
+        let there = rw (← issued, ← up, as-many) at (header-there ws st says ks y some-kinds accepted) in
+        let high = rw (← issued, as-many) at top-is in
+        rw (
+          as-many,
+          counted,
+          s-said fits-after some-top packed,
+          r-said fits-after some-top packed,
+          packed .widths-are,
+          there .0 ∙ sym (head .degree-s),
+          there .1 ∙ sym (head .degree-r),
+          there .2 ∙ high,
+        )
+
+    -- as the code has read it
+    module _ {m u : ℕ} {p : Plan} (counted : m ≡ n) (around : u ≡ up-word ws y) (planned : p ≡ q) where
+      pub put-fits : Put-fits ws cs m y u p t
+      put-fits = rw (counted, around, planned) (record { row = new-row; plan = applicable })
+
+      pub put-edits : {xs : List ℕ} {d e : ℕ} → Edits xs d e (put-edit ws cs m y u p t) → Edits xs d e (row-edit ks y ws)
+      put-edits done = rw (counted, around, planned, edits-row) at done
+
+    -- what plans read
+    node-fits : (h : ℕ) → h ≤ top → Node-fits h (length cs) t
+    node-fits h l = record { few = omega (arith, few-all); splits = splits-said fits-after some-top packed h l; limit = highs-most fits-after some-top packed h }
+
+    -- THE ROOT IS SPLIT
+    pub root-reads : Root-reads ws (length cs) (top - 1) t
+    root-reads = record { records = records-said; node = node-fits (top - 1) (omega arith) }
+
+    pub root-planned : word-at ws at-height < top → {p : Plan} → p ≡ root-plan (s-in t) (r-in t) (top - 1) n (length cs) (left-border n n ws 0 y) → p ≡ q
+    unfolding plan-of
+    root-planned higher e =
+        let levels : suc (pred (word-at ws at-height)) ≡ word-at ws at-height = omega (arith, here .low) in
+        e
+        ∙ rw (s-said fits-after some-top packed, r-said fits-after some-top packed, sub-one top)
+        (rw levels at (plan-root ws (sizes-at ws y (replicate table-length 0)) n (length cs) (pred (word-at ws at-height)) y s r (widths-of ws) (highs-of ws) (rw levels higher)))
+
+  -- to a height that the code has found
+  module _ {m : ℕ} (rise : Rises ws cs m) where
+    pub rise-fits : Tables-fit s r m
+    rise-fits = rw (rise .top-is) tables-fit
+
+    module _ {t : List ℕ} (made : Tables-to s r m t) where
+      pub rise-packed : Tables-to s r top t
+      rise-packed = rw (rise .top-is) at made
+
+      pub rise-reads : Root-reads ws (length cs) (m - 1) t
+      rise-reads = rw (rise .top-is) (root-reads rise-packed)
+
+      pub rise-planned : {p : Plan} → p ≡ root-plan (s-in t) (r-in t) (m - 1) n (length cs) (left-border n n ws 0 y) → p ≡ q
+      rise-planned e = root-planned rise-packed (rw (rise .top-is) at (rise .higher)) (rw (rise .top-is) at e)
+
+  -- THE ROOT IS NOT SPLIT: the tables are those of the place
+  module _ (stays : top ≤ word-at ws at-height) {t sz : List ℕ} (tables : Tables-at ws y t) (sizes : sz ≡ sizes-at ws y (replicate table-length 0)) where
+    same-height : top ≡ word-at ws at-height
+    same-height = omega (arith, raised)
+
+    pub packed-here : Tables-to s r top t
+    unfolding widths-of lows-of highs-of
+    packed-here = rw same-height (tables .packed)
+
+    few-sizes : (h : ℕ) → 1 ≤ h → h ≤ pred (word-at ws at-height) → entry sz h ≤ most-tags
+    few-sizes h low high =
+        let head = header-said ws st says in
+        let inside : h ≤ st .book .under = omega (arith, head .levels) in
+        let few = rw (place-said ws st says ks y some-kinds accepted) at (sizes-few ws st says (position y st) (fits ws st says ks y some-kinds accepted) h low inside) in
+        rw sizes (omega (arith, own .few))
+
+    pub inner-reads : Plan-reads ws (length cs) y t sz
+    unfolding watched-numbers numbers-at shape-of
+    inner-reads =
+        record {
+          records = records-said;
+          place = place-or-front;
+          low = here .low;
+          high = omega (arith, here .high);
+          node = node-fits packed-here (pred (word-at ws at-height)) (omega (arith, same-height));
+          limits = highs-most fits-after some-top packed-here;
+          sizes-few = few-sizes;
+          widths = widths-most fits-after some-top packed-here;
+          numbers-are = tables .numbers ∙ rw (tables .packed .widths-are);
+          numbers = tables .fit;
+        }
+
+    pub inner-planned : {p : Plan} → p ≡ inner-plan ws t sz n (length cs) (pred (word-at ws at-height)) y → p ≡ q
+    unfolding plan-of
+    inner-planned e =
+        let levels : suc (pred (word-at ws at-height)) ≡ word-at ws at-height = omega (arith, here .low) in
+        let degree-s = s-said fits-after some-top packed-here in
+        let degree-r = r-said fits-after some-top packed-here in
+        let unsplit = le-ltb (word-at ws at-height) top stays in
+        e
+        ∙ plan-inner ws sz n (length cs) (pred (word-at ws at-height)) y t (rw (degree-s, degree-r, levels) unsplit)
+        ∙ rw (degree-s, degree-r, tables .packed .widths-are, tables .packed .highs-are, sizes)

@@ -1,8 +1,5 @@
-pub mod Keeps
-pub mod Edits
 pub mod Rows
+pub mod Tables
 pub mod Accepted
-pub mod Texts
-pub mod Elements
-pub mod Changes
+pub mod Edits
 pub mod Replies

@@ -1,67 +1,100 @@
 -- The reply and the words of an insertion, refused and accepted, from its refusal and its edit. Assumes nothing.
-use mathlib.Core.Path.{_≡_, ap, _∙_}
-use mathlib.Core.List.{List}
+use mathlib.Core.Path.{_≡_, refl, ap, sym, _∙_}
+use mathlib.Core.List.{List, [], _∷_, map}
 use Prim.Native.Nat.{ℕ, suc, _+_, _≤_}
 use native.Mathlib.Numerals.{add-one}
 use native.Mathlib.Omega.{arith}
-use borrow.Author.Tests.{eqb-true, eqb-false}
-use lib.Dec.{eqb}
+use borrow.Author.Tests.{ne-eqb}
 use lib.ListN.{length, set, drop}
 use lib.Seq.{getD-set-same}
+use Rattle.store_types.specs.declared.InsertReply.{InsertReply}
 use Rattle.store_types.specs.declared.InsertReply.the-variants.{Inserted, Refused}
 use Rattle.store_types.specs.Layout.{at-count, at-stamp, header-words, word-at}
-use Rattle.lists.proofs.Tests.{by-test}
-use Rattle.calls.specs.Insert.{insert-kinds, insert-store}
+use Rattle.lists.specs.Lists.{first}
+use Rattle.calls.specs.Kind.{Kind, kind-of}
+use Rattle.calls.specs.Store.{Store}
+use Rattle.calls.specs.Insert.{insert-refusal, insert-store, insert-sheet-store}
 use Rattle.calls.specs.Words.{words-of, Says, in-front}
-use Rattle.calls.specs.Replies.{said, replied, written, insert-refused, insert-reply, insert-words}
+use Rattle.calls.specs.Promise.{Empty-sheet, Singles-are-sheets}
+use Rattle.calls.specs.Replies.{said, replied, written, refusal-over, insert-refused, insert-reply, insert-words, insert-sheet-refused, insert-sheet-reply, insert-sheet-words}
 use Rattle.calls_laws.proofs.Fields.{header-says}
 use Rattle.calls_laws.proofs.Marks.{marked-few}
-use Rattle.calls_laws.proofs.WordSteps.{header-said}
+use Rattle.calls_laws.proofs.WordSteps.{header-said, refusal-same}
 use Rattle.calls_laws.proofs.Replies.{replied-refused}
-use Rattle.edit_model.specs.Insert.{stamped}
-use Rattle.edit_model.proofs.Inserted.{Edit-right, text-right}
-use Rattle.edit_model.proofs.Elements.{element-right}
-use Rattle.store_refuse.proofs.Laws.{sound-said}
-use Rattle.insert_call.specs.Parts.{call-edit}
-use Rattle.insert_call.specs.Needs.{Edits}
-use Rattle.insert_call.proofs.Accepted.{says-accepted, store-accepted, kind-accepted}
+use Rattle.calls_laws.proofs.Sheets.{empty-sheet, singles-are-sheets}
+use Rattle.edit_model.specs.Insert.{row-edit, stamped}
+use Rattle.edit_model.proofs.Row.{Edit-right, row-right}
+use Rattle.store_refuse.proofs.Laws.{sound-said, accepted-says, accepted-store}
+use Rattle.insert_call.specs.Needs.{Edits, Accepted}
+use Rattle.insert_call.proofs.Accepted.{says, some-kinds, accepted}
 
 -- REFUSED: k is the refusal
-pub refused-all : (ws : List ℕ) (c y : ℕ) {k : ℕ} → k ≡ insert-refused c y ws → (k ≡ 0 → ⊥) → (Refused k ≡ insert-reply c y ws) × (ws ≡ insert-words c y ws)
-unfolding insert-reply insert-words written
-refused-all ws c y {k} e n = rw (← e) (replied-refused Refused k _ n, replied-refused (λ _. ws) k _ n)
+pub refused-all : (ws cs : List ℕ) (y : ℕ) {k : ℕ} → k ≡ insert-sheet-refused cs y ws → (k ≡ 0 → ⊥) → (Refused k ≡ insert-sheet-reply cs y ws) × (ws ≡ insert-sheet-words cs y ws)
+unfolding insert-sheet-reply insert-sheet-words written
+refused-all ws cs y {k} e n = rw (← e) (replied-refused Refused k _ n, replied-refused (λ _. ws) k _ n)
 
--- ACCEPTED
-module _ (ws : List ℕ) (c y : ℕ) (z : insert-refused c y ws ≡ 0) where
-  right : Edit-right c y ws (said ws) (call-edit c y ws)
-  unfolding call-edit
-  right =
-      let says = says-accepted ws c y z in
-      let accepted = store-accepted ws c y z in
-      by-test (eqb c 1)
-      (λ t. let one = eqb-true c 1 t in rw (t, one) (element-right ws (said ws) says y (rw one at accepted)))
-      (λ t. let three = kind-accepted ws c y z (eqb-false c 1 t) in rw three (text-right ws (said ws) says y (rw three at accepted)))
+-- words that are not refused say a store
+pub says-sheet : (ws cs : List ℕ) (y : ℕ) → insert-sheet-refused cs y ws ≡ 0 → Says ws (said ws)
+unfolding insert-sheet-refused
+says-sheet ws cs y z = accepted-says ws _ z
+
+-- ACCEPTED WITHOUT TAGS
+pub empty-all : (ws cs : List ℕ) (y : ℕ) {n : ℕ} → insert-sheet-refused cs y ws ≡ 0 → length cs ≡ 0 → n ≡ word-at ws at-count →
+    (Inserted (record { 0 = n }) 0 0 ≡ insert-sheet-reply cs y ws) × (ws ≡ insert-sheet-words cs y ws)
+unfolding Empty-sheet
+empty-all ws [] y z none counted =
+    let does = empty-sheet y ws in
+    let issued = header-said ws (said ws) (says-sheet ws [] y z) .issued in
+    (rw (counted, issued) (sym (does .reply z)), sym (does .words))
+empty-all ws (c ∷ cs) y z none counted = absurd (omega arith)
+
+-- ACCEPTED WITH TAGS
+store-with : (ks : List Kind) (y : ℕ) (st : Store) → 1 ≤ length ks → insert-sheet-store ks y st ≡ insert-store ks y st
+unfolding insert-sheet-store
+store-with [] y st some = absurd (omega arith)
+store-with (k ∷ ks) y st some = refl
+
+module _ {ws cs : List ℕ} {y : ℕ} (a : Accepted ws cs y) where
+  right : Edit-right (map kind-of cs) y ws (said ws) (row-edit (map kind-of cs) y ws)
+  right = row-right ws (said ws) (says a) (map kind-of cs) y (some-kinds a) (accepted a)
 
   -- vs are the words that its edit leaves
-  module _ {vs : List ℕ} {m s : ℕ} (e : Edits vs m s (call-edit c y ws)) where
-    stamped-are : stamped vs ≡ in-front (words-of (insert-store (insert-kinds c) y (said ws))) ws
+  module _ {vs : List ℕ} {m s : ℕ} (e : Edits vs m s (row-edit (map kind-of cs) y ws)) where
+    stamped-are : stamped vs ≡ in-front (words-of (insert-store (map kind-of cs) y (said ws))) ws
     stamped-are = rw (e .words-are) (right .words-are)
 
     -- the stamp is raised by one, and fits
     pub stamp-fits : header-words ≤ length vs → word-at vs at-stamp ≤ 400000
     unfolding stamped in-front insert-store Says
     stamp-fits long =
-        let su = insert-store (insert-kinds c) y (said ws) in
-        let own = sound-said ws (says-accepted ws c y z) in
-        let there = getD-set-same vs 7 (suc (word-at vs at-stamp)) 0 (omega arith) in
+        let su = insert-store (map kind-of cs) y (said ws) in
+        let own = sound-said ws (says a) in
+        let there = getD-set-same vs at-stamp (suc (word-at vs at-stamp)) 0 (omega arith) in
         let said-there = ap (λ (us : List ℕ). word-at us at-stamp) stamped-are ∙ header-says su (drop (length (words-of su)) ws) .stamp in
         omega (arith, there, said-there, own .stamp-fits, own .few, marked-few (said ws .facts))
 
     -- n, the stamp and the words with the stamp raised, as they are read and left
     pub accepted-all : {n k : ℕ} {us : List ℕ} → n ≡ word-at ws at-count → k ≡ word-at vs at-stamp → us ≡ set vs at-stamp (k + 1) →
-        (Inserted (record { 0 = n }) m s ≡ insert-reply c y ws) × (us ≡ insert-words c y ws)
-    unfolding insert-reply insert-words written replied stamped
-    accepted-all first stamp raised = (
-      rw (z, first, header-said ws (said ws) (says-accepted ws c y z) .issued, e .moved-is, e .split-is, right .moved-is, right .split-is),
-      raised ∙ rw (z, stamp, add-one) stamped-are,
+        (Inserted (record { 0 = n }) m s ≡ insert-sheet-reply cs y ws) × (us ≡ insert-sheet-words cs y ws)
+    unfolding insert-sheet-reply insert-sheet-words written replied stamped
+    accepted-all counted stamp raised = (
+      rw (a .refusal, counted, header-said ws (said ws) (says a) .issued, e .moved-is, e .split-is, right .moved-is, right .split-is),
+      raised ∙ rw (a .refusal, stamp, add-one, store-with (map kind-of cs) y (said ws) (some-kinds a)) stamped-are,
     )
+
+-- BY THE KIND: an element and a text are sheets, and any other kind is refused
+module _ (ws : List ℕ) (c y : ℕ) where
+  pub element-all : {q : InsertReply} {us : List ℕ} → c ≡ 1 → (q ≡ insert-sheet-reply (1 ∷ 2 ∷ []) y ws) × (us ≡ insert-sheet-words (1 ∷ 2 ∷ []) y ws) → (q ≡ insert-reply c y ws) × (us ≡ insert-words c y ws)
+  unfolding Singles-are-sheets
+  element-all one done = let same = singles-are-sheets y ws .1 in rw one (done .0 ∙ sym (same .reply), done .1 ∙ sym (same .words))
+
+  pub text-all : {q : InsertReply} {us : List ℕ} → c ≡ 3 → (q ≡ insert-sheet-reply (3 ∷ []) y ws) × (us ≡ insert-sheet-words (3 ∷ []) y ws) → (q ≡ insert-reply c y ws) × (us ≡ insert-words c y ws)
+  unfolding Singles-are-sheets
+  text-all three done = let same = singles-are-sheets y ws .0 in rw three (done .0 ∙ sym (same .reply), done .1 ∙ sym (same .words))
+
+  pub other-all : {k : ℕ} → (c ≡ 1 → ⊥) → (c ≡ 3 → ⊥) → k ≡ refusal-over ws (λ st. 4) → (Refused k ≡ insert-reply c y ws) × (ws ≡ insert-words c y ws)
+  unfolding insert-refused insert-reply insert-words written insert-refusal first
+  other-all {k} one three e =
+      let refused : k ≡ insert-refused c y ws = e ∙ refusal-same ws (λ st. 4) (insert-refusal (length ws) c y) (λ st m. rw (ne-eqb c 1 one, ne-eqb c 3 three)) in
+      let never : k ≡ 0 → ⊥ = λ z. omega (arith, accepted-store ws (λ st. 4) (sym e ∙ z)) in
+      rw (← refused) (replied-refused Refused k _ never, replied-refused (λ _. ws) k _ never)

@@ -1,23 +1,21 @@
--- The words of n tags in a row: the tag behind a tag, and the tags that a plan numbers. Assumes nothing.
+-- The words of n tags in a row, and the tags that a plan numbers. Assumes nothing.
 use mathlib.Core.Path.{_≡_, refl, ap, _∙_}
 use mathlib.Core.List.{List}
-use Prim.Native.Nat.{ℕ, zero, suc, _+_, _≤_, _<_}
+use Prim.Native.Nat.{ℕ, zero, suc, _+_, _≤_}
 use native.Mathlib.Omega.{arith}
-use borrow.Author.Tests.{ne-eqb, ltb-true, ltb-false}
+use borrow.Author.Tests.{ltb-true, ltb-false}
 use lib.Dec.{ltb}
 use lib.ListN.{length, getD, length-append, List·getD-eq-default}
 use Rattle.store_types.specs.Limits.{no-tag, most-tags}
 use Rattle.lists.proofs.Tests.{by-test}
 use Rattle.store_types.specs.Layout.{at-count, header-words, word-at, words-for, Records}
-use Rattle.tree.specs.Row.{place}
-use Rattle.calls.specs.Store.{next-in}
 use Rattle.words.proofs.Fields.{room}
 use Rattle.edit_model.specs.Image.{image-header, image-words}
 use Rattle.words.specs.Places.{behind, Tag-or-none}
 use Rattle.edit_model.specs.Insert.{Plan}
-use Rattle.edit_model.proofs.Image.{length-image, tag-below, record-says, image-header-word}
+use Rattle.edit_model.proofs.Image.{length-image, tag-below, image-header-word}
 use Rattle.edit_model.proofs.Along.{along-at}
-use Rattle.edit_model.proofs.Added.{tag-before, behind-place}
+use Rattle.edit_model.proofs.Behind.{tag-before, behind-place}
 use Rattle.edit_model.proofs.Renumbered.{Words-in, Row-in}
 use Rattle.renumber.specs.Needs.{Row-there}
 
@@ -37,13 +35,6 @@ module _ {us : List ℕ} {n : ℕ} (g : Words-in us n) (few : n ≤ most-tags) w
       by-test (ltb i (length (g .image .tags)))
       (λ t. omega (arith, g .counted, tag-below (g .proper) i no-tag (ltb-true _ _ t)))
       (λ t. absurd (other (List·getD-eq-default (g .image .tags) no-tag (ltb-false _ _ t))))
-
-  pub behind-or-none : (x : ℕ) → x < n → Tag-or-none n (behind us x)
-  unfolding behind next-in
-  behind-or-none x own =
-      let v = g .image in
-      let next = record-says v (g .rest) x (omega (arith, g .counted)) .next-word in
-      rw (ne-eqb x no-tag (λ e. omega arith), g .words-are, next) (place-or-none (suc (place x (v .tags))))
 
 -- THE TAGS THAT A PLAN NUMBERS
 module _ {us : List ℕ} {n : ℕ} {q : Plan} (e : Row-in us n q) (few : n ≤ most-tags) where

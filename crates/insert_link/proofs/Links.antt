@@ -1,25 +1,35 @@
--- A new tag's place and links, as the code reads and writes them. Assumes nothing.
+-- The place and links of new tags, as the code reads and writes them. Assumes nothing.
 use mathlib.Core.Path.{_≡_}
 use mathlib.Core.Bool.{Bool, true, false}
-use mathlib.Core.List.{List}
-use Prim.Native.Nat.{ℕ}
+use mathlib.Core.List.{List, [], map}
+use Prim.Native.Nat.{ℕ, _+_, _-_}
 use native.Mathlib.Omega.{arith}
 use lib.Dec.{eqb}
-use lib.ListN.{set}
+use lib.ListN.{length, set}
 use Rattle.store_types.specs.Limits.{no-tag}
-use Rattle.store_types.specs.Layout.{at-first, at-next, at-prior, with-field}
+use Rattle.store_types.specs.Layout.{at-count, at-first, at-next, at-prior, with-field}
 use Rattle.words.specs.Places.{Place-there, behind}
 use Rattle.words.proofs.PlaceLaws.{place-in}
-use Rattle.edit_model.specs.Insert.{linked-place, linked-next}
-use Rattle.insert_link.specs.Needs.{New-tag-fits}
+use Rattle.calls.specs.Kind.{kind-of}
+use Rattle.calls.specs.Nesting.{new-facts}
+use Rattle.edit_model.specs.Insert.{with-records, linked-place, linked-next, added-row}
+use Rattle.load_tags.proofs.Filling.{count-row}
+use Rattle.insert_link.specs.Needs.{New-row-fits}
 
--- WHERE A NEW TAG FITS, its place and the tag behind it have records or are none
-module _ {ws : List ℕ} {n y : ℕ} (h : New-tag-fits ws n y) where
+-- WHERE A ROW OF NEW TAGS FITS, its place and the tag behind it have records or are none
+module _ {ws cs : List ℕ} {n y u : ℕ} (h : New-row-fits ws cs n y u) where
   pub place-of-new : Place-there ws y
   place-of-new = place-in (h .records) (λ other. omega (arith, h .place other))
 
   pub next-of-new : {x : ℕ} → x ≡ behind ws y → Place-there ws x
   next-of-new e = rw e (place-in (h .records) (λ other. omega (arith, h .next other)))
+
+-- all of it, in the order of the code
+pub row-added : (ws cs : List ℕ) (n y u x end : ℕ) → end ≡ n + length cs → x ≡ behind ws y → (vs us ts zs : List ℕ) →
+    let new = new-facts u [] n (map kind-of cs) in
+    vs ≡ with-records ws n y x new → us ≡ linked-place vs y n → ts ≡ linked-next us x (end - 1) → zs ≡ set ts at-count end → zs ≡ added-row ws n y new
+unfolding added-row
+row-added ws cs n y u x end all next vs us ts zs written placed linked counted = rw (count-row u n cs, ← next, ← all, ← written, ← placed, ← linked) counted
 
 -- THE LINKS to a new tag n, from its place and from the tag behind: t says whether there is none
 module _ (ws : List ℕ) (y : ℕ) {t : Bool} (e : t ≡ eqb y no-tag) (n : ℕ) where

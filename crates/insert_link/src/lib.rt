@@ -1,35 +1,18 @@
-// A new tag's record, and its place along next.
+// The records of new tags, and their place along next.
 ghost use mathlib.Core.Path.{_≡_};
-ghost use Prim.Native.Nat.{_+_, _≤_, _<_};
+ghost use mathlib.Core.List.{[], map};
+ghost use Prim.Native.Nat.{_≤_, _<_};
 ghost use lib.ListN.{length};
-ghost use Rattle.store_types.specs.Layout.{at-height, header-words, word-at, Room};
+ghost use Rattle.store_types.specs.Layout.{header-words};
 ghost use Rattle.words.specs.Places.{Place-there};
-ghost use Rattle.edit_model.specs.Insert.{with-record, linked-place, linked-next, added, raised-words};
-ghost use Rattle.insert_link.specs.Needs.{New-tag-fits};
-use store_types::Label;
+ghost use Rattle.calls.specs.Kind.{kind-of};
+ghost use Rattle.calls.specs.Nesting.{new-facts};
+ghost use Rattle.edit_model.specs.Insert.{linked-place, linked-next, added-row, raised-words};
+ghost use Rattle.insert_link.specs.Needs.{New-row-fits};
+use load_tags::Row;
 use store_types::TagId;
 
-// The record of a new tag. Its label is none that a tag can have, so that it counts as moved where it is numbered.
-fn write_record(
-    words: &mut [u32],
-    x: TagId,
-    next: TagId,
-    prior: TagId,
-    mate: TagId,
-    up: TagId,
-    kind: u32,
-)
-    requires { ⌜ Room (now words) (x .0) ⌝ }
-    ensures { λ _. ⌜ now (words .exit) ≡ with-record (now (words .entry)) (x .0) (next .0) (prior .0) (mate .0) (up .0) kind ⌝ }
-{
-    words::set_label(words, x, Label(4294967295));
-    words::set_next(words, x, next);
-    words::set_prior(words, x, prior);
-    words::set_mate(words, x, mate);
-    words::set_up(words, x, up);
-    words::set_kind(words, x, kind);
-}
-
+// Tag n is the first behind a place.
 fn link_place(words: &mut [u32], n: u32, place: TagId)
     requires { ⌜ Place-there (now words) (place .0) ⌝ }
     ensures { λ _. ⌜ now (words .exit) ≡ linked-place (now (words .entry)) (place .0) n ⌝ }
@@ -41,6 +24,7 @@ fn link_place(words: &mut [u32], n: u32, place: TagId)
     }
 }
 
+// And the last one before the tag behind it, where there is one.
 fn link_next(words: &mut [u32], n: u32, next: TagId)
     requires { ⌜ Place-there (now words) (next .0) ⌝ }
     ensures { λ _. ⌜ now (words .exit) ≡ linked-next (now (words .entry)) (next .0) n ⌝ }
@@ -51,25 +35,32 @@ fn link_next(words: &mut [u32], n: u32, next: TagId)
     words::set_prior(words, next, TagId(n));
 }
 
-// Tag n goes in behind a place.
-pub fn add_tag(words: &mut [u32], n: u32, place: TagId, mate: TagId, up: TagId, kind: u32)
-    requires { ⌜ New-tag-fits (now words) n (place .0) ⌝ }
-    ensures { λ _. ⌜ now (words .exit) ≡ added (now (words .entry)) n (place .0) (mate .0) (up .0) kind ⌝ }
+// Tags of these kinds, from number n on, go in behind a place, inside the begin `up` or inside none.
+pub fn add_row(words: &mut [u32], n: u32, kinds: &[u8], place: TagId, up: TagId)
+    requires { ⌜ New-row-fits (now words) (now kinds) n (place .0) (up .0) ⌝ }
+    ensures { λ _. ⌜ now (words .exit) ≡ added-row (now (words .entry)) n (place .0) (new-facts (up .0) [] n (map kind-of (now (kinds .entry)))) ⌝ }
 {
     let next = words::places::behind(words, place);
-    write_record(words, TagId(n), next, place, mate, up, kind);
+    let end = n + kinds.len() as u32;
+    let row = Row {
+        first: n,
+        end,
+        prior: place,
+        next,
+    };
+    load_tags::write_row(words, kinds, row, up);
     link_place(words, n, place);
-    link_next(words, n, next);
-    words::set_count(words, n + 1);
+    link_next(words, end - 1, next);
+    words::set_count(words, end);
 }
 
-// H is one higher where the root was split.
+// H is one higher than the root's last split.
 pub fn raise(words: &mut [u32], split: usize)
-    requires { ⌜ (header-words ≤ length (now words)) × (word-at (now words) at-height < 4294967295) ⌝ }
+    requires { ⌜ (header-words ≤ length (now words)) × (split < 4294967295) ⌝ }
     ensures { λ _. ⌜ now (words .exit) ≡ raised-words (now (words .entry)) split ⌝ }
 {
-    let top = words::height_of(words);
-    if split == top as usize {
-        words::set_height(words, top + 1);
+    let top = words::height_of(words) as usize;
+    if top <= split {
+        words::set_height(words, split as u32 + 1);
     }
 }

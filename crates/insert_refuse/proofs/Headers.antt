@@ -5,13 +5,14 @@ use mathlib.Core.List.{List}
 use Prim.Native.Nat.{ℕ, pred, _*_, _^_, _≤_, _<_}
 use native.Mathlib.Omega.{arith}
 use lib.ListN.{length}
-use Rattle.store_types.specs.Limits.{most-levels}
+use Rattle.store_types.specs.Limits.{most-tags, most-levels}
 use Rattle.lists.proofs.Tests.{and-left}
 use Rattle.store_types.specs.Layout.{at-s, at-r, at-height, at-count, header-words, word-at, words-for}
 use Rattle.shape.proofs.TableLaws.{table-at}
 use Rattle.shape.specs.Tables.{entry, table}
+use Rattle.shape.specs.Needs.{Search-fits}
 use Rattle.words.proofs.Fields.{header-fits}
-use Rattle.shape.proofs.Fits.{Fits, degrees-product}
+use Rattle.shape.proofs.Fits.{Fits, degrees-product, highs-fit}
 use Rattle.calls.specs.Store.{power-fits}
 use Rattle.calls.specs.Words.{Says, header-width}
 use Rattle.calls.specs.Replies.{said}
@@ -68,3 +69,15 @@ power-at v b top e k l = rw e (table-at v b top k l)
 
 pub last-power : (v b top : ℕ) {t : List ℕ} → t ≡ table v b top → entry t top ≡ v * b ^ top
 last-power v b top e = power-at v b top e top (omega arith)
+
+-- from the limit of its root a height can be searched
+pub search-from : {s r h n all limit g : ℕ} → Ranges s r h n → all ≤ most-tags → g ≡ h → limit ≡ s * r ^ h → Search-fits all limit r g
+search-from f few same is =
+    record {
+      few = few;
+      some = omega (arith, f .below);
+      narrow = rw is (highs-fit (fits-of f) .last);
+      least = f .degrees .r-least;
+      most = f .degrees .r-most;
+      low = omega (arith, f .high);
+    }

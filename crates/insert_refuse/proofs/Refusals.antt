@@ -1,24 +1,36 @@
 -- The refusals of an insertion: from what each test reads in words that say a store. Assumes nothing.
 use mathlib.Core.Path.{_≡_, refl, sym, _∙_}
-use mathlib.Core.Bool.{Bool, true, false, cond, and-false}
-use mathlib.Core.List.{List}
-use Prim.Native.Nat.{ℕ, suc, _+_, _*_, _^_, _≤_, _<_}
-use native.Mathlib.Numerals.{add-one}
+use mathlib.Core.Bool.{Bool, true, false, _&&_, not, cond, and-false}
+use mathlib.Core.List.{List, _++_}
+use Prim.Native.Nat.{ℕ, pred, _+_, _*_, _-_, _^_, _≤_, _<_}
+use native.Mathlib.Nat.{mul-assoc}
+use lib.Pow.{pow-add}
+use native.Mathlib.Omega.{arith}
 use borrow.Author.Tests.{ne-eqb, lt-ltb, le-ltb, le-leb, lt-leb}
-use lib.Dec.{eqb}
-use lib.ListN.{length}
+use lib.Dec.{ltb, eqb}
+use lib.ListN.{length, length-map}
 use Rattle.store_types.specs.Limits.{no-tag, most-tags}
 use Rattle.lists.specs.Lists.{all-hold, first}
-use Rattle.lists.proofs.First.{refused-before, refused-behind}
+use Rattle.lists.proofs.First.{first-append, first-decided, refused-before, refused-behind}
 use Rattle.store_types.specs.Layout.{at-s, at-r, at-height, at-count, header-words, at-kind, word-at, words-for, field}
-use Rattle.calls.specs.Store.{Store, labels-fit, power-fits}
-use Rattle.calls.specs.Insert.{insert-kinds, labels-end, place-tests, room-tests, insert-refusal}
-use Rattle.calls.specs.Words.{Says, header-width}
-use Rattle.calls.specs.Replies.{said, insert-refused, refusal-over}
-use Rattle.calls_laws.proofs.WordSteps.{header-said, width-said, refusal-said}
+use Rattle.shape.specs.Needs.{Least-room}
+use Rattle.tree.specs.Book.{height}
+use Rattle.tree.specs.Grown.{height-for}
+use Rattle.tree_laws.proofs.RowHeight.{Least, search-least, least-one}
+use Rattle.calls.specs.Kind.{kind-of}
+use Rattle.calls.specs.Store.{count, power-fits}
+use Rattle.calls.specs.Load.{kinds-tests}
+use Rattle.calls.specs.Insert.{place-tests, room-tests, row-refusal, insert-sheet-refusal}
+use Rattle.calls.specs.Words.{Says}
+use Rattle.calls.specs.Replies.{said, refusal-over, insert-sheet-refused}
+use Rattle.calls.specs.Promise.{Sheets-run-out, least-height}
+use Rattle.calls_laws.proofs.WordSteps.{header-said, refusal-said}
+use Rattle.calls_laws.proofs.Sheets.{sheets-run-out}
+use Rattle.load_refuse.specs.Refusals.{kinds-refusal}
 use Rattle.store_refuse.specs.Needs.{Tag-said}
-use Rattle.store_refuse.proofs.Laws.{refused-first, accepted-says, kind-of-tag}
-use Rattle.insert_refuse.specs.Parts.{call-room, place-refusal, room-refusal, tags-refusal}
+use Rattle.store_refuse.proofs.Laws.{words-first, accepted-says, kind-of-tag}
+use Rattle.insert_refuse.specs.Parts.{row-room, place-refusal, room-refusal}
+use Rattle.insert_refuse.proofs.Headers.{Ranges, ranges}
 
 -- THE PLACE y: t says whether it is the front
 module _ (ws : List ℕ) (y : ℕ) {t : Bool} (e : t ≡ eqb y no-tag) where
@@ -44,7 +56,21 @@ module _ (ws : List ℕ) (y : ℕ) {t : Bool} (e : t ≡ eqb y no-tag) where
       unfolding place-refusal place-tests first
       place-fine m = rw (← e, p, ← header-said ws (said ws) h .issued, lt-leb (word-at ws at-count) y l, ← kind-of-tag tag .marks, ← q, lt-leb 16 k m)
 
--- THE ROOM for k tags more: n are there, and L is the root's limit
+-- H WITH SO MANY TAGS: the least height that is found is the one that the definitions search for
+pub height-found : {s r h n all limit g top : ℕ} → Ranges s r h n → g ≡ h → limit ≡ s * r ^ h → Least-room all limit r g top → top ≡ height-for (all - n) s r all h
+height-found {s} {r} {h} {n} {all} {limit} {g} {top} f same is read =
+    let found : Least-room all limit r h top = rw same at read in
+    let r-least = f .degrees .r-least in
+    let scaled : (i : ℕ) → limit * r ^ i ≡ s * r ^ (h + i) = λ i. rw (is, mul-assoc, ← pow-add) in
+    let own : Least s r all h top =
+    record {
+      low = found .low;
+      fits = (let whole : h + (top - h) ≡ top = omega (arith, found .low) in rw (scaled (top - h), whole) at (found .fits));
+      least = λ l. (let whole : h + (top - h - 1) ≡ pred top = omega arith in rw (scaled (top - h - 1), whole) at (found .least l));
+    } in
+    least-one r-least own (search-least (all - n) s r all h (f .degrees .s-least) r-least (omega (arith, f .below)))
+
+-- THE ROOM for k tags more: n are there
 module _ (ws : List ℕ) (h : Says ws (said ws)) (k : ℕ) where
   pub room-many : most-tags < word-at ws at-count + k → 6 ≡ room-refusal (length ws) k (said ws)
   unfolding room-refusal room-tests first
@@ -55,59 +81,70 @@ module _ (ws : List ℕ) (h : Says ws (said ws)) (k : ℕ) where
     unfolding room-refusal room-tests first
     room-short m = rw (← header-said ws (said ws) h .issued, le-ltb most-tags (word-at ws at-count + k) few, lt-ltb (length ws) (words-for header-words (word-at ws at-count + k)) m)
 
-    module _ (long : words-for header-words (word-at ws at-count + k) ≤ length ws) where
-      by-labels : (t : Bool) → labels-end (labels-fit (header-width ws)) (word-at ws at-s) (word-at ws at-r) k (word-at ws at-count) (word-at ws at-height) ≡ t → cond t 7 0 ≡ room-refusal (length ws) k (said ws)
-      unfolding room-refusal room-tests first
+    module _ (long : words-for header-words (word-at ws at-count + k) ≤ length ws) {top : ℕ}
+        (is-top : top ≡ height-for k (word-at ws at-s) (word-at ws at-r) (word-at ws at-count + k) (word-at ws at-height)) where
+      -- labels do not suffice where H rises to a height at which they do not fit
+      by-labels : (t : Bool) → (ltb (word-at ws at-height) top && not (power-fits (word-at ws at-s) (word-at ws at-r) top)) ≡ t → cond t 7 0 ≡ room-refusal (length ws) k (said ws)
+      unfolding room-refusal room-tests first Sheets-run-out least-height Says
       by-labels t e =
           let f = header-said ws (said ws) h in
-          rw (← f .issued, le-ltb most-tags (word-at ws at-count + k) few, le-ltb (length ws) (words-for header-words (word-at ws at-count + k)) long, ← width-said ws (said ws) h, ← f .degree-s, ← f .degree-r, ← f .levels, e)
+          let top-said : top ≡ height-for k (said ws .book .s) (said ws .book .r) (count (said ws) + k) (height (said ws .book)) = rw (f .degree-s, f .degree-r, f .issued, f .levels) at is-top in
+          let few-said = rw (f .issued) at (le-ltb most-tags (word-at ws at-count + k) few) in
+          let long-said = rw (f .issued) at (le-ltb (length ws) (words-for header-words (word-at ws at-count + k)) long) in
+          let runs = rw (← top-said) at (sheets-run-out (said ws) k (h .0)) in
+          rw (few-said, long-said, runs, rw (f .degree-s, f .degree-r, f .levels) at e)
 
-      pub room-below : word-at ws at-count + k < word-at ws at-s * word-at ws at-r ^ word-at ws at-height → 0 ≡ room-refusal (length ws) k (said ws)
-      unfolding labels-end
-      room-below m = by-labels false (rw (lt-leb (word-at ws at-s * word-at ws at-r ^ word-at ws at-height) (word-at ws at-count + k) m))
+      pub room-below : top ≡ word-at ws at-height → 0 ≡ room-refusal (length ws) k (said ws)
+      room-below same = by-labels false (rw (same, le-ltb (word-at ws at-height) (word-at ws at-height) (omega arith)))
 
-      -- where n + k comes to the limit, t says whether labels of a tree one higher fit
-      module _ {t : Bool} (e : t ≡ power-fits (word-at ws at-s) (word-at ws at-r) (word-at ws at-height + 1)) where
-        next-fits : labels-fit (header-width ws) (suc (word-at ws at-height)) ≡ t
-        unfolding header-width
-        next-fits = sym (e ∙ rw add-one)
-
+      -- where H rises, t says whether labels of that height fit
+      module _ (higher : top ≡ word-at ws at-height → ⊥) {t : Bool} (e : t ≡ power-fits (word-at ws at-s) (word-at ws at-r) top) where
         pub room-fits : t ≡ true → 0 ≡ room-refusal (length ws) k (said ws)
-        unfolding labels-end
-        room-fits p = by-labels false (simp (next-fits ∙ p, and-false))
+        room-fits p = by-labels false (rw (← e, p) (and-false (ltb (word-at ws at-height) top)))
 
-        pub room-none : t ≡ false → word-at ws at-s * word-at ws at-r ^ word-at ws at-height ≤ word-at ws at-count + k → 7 ≡ room-refusal (length ws) k (said ws)
-        unfolding labels-end
-        room-none p m = by-labels true (rw (le-leb (word-at ws at-s * word-at ws at-r ^ word-at ws at-height) (word-at ws at-count + k) m, next-fits ∙ p))
+        pub room-none : t ≡ false → 7 ≡ room-refusal (length ws) k (said ws)
+        room-none p =
+            let f = ranges ws h in
+            let least = search-least k (word-at ws at-s) (word-at ws at-r) (word-at ws at-count + k) (word-at ws at-height) (f .degrees .s-least) (f .degrees .r-least) (omega (arith, f .below)) in
+            let raised : word-at ws at-height ≤ top = rw is-top (least .low) in
+            by-labels true (rw (← e, p, lt-ltb (word-at ws at-height) top (omega (arith, higher))))
 
--- BOTH, in this order
-module _ (w k y : ℕ) (st : Store) {p : ℕ} (e : p ≡ place-refusal y st) where
-  pub refused-place : (p ≡ 0 → ⊥) → p ≡ tags-refusal w k y st
-  unfolding tags-refusal place-refusal
-  refused-place n = e ∙ sym (refused-before (place-tests y st) (call-room w k st) (λ z. n (e ∙ z)))
+-- A SHEET: v are the refusals that the words alone give
+pub refused-words : (ws cs : List ℕ) (y : ℕ) {v : ℕ} → v ≡ refusal-over ws (λ st. 0) → (v ≡ 0 → ⊥) → v ≡ insert-sheet-refused cs y ws
+unfolding insert-sheet-refused
+refused-words ws cs y {v} e n = words-first ws (insert-sheet-refusal (length ws) cs y) v e n
 
-  pub refused-room : {v : ℕ} → p ≡ 0 → v ≡ room-refusal w k st → v ≡ tags-refusal w k y st
-  unfolding tags-refusal place-refusal room-refusal place-tests all-hold
-  refused-room z q = q ∙ sym (refused-behind (place-tests y st) (call-room w k st) refl (sym e ∙ z))
+module _ (ws cs : List ℕ) (y : ℕ) {v : ℕ} (e : v ≡ refusal-over ws (λ st. 0)) (z : v ≡ 0) where
+  pub said-of : Says ws (said ws)
+  said-of = accepted-says ws (λ st. 0) (sym e ∙ z)
 
--- THE CALL: v are the refusals that the words alone give; the kind is 1, 3 or another
-module _ (ws : List ℕ) (c y : ℕ) {v : ℕ} (e : v ≡ refusal-over ws (λ st. 0)) where
-  pub refused-words : (v ≡ 0 → ⊥) → v ≡ insert-refused c y ws
-  unfolding insert-refused
-  refused-words n = refused-first ws (λ st. 0) (insert-refusal (length ws) c y) v (λ st m. absurd (m refl)) e n
+  -- the tests of the place and the room stand behind those of the kinds
+  in-order : insert-sheet-refused cs y ws ≡ first (kinds-tests 0 cs) (first (place-tests y (said ws) ++ row-room (length ws) (length cs) (said ws)) 0)
+  unfolding insert-sheet-refused insert-sheet-refusal row-refusal
+  in-order = refusal-said ws (said ws) said-of (insert-sheet-refusal (length ws) cs y) ∙ rw (length-map cs kind-of)
 
-  module _ (z : v ≡ 0) where
-    pub said-of : Says ws (said ws)
-    said-of = accepted-says ws (λ st. 0) (sym e ∙ z)
+  module _ {k : ℕ} (f : k ≡ kinds-refusal 0 cs) where
+    pub refused-kinds : (k ≡ 0 → ⊥) → k ≡ insert-sheet-refused cs y ws
+    unfolding kinds-refusal
+    refused-kinds n = f ∙ sym (in-order ∙ first-decided (kinds-tests 0 cs) 0 _ (λ i. n (f ∙ i)))
 
-    pub refused-element : {k : ℕ} → c ≡ 1 → k ≡ tags-refusal (length ws) 2 y (said ws) → k ≡ insert-refused c y ws
-    unfolding insert-refused insert-refusal insert-kinds tags-refusal first
-    refused-element one q = rw (refusal-said ws (said ws) said-of, one) q
+    -- the kinds are fine: p is what the place gives
+    module _ (fine : k ≡ 0) {p : ℕ} (g : p ≡ place-refusal y (said ws)) where
+      behind-kinds : insert-sheet-refused cs y ws ≡ first (place-tests y (said ws) ++ row-room (length ws) (length cs) (said ws)) 0
+      unfolding kinds-refusal kinds-tests all-hold
+      behind-kinds =
+          in-order
+          ∙ sym (first-append (kinds-tests 0 cs) (place-tests y (said ws) ++ row-room (length ws) (length cs) (said ws)) 0)
+          ∙ refused-behind (kinds-tests 0 cs) (place-tests y (said ws) ++ row-room (length ws) (length cs) (said ws)) refl (sym f ∙ fine)
 
-    pub refused-text : {k : ℕ} → c ≡ 3 → k ≡ tags-refusal (length ws) 1 y (said ws) → k ≡ insert-refused c y ws
-    unfolding insert-refused insert-refusal insert-kinds tags-refusal first
-    refused-text three q = rw (refusal-said ws (said ws) said-of, three) q
+      pub refused-place : (p ≡ 0 → ⊥) → p ≡ insert-sheet-refused cs y ws
+      unfolding place-refusal
+      refused-place n = g ∙ sym (behind-kinds ∙ refused-before (place-tests y (said ws)) (row-room (length ws) (length cs) (said ws)) (λ i. n (g ∙ i)))
 
-    pub refused-kind : (c ≡ 1 → ⊥) → (c ≡ 3 → ⊥) → 4 ≡ insert-refused c y ws
-    unfolding insert-refused insert-refusal first
-    refused-kind a b = rw (refusal-said ws (said ws) said-of, ne-eqb c 1 a, ne-eqb c 3 b)
+      pub refused-room : {m : ℕ} → p ≡ 0 → m ≡ room-refusal (length ws) (length cs) (said ws) → m ≡ insert-sheet-refused cs y ws
+      unfolding place-refusal room-refusal place-tests all-hold
+      refused-room none q = q ∙ sym (behind-kinds ∙ refused-behind (place-tests y (said ws)) (row-room (length ws) (length cs) (said ws)) refl (sym g ∙ none))
+
+-- A KIND THAT IS NONE
+pub refused-kind : (ws : List ℕ) {v : ℕ} → v ≡ refusal-over ws (λ st. 0) → v ≡ 0 → 4 ≡ refusal-over ws (λ st. 4)
+refused-kind ws e z = sym (refusal-said ws (said ws) (accepted-says ws (λ st. 0) (sym e ∙ z)) (λ st. 4))

@@ -1,22 +1,19 @@
 -- Parts of the refusals that single functions of this crate compute. Assumes nothing: these are definitions.
 use mathlib.Core.Bool.{Bool}
-use mathlib.Core.List.{List, _++_}
+use mathlib.Core.List.{List}
 use Prim.Native.Nat.{ℕ}
 use Rattle.lists.specs.Lists.{first}
 use Rattle.tree.specs.Book.{height}
 use Rattle.calls.specs.Store.{Store, count, height-fits}
-use Rattle.calls.specs.Insert.{labels-end, place-tests, room-tests}
+use Rattle.calls.specs.Insert.{labels-run-out, place-tests, room-tests}
 
--- the tests of the call's room
-abbrev pub call-room : (lent k : ℕ) → Store → List (Bool × ℕ)
-call-room lent k st = room-tests lent k (labels-end (height-fits st) (st .book .s) (st .book .r) k (count st) (height (st .book))) st
+-- the tests of the room for k tags
+abbrev pub row-room : (lent k : ℕ) → Store → List (Bool × ℕ)
+row-room lent k st = room-tests lent k (labels-run-out (height-fits st) (st .book .s) (st .book .r) k (count st) (height (st .book))) st
 
--- THE REFUSALS of k tags in two parts: 8 and 9 of its place, 6 and 7 of its room; 0 where there is none
+-- THE REFUSALS of a row in two parts: 8 and 9 of its place, 6 and 7 of its room; 0 where there is none
 unfoldable pub place-refusal : (place : ℕ) → Store → ℕ
 place-refusal y st = first (place-tests y st) 0
 
 unfoldable pub room-refusal : (lent k : ℕ) → Store → ℕ
-room-refusal lent k st = first (call-room lent k st) 0
-
-unfoldable pub tags-refusal : (lent k place : ℕ) → Store → ℕ
-tags-refusal lent k y st = first (place-tests y st ++ call-room lent k st) 0
+room-refusal lent k st = first (row-room lent k st) 0

@@ -1,18 +1,19 @@
-// The refusals of an insertion: 1, 2, 4, 8, 9, 6, 7 in this order.
+// The refusals of an insertion: 1, 2, 4, 5, 8, 9, 6, 7 in this order.
 ghost use mathlib.Core.Path.{_≡_};
-ghost use Prim.Native.Nat.{_≤_};
+ghost use Prim.Native.Nat.{_-_, _≤_};
 ghost use lib.ListN.{length};
+ghost use Rattle.store_types.specs.Limits.{most-tags};
+ghost use Rattle.store_types.specs.Layout.{at-s, at-r, at-height, at-count, word-at};
 ghost use Rattle.shape.specs.Tables.{highs-of};
 ghost use Rattle.shape.specs.Packed.{highs-in};
+ghost use Rattle.tree.specs.Grown.{height-for};
 ghost use Rattle.calls.specs.Words.{Says};
-ghost use Rattle.calls.specs.Replies.{said, insert-refused};
+ghost use Rattle.calls.specs.Replies.{said, refusal-over, insert-sheet-refused};
 ghost use Rattle.walk_model.specs.Watch.{Tables-at, sizes-at};
-ghost use Rattle.insert_refuse.specs.Parts.{place-refusal, room-refusal, tags-refusal};
+ghost use Rattle.insert_refuse.specs.Parts.{place-refusal, room-refusal};
 use shape::PACKED_LENGTH;
 use shape::TABLE_LENGTH;
-use store_types::BEGIN;
 use store_types::MOST_TAGS;
-use store_types::TEXT;
 use store_types::TagId;
 
 // 8 and 9: the place is the front or an unmarked tag.
@@ -32,51 +33,62 @@ fn place_refused(place: TagId, words: &[u32]) -> u32
     0
 }
 
-// 6 and 7 for k tags: words and labels remain.
-fn room_refused(k: u32, words: &[u32], tables: &[u64; PACKED_LENGTH]) -> u32
-    requires { ⌜ Says (now words) (said (now words)) × (k ≤ 2) × (highs-in (now tables) ≡ highs-of (now words)) ⌝ }
+// H with so many tags: the least height from the present one on whose root has room for them.
+pub fn height_with(all: u32, words: &[u32], tables: &[u64; PACKED_LENGTH]) -> u32
+    requires { ⌜ Says (now words) (said (now words)) × (all ≤ most-tags) × (highs-in (now tables) ≡ highs-of (now words)) ⌝ }
+    ensures { λ top. ⌜ top ≡ height-for (all - word-at (now (words .entry)) at-count) (word-at (now (words .entry)) at-s) (word-at (now (words .entry)) at-r) all (word-at (now (words .entry)) at-height) ⌝ }
+{
+    let h = words::height_of(words);
+    let r = words[words::AT_R];
+    let limit = shape::tables::high(tables, h as usize);
+    shape::height_for(all as u64, limit, r as u64, h)
+}
+
+// 6 and 7 for k tags: words and labels remain. Labels of a height that fit do so at every lower one, so that the last height decides.
+fn room_refused(k: usize, words: &[u32], tables: &[u64; PACKED_LENGTH]) -> u32
+    requires { ⌜ Says (now words) (said (now words)) × (highs-in (now tables) ≡ highs-of (now words)) ⌝ }
     ensures { λ v. ⌜ v ≡ room-refusal (length (now (words .entry))) k (said (now (words .entry))) ⌝ }
 {
-    let all = words::count_of(words) + k;
-    if MOST_TAGS < all {
+    let n = words::count_of(words);
+    if ((MOST_TAGS - n) as usize) < k {
         return 6;
     }
+    let all = n + k as u32;
     if words.len() < words::words_for(all as usize) {
         return 6;
     }
-    let s = words[words::AT_S];
-    let r = words[words::AT_R];
-    let h = words::height_of(words);
-    if (all as u64) < shape::tables::high(tables, h as usize) {
+    let top = height_with(all, words, tables);
+    if top == words::height_of(words) {
         return 0;
     }
-    if shape::height_fits(s, r, h + 1) {
+    let s = words[words::AT_S];
+    let r = words[words::AT_R];
+    if shape::height_fits(s, r, top) {
         return 0;
     }
     7
 }
 
-// 8, 9, 6, 7 for k tags.
-fn tags_refused(k: u32, place: TagId, words: &[u32], tables: &[u64; PACKED_LENGTH]) -> u32
-    requires { ⌜ Says (now words) (said (now words)) × (k ≤ 2) × (highs-in (now tables) ≡ highs-of (now words)) ⌝ }
-    ensures { λ v. ⌜ v ≡ tags-refusal (length (now (words .entry))) k (place .0) (said (now (words .entry))) ⌝ }
+// A kind that no insertion takes: 4, behind 1 and 2.
+pub fn kind_refused(words: &[u32]) -> u32
+    ensures { λ k. ⌜ k ≡ refusal-over (now (words .entry)) (λ st. 4) ⌝ }
 {
-    let first = place_refused(place, words);
+    let first = store_refuse::words_refused(words);
     if first != 0 {
         return first;
     }
-    room_refused(k, words, tables)
+    4
 }
 
-// Where there is none, `tables` and `sizes` are those of the place.
-pub fn insert_refused(
-    kind: u8,
+// Of a sheet. Where there is none, `tables` and `sizes` are those of the place.
+pub fn sheet_refused(
+    kinds: &[u8],
     place: TagId,
     words: &[u32],
     tables: &mut [u64; PACKED_LENGTH],
     sizes: &mut [u32; TABLE_LENGTH],
 ) -> u32
-    ensures refusal { λ k. ⌜ k ≡ insert-refused kind (place .0) (now (words .entry)) ⌝ }
+    ensures refusal { λ k. ⌜ k ≡ insert-sheet-refused (now (kinds .entry)) (place .0) (now (words .entry)) ⌝ }
     ensures tables { λ k. ⌜ (k ≡ 0 → Tables-at (now (words .entry)) (place .0) (now (tables .exit))) ⌝ }
     ensures sizes { λ k. ⌜ (k ≡ 0 → now (sizes .exit) ≡ sizes-at (now (words .entry)) (place .0) (now (sizes .entry))) ⌝ }
 {
@@ -84,11 +96,13 @@ pub fn insert_refused(
     if first != 0 {
         return first;
     }
-    if kind == BEGIN {
-        return tags_refused(2, place, words, tables);
+    let second = load_refuse::kinds_refused(kinds);
+    if second != 0 {
+        return second;
     }
-    if kind == TEXT {
-        return tags_refused(1, place, words, tables);
+    let third = place_refused(place, words);
+    if third != 0 {
+        return third;
     }
-    4
+    room_refused(kinds.len(), words, tables)
 }

@@ -25,7 +25,7 @@ use Rattle.edit_model.specs.Image.{Image, image-header, image-record, image-wor
 use Rattle.edit_model.proofs.Image.{length-image, own-label, own-field, image-header-word}
 use Rattle.load_tags.specs.Tags.{next-number, prior-number, facts-new, Tags-written}
 use Rattle.load_call.specs.Header.{first-number, header-new}
-use Rattle.load_tags.proofs.Row.{count-new}
+use Rattle.load_tags.proofs.Filling.{count-new}
 
 abbrev pub fresh : (s r h number : ℕ) → (kinds labels : List ℕ) → Image
 fresh s r h b cs ls =

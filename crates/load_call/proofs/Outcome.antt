@@ -32,7 +32,7 @@ use Rattle.shape.specs.Needs.{Widths-fit}
 use Rattle.load_refuse.specs.Refusals.{refusal-before}
 use Rattle.load_tags.specs.Tags.{Tags-fit, Tags-written, Trees-fit, labels-new}
 use Rattle.load_call.specs.Header.{header-new}
-use Rattle.load_tags.proofs.Row.{count-new}
+use Rattle.load_tags.proofs.Filling.{count-new}
 use Rattle.load_call.proofs.Fresh.{fresh-words}
 use Rattle.load_call.proofs.Loaded.{table-fits, trees-fit, loaded-words}
 

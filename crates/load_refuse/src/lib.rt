@@ -52,7 +52,7 @@ fn depth_after(depth: usize, kind: u8) -> usize
 }
 
 // 4 and 5: a kind that is none, kinds that do not nest; 0 where there is neither.
-fn kinds_refused(kinds: &[u8]) -> u32
+pub fn kinds_refused(kinds: &[u8]) -> u32
     ensures { λ q. ⌜ q ≡ kinds-refusal 0 (now (kinds .entry)) ⌝ }
 {
     let mut depth: usize = 0;

@@ -12,6 +12,7 @@ use Rattle.lists.proofs.Tests.{by-test}
 use Rattle.words.proofs.Fields.{room}
 use Rattle.kind_pick.proofs.PickLaws.{no-mark}
 use Rattle.load_tags.specs.declared.Open as code
+use Rattle.load_tags.specs.declared.Row as rows
 use Rattle.load_tags.specs.Tags.{Kind-number, place-written, new-mate, new-up, links-written, tag-written, open-behind, Tag-fits, Around-known, Opened}
 use Rattle.load_tags.proofs.OneTag.{One-more, inner-more, up-kept}
 
@@ -31,44 +32,44 @@ pub opened : (x c u : ℕ) (v : code.Open) → Kind-number c → (b a : ℕ) (t 
 opened x c u v k b a t e f known =
     let plain = no-mark c (k .low) (k .high) in record { begin-is = rw plain at e; around-is = rw plain at f; known = known }
 
-pub mate-room : {ws : List ℕ} {x n c o m : ℕ} → Tag-fits ws n x c o → m ≡ new-mate x c o → Room ws m
+pub mate-room : {ws : List ℕ} {w : rows.Row} {x c o m : ℕ} → Tag-fits ws w x c o → m ≡ new-mate x c o → Room ws m
 unfolding new-mate
-mate-room {ws} {x} {n} {c} {o} t e =
+mate-room {ws} {w} {x} {c} {o} t e =
     by-test (eqb c 2)
     (λ f. let is : _ ≡ o = rw f at e in rw is (room (t .records) (t .begun (eqb-true c 2 f))))
     (λ f. let is : _ ≡ x = rw f at e in rw is (room (t .records) (t .below)))
 
 -- ONE TAG MORE
-module _ (ws : List ℕ) (x n c a : ℕ) (v : code.Open) (t : Tag-fits ws n x c (v .begin .0)) (h : Around-known ws x v) where
+module _ (ws : List ℕ) (w : rows.Row) (x c a : ℕ) (v : code.Open) (t : Tag-fits ws w x c (v .begin .0)) (h : Around-known ws x v) where
   -- where the tag stands, what was known is so still
-  pub known-placed : v .known ≡ true → v .around .0 ≡ field (place-written x n c a ws) (v .begin .0) at-up
+  pub known-placed : v .known ≡ true → v .around .0 ≡ field (place-written w x c a ws) (v .begin .0) at-up
   known-placed k =
-      h .up k ∙ sym (up-kept ws x n c a (v .begin .0) (t .below) (t .records .long) (λ e. omega (arith, h .below k)))
+      h .up k ∙ sym (up-kept ws w x c a (v .begin .0) (t .past) (t .below) (t .records .long) (λ e. omega (arith, h .below k)))
 
   -- with its links the record is whole
-  pub whole : (vs us : List ℕ) (m u : ℕ) → vs ≡ place-written x n c a ws → m ≡ new-mate x c (v .begin .0) → u ≡ new-up c (v .begin .0) vs →
-      us ≡ links-written x m u vs → us ≡ tag-written x n c a (v .begin .0) ws
+  pub whole : (vs us : List ℕ) (m u : ℕ) → vs ≡ place-written w x c a ws → m ≡ new-mate x c (v .begin .0) → u ≡ new-up c (v .begin .0) vs →
+      us ≡ links-written x m u vs → us ≡ tag-written w x c a (v .begin .0) ws
   unfolding tag-written
   whole vs us m u placed e f g = g ∙ rw (e, f, placed)
 
-  module _ (q : code.Open) (u : ℕ) (up-is : u ≡ new-up c (v .begin .0) (place-written x n c a ws)) (o : Opened x c u v q) where
+  module _ (q : code.Open) (u : ℕ) (up-is : u ≡ new-up c (v .begin .0) (place-written w x c a ws)) (o : Opened x c u v q) where
     stays-up : (c ≡ 2 → ⊥) → u ≡ v .begin .0
     unfolding new-up
     stays-up inner = rw (ne-eqb c 2 inner) at up-is
 
-    pub begin-behind : q .begin .0 ≡ open-behind x n c a (v .begin .0) ws
+    pub begin-behind : q .begin .0 ≡ open-behind w x c a (v .begin .0) ws
     unfolding open-behind
     begin-behind = rw up-is at (o .begin-is)
 
-    pub known-behind : Around-known (tag-written x n c a (v .begin .0) ws) (x + 1) q
+    pub known-behind : Around-known (tag-written w x c a (v .begin .0) ws) (x + 1) q
     known-behind =
         record {
           up = λ k. ⊎-elim (λ e. begun e) (λ e. stays e) (o .known k);
           below = λ k. ⊎-elim (λ e. omega (arith, begun-is e)) (λ e. omega (arith, text-is e, h .below (e .1))) (o .known k);
         }
       where
-        more : (c ≡ 2 → ⊥) → One-more n x c a x (v .begin .0) x ws (tag-written x n c a (v .begin .0) ws)
-        more inner = inner-more ws x n c a (v .begin .0) (t .below) (t .records .long) inner
+        more : (c ≡ 2 → ⊥) → One-more w x c a x (v .begin .0) x ws (tag-written w x c a (v .begin .0) ws)
+        more inner = inner-more ws w x c a (v .begin .0) (t .past) (t .below) (t .records .long) inner
 
         begun-is : c ≡ 1 → q .begin .0 ≡ x
         begun-is e = o .begin-is ∙ rw e
@@ -76,12 +77,12 @@ module _ (ws : List ℕ) (x n c a : ℕ) (v : code.Open) (t : Tag-fits ws n x c 
         text-is : (c ≡ 3) × (v .known ≡ true) → q .begin .0 ≡ v .begin .0
         text-is e = o .begin-is ∙ rw (ne-eqb c 1 (λ f. omega (arith, e .0))) (stays-up (λ f. omega (arith, e .0)))
 
-        begun : c ≡ 1 → q .around .0 ≡ field (tag-written x n c a (v .begin .0) ws) (q .begin .0) at-up
+        begun : c ≡ 1 → q .around .0 ≡ field (tag-written w x c a (v .begin .0) ws) (q .begin .0) at-up
         begun e =
             let inner : c ≡ 2 → ⊥ = λ f. omega arith in
             rw (begun-is e) (o .around-is ∙ rw (eq-eqb c 1 e) (stays-up inner ∙ sym (more inner .here .up-word)))
 
-        stays : (c ≡ 3) × (v .known ≡ true) → q .around .0 ≡ field (tag-written x n c a (v .begin .0) ws) (q .begin .0) at-up
+        stays : (c ≡ 3) × (v .known ≡ true) → q .around .0 ≡ field (tag-written w x c a (v .begin .0) ws) (q .begin .0) at-up
         stays e =
             let inner : c ≡ 2 → ⊥ = λ f. omega (arith, e .0) in
             let other : v .begin .0 ≡ x → ⊥ = λ f. omega (arith, h .below (e .1)) in

@@ -1,6 +1,6 @@
 pub mod OneTag
 pub mod Inside
 pub mod Filled
-pub mod Row
+pub mod Filling
 pub mod Nodes
 pub mod Labelled

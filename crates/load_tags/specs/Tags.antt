@@ -16,19 +16,31 @@ use Rattle.calls.specs.Kind.{kind-of, kind-word}
 use Rattle.calls.specs.Store.{Fact, fact-in}
 use Rattle.calls.specs.Nesting.{nests, new-facts}
 use Rattle.calls.specs.Load.{all-kinds}
+use Rattle.words.specs.Places.{Tag-or-none}
 use Rattle.load_tags.specs.declared.Open as code
+use Rattle.load_tags.specs.declared.Row as rows
 
--- the tag behind and the tag before tag x of n, numbered in book order, or no tag
+-- the tag behind and the tag before tag x of a row
+abbrev pub next-of : rows.Row → (x : ℕ) → ℕ
+next-of w x = cond (ltb (x + 1) (w .end)) (x + 1) (w .next .0)
+
+abbrev pub prior-of : rows.Row → (x : ℕ) → ℕ
+prior-of w x = cond (ltb (w .first) x) (x - 1) (w .prior .0)
+
+-- a row of n tags that are the whole book, and these two of tag x there
+abbrev pub whole-row : (n : ℕ) → rows.Row
+whole-row n = record { first = 0; end = n; prior = record { 0 = no-tag }; next = record { 0 = no-tag } }
+
 unfoldable pub next-number : (x n : ℕ) → ℕ
-next-number x n = cond (ltb (x + 1) n) (x + 1) no-tag
+next-number x n = next-of (whole-row n) x
 
 unfoldable pub prior-number : (x : ℕ) → ℕ
-prior-number x = cond (ltb 0 x) (x - 1) no-tag
+prior-number x = prior-of (whole-row 0) x
 
--- label, kind, next and prior of tag x
-unfoldable pub place-written : (x n kind label : ℕ) → List ℕ → List ℕ
-place-written x n c l ws =
-    with-field (with-field (with-field (with-label ws x l) x at-kind c) x at-next (next-number x n)) x at-prior (prior-number x)
+-- label, kind, next and prior of tag x of a row
+unfoldable pub place-written : rows.Row → (x kind label : ℕ) → List ℕ → List ℕ
+place-written w x c l ws =
+    with-field (with-field (with-field (with-label ws x l) x at-kind c) x at-next (next-of w x)) x at-prior (prior-of w x)
 
 -- a kind as the caller gives it
 pub record Kind-number (c : ℕ) : Type 0 where
@@ -48,20 +60,21 @@ unfoldable pub links-written : (x mate up : ℕ) → List ℕ → List ℕ
 links-written x mate up ws = with-field (with-field (with-field ws x at-mate mate) mate at-mate x) x at-up up
 
 -- the whole record
-unfoldable pub tag-written : (x n kind label o : ℕ) → List ℕ → List ℕ
-tag-written x n c l o ws =
-    let placed = place-written x n c l ws in links-written x (new-mate x c o) (new-up c o placed) placed
+unfoldable pub tag-written : rows.Row → (x kind label o : ℕ) → List ℕ → List ℕ
+tag-written w x c l o ws =
+    let placed = place-written w x c l ws in links-written x (new-mate x c o) (new-up c o placed) placed
 
 -- the innermost open begin behind tag x
-unfoldable pub open-behind : (x n kind label o : ℕ) → List ℕ → ℕ
-open-behind x n c l o ws = cond (eqb c 1) x (new-up c o (place-written x n c l ws))
+unfoldable pub open-behind : rows.Row → (x kind label o : ℕ) → List ℕ → ℕ
+open-behind w x c l o ws = cond (eqb c 1) x (new-up c o (place-written w x c l ws))
 
--- what a tag is asked of: the records of n tags are there, x is one of them, and an end has a begin
-pub record Tag-fits (ws : List ℕ) (n x kind o : ℕ) : Type 0 where
-  pub records : Records ws n
-  pub below : x < n
+-- what a tag is asked of: the row's records are there, x is one of its tags, and an end has a begin
+pub record Tag-fits (ws : List ℕ) (w : rows.Row) (x kind o : ℕ) : Type 0 where
+  pub records : Records ws (w .end)
+  pub past : w .first ≤ x
+  pub below : x < w .end
   pub number : Kind-number kind
-  pub begun : kind ≡ 2 → o < n
+  pub begun : kind ≡ 2 → o < w .end
 
 -- what is carried of the open begins: where it is known, what stands around the innermost one is its up; and then one is open, of
 -- the first x tags
@@ -75,19 +88,37 @@ pub record Opened (x kind up : ℕ) (v q : code.Open) : Type 0 where
   pub around-is : q .around .0 ≡ cond (eqb kind 1) up (v .around .0)
   pub known : q .known ≡ true → (kind ≡ 1) ⊎ ((kind ≡ 3) × (v .known ≡ true))
 
--- THE ROW: what all tags are asked of
+-- THE ROW: what all tags of a book are asked of
 pub record Tags-fit (ws cs : List ℕ) : Type 0 where
   pub records : Records ws (length cs)
   pub kinds : all-kinds cs ≡ true
   pub nesting : nests 0 (map kind-of cs) ≡ true
 
--- of tag x of n, with this label and fact: all but the mate
-pub record Placed (ws : List ℕ) (n x label : ℕ) (t : Fact) : Type 0 where
+-- and a row of new ones inside a begin u, or inside none
+pub record Row-fits (ws cs : List ℕ) (w : rows.Row) (u : ℕ) : Type 0 where
+  pub records : Records ws (w .end)
+  pub count : w .first + length cs ≡ w .end
+  pub kinds : all-kinds cs ≡ true
+  pub nesting : nests 0 (map kind-of cs) ≡ true
+  pub up : Tag-or-none (w .first) u
+
+-- of tag x between two others, with this label and fact: all but the mate
+pub record Between (ws : List ℕ) (x next prior label : ℕ) (t : Fact) : Type 0 where
   pub label-word : label-at ws x ≡ label
-  pub next-word : field ws x at-next ≡ next-number x n
-  pub prior-word : field ws x at-prior ≡ prior-number x
+  pub next-word : field ws x at-next ≡ next
+  pub prior-word : field ws x at-prior ≡ prior
   pub up-word : field ws x at-up ≡ t .up
   pub kind-is : field ws x at-kind ≡ kind-word (t .kind) (t .marked)
+
+-- and of n tags in the order of their numbers
+abbrev pub Placed : (ws : List ℕ) (n x label : ℕ) (t : Fact) → Type 0
+Placed ws n x l t = Between ws x (next-number x n) (prior-number x) l t
+
+-- words outside the records of a row are as before
+pub record Beside (before after : List ℕ) (w : rows.Row) : Type 0 where
+  pub size : length after ≡ length before
+  pub front : (i : ℕ) → i < words-for header-words (w .first) → word-at after i ≡ word-at before i
+  pub rest : drop (words-for header-words (w .end)) after ≡ drop (words-for header-words (w .end)) before
 
 -- words outside the records of n tags are as before
 pub record Around (before after : List ℕ) (n : ℕ) : Type 0 where

@@ -1,50 +1,65 @@
-// The records of the tags with their labels, in one pass. An open begin's own up word serves as the stack; the label goes from
-// place to place by the nodes that begin there.
+// The records of new tags in one pass: of a whole book with their labels, and of a row that goes into one. An open begin's own
+// up word serves as the stack; the label goes from place to place by the nodes that begin there.
 ghost use mathlib.Core.Path.{_≡_};
 ghost use mathlib.Core.Bool.{true};
+ghost use mathlib.Core.List.{[], map};
 ghost use Prim.Native.Nat.{_+_, _<_, _≤_};
 ghost use lib.ListN.{length};
 ghost use Rattle.store_types.specs.Limits.{most-tags, label-limit};
 ghost use Rattle.store_types.specs.Layout.{at-up, field, Room};
 ghost use Rattle.shape.specs.Tables.{entry-limit, table-length, table-top};
+ghost use Rattle.calls.specs.Kind.{kind-of};
+ghost use Rattle.calls.specs.Nesting.{new-facts};
 ghost use Rattle.load_model.specs.Begins.{next-begin, begun, First-begins};
-ghost use Rattle.load_tags.specs.Tags.{Entries-fit, Widths-rise, Gaps-of, Trees-fit, labels-new, next-number, prior-number, place-written, Kind-number, new-mate, new-up, links-written, tag-written, open-behind, Opened, Around-known, Tag-fits, Tags-fit, Tags-written};
+ghost use Rattle.edit_model.specs.Insert.{with-records};
+ghost use Rattle.load_tags.specs.Tags.{Entries-fit, Widths-rise, Gaps-of, Trees-fit, labels-new, next-of, prior-of, place-written, Kind-number, new-mate, new-up, links-written, tag-written, open-behind, Opened, Around-known, Tag-fits, Tags-fit, Row-fits, Tags-written};
 use shape::TABLE_LENGTH;
 use store_types::BEGIN;
 use store_types::END;
 use store_types::Label;
 use store_types::TagId;
 
-// The tag behind tag i of n.
-fn next_tag(i: u32, n: u32) -> TagId
-    requires { ⌜ i < n ⌝ }
-    ensures { λ t. ⌜ t .0 ≡ next-number i n ⌝ }
+// No tag has this label.
+const NO_LABEL: u32 = 4294967295;
+
+// A row of new tags: the first number and the one behind the last, and the tags before and behind the row.
+pub struct Row {
+    pub first: u32,
+    pub end: u32,
+    pub prior: TagId,
+    pub next: TagId,
+}
+
+// The tag behind tag i of a row.
+fn next_tag(i: u32, row: Row) -> TagId
+    requires { ⌜ i < row .end ⌝ }
+    ensures { λ t. ⌜ t .0 ≡ next-of row i ⌝ }
 {
-    if i + 1 < n {
+    if i + 1 < row.end {
         return TagId(i + 1);
     }
-    TagId::NONE
+    row.next
 }
 
-fn prior_tag(i: u32) -> TagId
-    ensures { λ t. ⌜ t .0 ≡ prior-number i ⌝ }
+fn prior_tag(i: u32, row: Row) -> TagId
+    ensures { λ t. ⌜ t .0 ≡ prior-of row i ⌝ }
 {
-    if 0 < i {
+    if row.first < i {
         return TagId(i - 1);
     }
-    TagId::NONE
+    row.prior
 }
 
-// Tag i by its place, kind and label.
-fn write_place(words: &mut [u32], i: u32, n: u32, kind: u8, label: Label)
-    requires { ⌜ (i < n) × Room (now words) i ⌝ }
-    ensures { λ _. ⌜ now (words .exit) ≡ place-written i n kind (label .0) (now (words .entry)) ⌝ }
+// Tag i of a row by its place, kind and label.
+fn write_place(words: &mut [u32], i: u32, row: Row, kind: u8, label: Label)
+    requires { ⌜ (i < row .end) × Room (now words) i ⌝ }
+    ensures { λ _. ⌜ now (words .exit) ≡ place-written row i kind (label .0) (now (words .entry)) ⌝ }
 {
     let x = TagId(i);
     words::set_label(words, x, label);
     words::set_kind(words, x, kind as u32);
-    words::set_next(words, x, next_tag(i, n));
-    words::set_prior(words, x, prior_tag(i));
+    words::set_next(words, x, next_tag(i, row));
+    words::set_prior(words, x, prior_tag(i, row));
 }
 
 // The innermost open begin, and what stands around it where that is known: behind an end it is not, and only another end
@@ -98,14 +113,14 @@ fn write_links(words: &mut [u32], x: TagId, mate: TagId, up: TagId)
     words::set_up(words, x, up);
 }
 
-// Tag i with its record, and its begin's mate where it is an end; what is open behind it.
-fn write_tag(words: &mut [u32], i: u32, n: u32, kind: u8, label: Label, inside: Open) -> Open
-    requires { ⌜ Tag-fits (now words) n i kind (inside .begin .0) × Around-known (now words) i inside ⌝ }
-    ensures words { λ _. ⌜ now (words .exit) ≡ tag-written i n kind (label .0) (inside .begin .0) (now (words .entry)) ⌝ }
-    ensures begin { λ q. ⌜ q .begin .0 ≡ open-behind i n kind (label .0) (inside .begin .0) (now (words .entry)) ⌝ }
+// Tag i of a row with its record, and its begin's mate where it is an end; what is open behind it.
+fn write_tag(words: &mut [u32], i: u32, row: Row, kind: u8, label: Label, inside: Open) -> Open
+    requires { ⌜ Tag-fits (now words) row i kind (inside .begin .0) × Around-known (now words) i inside ⌝ }
+    ensures words { λ _. ⌜ now (words .exit) ≡ tag-written row i kind (label .0) (inside .begin .0) (now (words .entry)) ⌝ }
+    ensures begin { λ q. ⌜ q .begin .0 ≡ open-behind row i kind (label .0) (inside .begin .0) (now (words .entry)) ⌝ }
     ensures around { λ q. ⌜ Around-known (now (words .exit)) (i + 1) q ⌝ }
 {
-    write_place(words, i, n, kind, label);
+    write_place(words, i, row, kind, label);
     let x = TagId(i);
     let up = up_at(words, kind, inside);
     let mate = mate_at(x, kind, inside.begin);
@@ -188,6 +203,12 @@ pub fn write_tags(
     ensures { λ _. ⌜ Tags-written (now (words .entry)) (now (words .exit)) (now (kinds .entry)) (labels-new r (now (widths .entry)) (length (now (kinds .entry))) under) ⌝ }
 {
     let n = kinds.len() as u32;
+    let row = Row {
+        first: 0,
+        end: n,
+        prior: TagId::NONE,
+        next: TagId::NONE,
+    };
     let gaps = gaps(r, under, widths);
     let lows = shape::table(r, r, under);
     let mut begins = first_begins(n as u64, under, &lows);
@@ -200,8 +221,34 @@ pub fn write_tags(
     let mut i: u32 = 0;
     while i < n {
         label = begin_nodes(i as u64, n as u64, label, &gaps, &lows, &mut begins);
-        inside = write_tag(words, i, n, kinds[i as usize], Label(label as u32), inside);
+        inside = write_tag(
+            words,
+            i,
+            row,
+            kinds[i as usize],
+            Label(label as u32),
+            inside,
+        );
         label = shape::sum(label, widths[0]);
+        i += 1;
+    }
+}
+
+// The records of a row inside a begin, or inside none. Their labels are none that a tag can have: they are numbered later, and
+// count as moved there.
+pub fn write_row(words: &mut [u32], kinds: &[u8], row: Row, up: TagId)
+    requires { ⌜ Row-fits (now words) (now kinds) row (up .0) ⌝ }
+    ensures { λ _. ⌜ now (words .exit) ≡ with-records (now (words .entry)) (row .first) (row .prior .0) (row .next .0) (new-facts (up .0) [] (row .first) (map kind-of (now (kinds .entry)))) ⌝ }
+{
+    let mut inside = Open {
+        begin: up,
+        around: TagId::NONE,
+        known: false,
+    };
+    let mut i: u32 = row.first;
+    while i < row.end {
+        let kind = kinds[(i - row.first) as usize];
+        inside = write_tag(words, i, row, kind, Label(NO_LABEL), inside);
         i += 1;
     }
 }

@@ -1,4 +1,5 @@
 pub mod Rows
 pub mod Parts
+pub mod Paths
 pub mod Shifts
 pub mod Splits

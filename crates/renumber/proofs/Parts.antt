@@ -2,10 +2,13 @@
 use mathlib.Core.Path.{_≡_, refl, ap, sym, _∙_}
 use mathlib.Core.List.{List, _++_, map, map-append, append-nil}
 use Prim.Native.Nat.{ℕ, zero, suc, pred, _+_, _*_, _-_, _/_, _^_, _≤_, _<_}
-use native.Mathlib.Nat.{suc-mul, one-mul, add-zero}
+use native.Mathlib.Nat.{suc-mul, one-mul, add-zero, zero-div}
 use native.Mathlib.Numerals.{sub-one}
 use native.Mathlib.Omega.{arith}
+use borrow.Author.Tests.{eqb-true, eqb-false}
+use lib.Dec.{eqb}
 use lib.ListN.{length, length-map}
+use Rattle.lists.proofs.Tests.{by-test}
 use Rattle.store_types.specs.Limits.{label-limit}
 use Rattle.shape.specs.Tables.{entry}
 use Rattle.tree.specs.Forest.{labels, spread, parts}
@@ -43,7 +46,7 @@ unfolding parts-numbered trees-numbered labels
 last-part ws w r j e a x left = rw (parts-one, append-nil)
 
 -- one row after another, as one equation
-relabel-joined : (xs ys ls ms ws : List ℕ) → length xs ≡ length ls →
+pub relabel-joined : (xs ys ls ms ws : List ℕ) → length xs ≡ length ls →
     relabel (xs ++ ys) (ls ++ ms) ws
     ≡ record { words = relabel ys ms (relabel xs ls ws .words) .words; moved = relabel xs ls ws .moved + relabel ys ms (relabel xs ls ws .words) .moved }
 relabel-joined xs ys ls ms ws e =
@@ -149,7 +152,11 @@ module _ {j a count : ℕ} {t : List ℕ} (h : Trees-fit j a count t) (low : 1 �
   each-some = omega (arith, each-power, some-power (r-in t) j (h .degree))
 
   pub each-parts : Parts-left (count / entry (lows-in t) j) (entry (lows-in t) j) count
-  each-parts = all-parts (entry (lows-in t) j) count each-some (omega (arith, each-power, h .least low))
+  each-parts =
+      by-test (eqb count 0)
+      (λ e. rw (eqb-true count 0 e, zero-div) (record { low = omega arith; none = λ z. refl }))
+      (λ e. let some : 1 ≤ count = omega (arith, eqb-false count 0 e) in
+      all-parts (entry (lows-in t) j) count each-some (omega (arith, each-power, h .least low some)))
 
   pub fit-below : (at size : ℕ) → at < label-limit → entry (lows-in t) j ≤ size → Trees-fit (j - 1) at size t
   fit-below at size small least =
@@ -157,7 +164,7 @@ module _ {j a count : ℕ} {t : List ℕ} (h : Trees-fit j a count t) (low : 1 �
       record {
         degree = h .degree;
         height = omega (arith, h .height);
-        least = λ z. lower-power (r-in t) (j - 1) size (h .degree) (rw one (omega (arith, each-power)));
+        least = λ z some. lower-power (r-in t) (j - 1) size (h .degree) (rw one (omega (arith, each-power)));
         number = small;
         widths = h .widths;
         lows = λ k fits. h .lows k (omega arith);

@@ -1,12 +1,12 @@
-// The split of an insertion: the highest ancestor of a place that comes to its limit, and the tag left of a node.
+// The splits of an insertion: the highest ancestor of a place that comes to its limit, and the tag left of a node.
 ghost use mathlib.Core.Path.{_≡_};
 ghost use mathlib.Core.Bool.{cond, not, _||_};
 ghost use Prim.Native.Nat.{_+_, _≤_};
-ghost use lib.Dec.{leb, ltb, eqb};
+ghost use lib.Dec.{leb, ltb};
 ghost use Rattle.shape.specs.Tables.{table-under};
 ghost use Rattle.store_types.specs.Layout.{label-at, Records};
 ghost use Rattle.shape.specs.Packed.{highs-in};
-ghost use Rattle.renumber.specs.Needs.{issued};
+ghost use Rattle.renumber.specs.Needs.{issued, Border-is};
 ghost use Rattle.edit_model.specs.Split.{highest-full, left-border};
 use shape::PACKED_LENGTH;
 use shape::TABLE_LENGTH;
@@ -20,10 +20,16 @@ fn at_least(words: &[u32], n: u32, x: TagId, low: u64) -> bool
     x.0 < n && low <= (words::label_of(words, x).0 as u64)
 }
 
-// The tag left of the leaves whose labels are at least low, from x on along prior.
-pub fn left_border(words: &[u32], low: u64, x: TagId) -> TagId
+// The tag left of a node, and how many of the node's tags stand up to a place.
+pub struct Border {
+    pub tag: TagId,
+    pub steps: u32,
+}
+
+// Left of the leaves whose labels are at least low, from x on along prior.
+pub fn left_border(words: &[u32], low: u64, x: TagId) -> Border
     requires { ⌜ Records (now words) (issued (now words)) ⌝ }
-    ensures { λ y. ⌜ y .0 ≡ left-border (issued (now (words .entry))) (issued (now (words .entry))) (now (words .entry)) low (x .0) ⌝ }
+    ensures { λ b. ⌜ Border-is b (left-border (issued (now (words .entry))) (issued (now (words .entry))) (now (words .entry)) low (x .0)) ⌝ }
 {
     let n = words::count_of(words);
     let mut tag = x;
@@ -32,14 +38,14 @@ pub fn left_border(words: &[u32], low: u64, x: TagId) -> TagId
         tag = words::prior_of(words, tag);
         steps += 1;
     }
-    tag
+    Border { tag, steps }
 }
 
 // Whether a node of a size comes to its limit with k leaves more.
 fn is_full(limit: u64, size: u32, k: u32) -> bool
-    ensures { λ t. ⌜ t ≡ eqb (size + k) limit ⌝ }
+    ensures { λ t. ⌜ t ≡ leb limit (size + k) ⌝ }
 {
-    size as u64 + k as u64 == limit
+    limit <= size as u64 + k as u64
 }
 
 // Of two heights the higher one, where its node is full.

@@ -7,11 +7,12 @@ ghost use Prim.Native.Nat.{_+_, _≤_, _<_};
 ghost use lib.Dec.{eqb};
 ghost use Rattle.store_types.specs.Limits.{label-limit};
 ghost use Rattle.store_types.specs.Layout.{with-label, Room, Records};
-ghost use Rattle.shape.specs.Packed.{widths-in, r-in};
+ghost use Rattle.shape.specs.Packed.{widths-in, s-in, r-in};
 ghost use Rattle.shape.specs.Tables.{entry-limit};
 ghost use Rattle.shape.specs.Sums.{cut};
+ghost use Rattle.tree.specs.Grown.{in-splits as splits-of};
 ghost use Rattle.edit_model.specs.Relabel.{counts-moved, shift as shifted};
-ghost use Rattle.renumber.specs.Needs.{issued, Row-there, Trees-fit, Row-numbered, Part-size, leaves-numbered, trees-numbered};
+ghost use Rattle.renumber.specs.Needs.{issued, Row-there, Trees-fit, Row-numbered, Part-size, Splits-fit, Path-fit, Numbers-fit, Parts-are, leaves-numbered, trees-numbered, path-numbered};
 use shape::PACKED_LENGTH;
 use store_types::Label;
 use store_types::TagId;
@@ -102,6 +103,89 @@ pub fn number(
         parts -= 1;
     }
     Numbered { next: tag, moved }
+}
+
+// Where the tag put in last stands, from 1 on, among the leaves of complete trees, and how many tags stand behind it that are not
+// of these: its tree has them besides.
+pub struct Cursor {
+    pub at: u64,
+    pub rest: u64,
+}
+
+// Of so many tags behind a cursor in complete trees of height j, those that go in with splits at that height. A split takes as many
+// as a node's limit is above its least leaves.
+pub fn in_splits(rest: u64, j: usize, tables: &[u64; PACKED_LENGTH]) -> u64
+    requires { ⌜ Splits-fit j (now tables) ⌝ }
+    ensures { λ t. ⌜ t ≡ splits-of (s-in (now (tables .entry))) (r-in (now (tables .entry))) j rest ⌝ }
+{
+    let each = shape::tables::high(tables, j) - shape::tables::low(tables, j);
+    rest / each * each
+}
+
+// A row of trees by the cursor's: how many trees stand left of it and over how many leaves, its own leaves, those behind it, and the
+// cursor in it, one height lower.
+struct PathParts {
+    trees: u64,
+    before: u64,
+    own: u64,
+    after: u64,
+    at: u64,
+    rest: u64,
+}
+
+fn path_parts(j: usize, count: u64, at: u64, rest: u64, tables: &[u64; PACKED_LENGTH]) -> PathParts
+    requires { ⌜ (1 ≤ j) × Path-fit j count at rest (now tables) ⌝ }
+    ensures { λ q. ⌜ Parts-are (s-in (now (tables .entry))) (r-in (now (tables .entry))) j count at rest q ⌝ }
+{
+    let each = shape::tables::low(tables, j);
+    let trees = (at - 1) / each;
+    let before = trees * each;
+    let own = each + rest;
+    let split = in_splits(rest, j - 1, tables);
+    PathParts {
+        trees,
+        before,
+        own,
+        after: count - before - own,
+        at: at - before + split,
+        rest: rest - split,
+    }
+}
+
+// The trees of height j over a row, complete but for the cursor's: that one is numbered the same way one height lower, down to the
+// leaves, and those on its two sides from their tops.
+pub fn number_path(
+    words: &mut [u32],
+    j: usize,
+    a: u64,
+    x: TagId,
+    count: u64,
+    cursor: Cursor,
+    tables: &[u64; PACKED_LENGTH],
+) -> Numbered
+    requires { ⌜ Row-there (now words) (x .0) count × Path-fit j count (cursor .at) (cursor .rest) (now tables) × Numbers-fit j a (now tables) ⌝ }
+    ensures { λ q. ⌜ Row-numbered (now (words .entry)) (now (words .exit)) (path-numbered (now (words .entry)) (now (tables .entry)) j (cursor .at) (cursor .rest) a (x .0) count) (x .0) count (q .next .0) (q .moved) ⌝ }
+{
+    if j == 0 {
+        return number_leaves(words, a, x, count, shape::tables::width(tables, 0));
+    }
+    let width = shape::tables::width(tables, j);
+    let parts = path_parts(j, count, cursor.at, cursor.rest, tables);
+    let at = shape::sum(a, shape::cut(parts.trees * width));
+    let left = number(words, j, a, x, parts.before, tables);
+    let own = left.next;
+    let inner = Cursor {
+        at: parts.at,
+        rest: parts.rest,
+    };
+    let mine = number_path(words, j - 1, at, own, parts.own, inner, tables);
+    let behind = mine.next;
+    let right = number(words, j, shape::sum(at, width), behind, parts.after, tables);
+    let next = right.next;
+    Numbered {
+        next,
+        moved: left.moved + mine.moved + right.moved,
+    }
 }
 
 // A label with a number added.

@@ -4,3 +4,4 @@ pub mod Fits
 pub mod HeaderLaws
 pub mod Sums
 pub mod PartLaws
+pub mod RoomLaws

@@ -2,7 +2,7 @@
 -- Assumes nothing: these are definitions.
 use mathlib.Core.Bool.{Bool, _&&_, _||_}
 use mathlib.Core.List.{List}
-use Prim.Native.Nat.{ℕ, pred, _*_, _-_, _≤_, _<_}
+use Prim.Native.Nat.{ℕ, pred, _*_, _-_, _^_, _≤_, _<_}
 use lib.Dec.{ltb, leb, eqb}
 use lib.ListN.{length, getD}
 use Rattle.store_types.specs.Limits.{most-tags, most-levels}
@@ -29,6 +29,28 @@ pub record Widths-fit (ws : List ℕ) : Type 0 where
   pub s-most : word-at ws at-s ≤ 16
   pub r-most : word-at ws at-r ≤ 16
   pub table : Table-fits 1 (word-at ws at-s * word-at ws at-r - 1) (word-at ws at-height)
+
+-- the least height from h on whose root has room for n tags, where the limits grow by r from that of height h on
+pub record Search-fits (n limit r h : ℕ) : Type 0 where
+  pub few : n ≤ most-tags
+  pub some : 1 ≤ limit
+  pub narrow : limit ≤ entry-limit
+  pub least : 2 ≤ r
+  pub most : r ≤ 16
+  pub low : h ≤ table-length
+
+pub record Least-room (n limit r h top : ℕ) : Type 0 where
+  pub low : h ≤ top
+  pub fits : n < limit * r ^ (top - h)
+  pub least : h < top → limit * r ^ (top - h - 1) ≤ n
+
+-- s and r whose tables up to a height fit
+pub record Tables-fit (s r top : ℕ) : Type 0 where
+  pub s-most : s ≤ 16
+  pub r-most : r ≤ 16
+  pub widths : Table-fits 1 (s * r - 1) top
+  pub lows : Table-fits 1 r top
+  pub highs : Table-fits s r top
 
 pub record Root-fits (h : ℕ) (lo : List ℕ) : Type 0 where
   pub low : 1 ≤ h

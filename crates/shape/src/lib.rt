@@ -4,11 +4,12 @@ pub mod powers;
 pub mod tables;
 
 ghost use mathlib.Core.Path.{_≡_};
-ghost use Prim.Native.Nat.{_+_, _*_, _≤_};
+ghost use Prim.Native.Nat.{_+_, _*_, _-_, _≤_};
 ghost use Rattle.shape.specs.Tables.{Table-fits, entry-limit, widths-of, table as power-table};
 ghost use Rattle.shape.specs.Sums.{cut as label-part};
+ghost use Rattle.shape.specs.Packed.{Packed};
 ghost use Rattle.calls.specs.Store.{power-fits};
-ghost use Rattle.shape.specs.Needs.{Root-fits, Widths-fit, frame-passes, root-passes, degree-fits};
+ghost use Rattle.shape.specs.Needs.{Root-fits, Widths-fit, Search-fits, Least-room, Tables-fit, frame-passes, root-passes, degree-fits};
 
 // Every table by height has so many entries.
 pub const TABLE_LENGTH: usize = 24;
@@ -83,6 +84,33 @@ pub fn height_fits(s: u32, r: u32, h: u32) -> bool
         i += 1;
     }
     true
+}
+
+// The least height from h on whose root has room for n tags: `limit` is that of height h, and each height has r times the one below.
+pub fn height_for(n: u64, limit: u64, r: u64, h: u32) -> u32
+    requires { ⌜ Search-fits n limit r h ⌝ }
+    ensures { λ top. ⌜ Least-room n limit r h top ⌝ }
+{
+    let mut top = h;
+    let mut most = limit;
+    while most <= n {
+        most = most * r;
+        top += 1;
+    }
+    top
+}
+
+// The three tables of s and r up to a height.
+pub fn tables_for(s: u32, r: u32, top: usize) -> [u64; PACKED_LENGTH]
+    requires { ⌜ Tables-fit s r top ⌝ }
+    ensures { λ t. ⌜ Packed t (power-table 1 (s * r - 1) top) (power-table 1 r top) (power-table s r top) ⌝ }
+{
+    let b = (s as u64) * (r as u64) - 1;
+    let mut widths = [0u64; TABLE_LENGTH];
+    powers::fill(&mut widths, powers::degree(s, r), 1, b, top);
+    let lows = table(1, r as u64, top);
+    let highs = table(s as u64, r as u64, top);
+    tables::packed(widths, lows, highs)
 }
 
 // Whether a degree, s or r, is in its range.

@@ -1,5 +1,5 @@
-// The calls over lent words (document 01, "Calls and their replies"): load, insert, mark, hold, the held-pair question, list;
-// and a book as a file (document 02, CR 3): written, and read. None has a `requires`; each contract says by equations with the
+// The calls over lent words (document 01, "Calls and their replies"): load, insert, mark, hold, the held-pair question, list; the
+// insertion of a sheet (document 02, CR 5); and a book as a file (document 02, CR 3): written, and read. None has a `requires`; each contract says by equations with the
 // definitions of crate calls what is replied and what every lent word and byte then holds, for every input. All but the reading
 // of a file are the events of calls/specs/Calls.antt, of which `runs-keep` (calls_laws/proofs/RunsKeep.antt) speaks.
 pub use file_read::read_file;
@@ -7,6 +7,7 @@ pub use file_write::write_file;
 pub use held_call::hold;
 pub use held_call::question;
 pub use insert_call::insert;
+pub use insert_call::insert_sheet;
 pub use list_call::list;
 pub use load_call::load;
 pub use mark_call::mark;

@@ -3,7 +3,7 @@
 mod flat;
 
 ghost use mathlib.Core.Path.{_≡_};
-ghost use Rattle.calls.specs.Replies.{load-reply, load-words, insert-reply, insert-words, mark-reply, mark-words, hold-reply, question-reply, list-reply, list-tags, list-labels, write-reply, write-bytes, read-reply, read-words};
+ghost use Rattle.calls.specs.Replies.{load-reply, load-words, insert-reply, insert-words, insert-sheet-reply, insert-sheet-words, mark-reply, mark-words, hold-reply, question-reply, list-reply, list-tags, list-labels, write-reply, write-bytes, read-reply, read-words};
 ghost use Rattle.store_c.specs.Flat.{c-loaded, c-inserted, c-marked, c-held, c-answered, c-listed, c-written, c-kinds, pair-of};
 ghost use Rattle.xml.specs.Replies.{sheet-reply, sheet-list};
 use flat::Answered;
@@ -32,6 +32,14 @@ pub extern "C" fn vk_insert(kind: u8, place: u32, words: &mut [u32]) -> Inserted
     ensures words { λ _. ⌜ now (words .exit) ≡ insert-words kind place (now (words .entry)) ⌝ }
 {
     flat::of_insert(store::insert(kind, TagId(place), words))
+}
+
+#[no_mangle]
+pub extern "C" fn vk_insert_sheet(kinds: &[u8], place: u32, words: &mut [u32]) -> Inserted
+    ensures reply { λ c. ⌜ c ≡ c-inserted (insert-sheet-reply (now (kinds .entry)) place (now (words .entry))) ⌝ }
+    ensures words { λ _. ⌜ now (words .exit) ≡ insert-sheet-words (now (kinds .entry)) place (now (words .entry)) ⌝ }
+{
+    flat::of_insert(store::insert_sheet(kinds, TagId(place), words))
 }
 
 #[no_mangle]

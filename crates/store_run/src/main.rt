@@ -41,9 +41,8 @@ fn load(s: u32, r: u32, kinds: &[u8], words: &mut [u32]) {
     }
 }
 
-fn insert(kind: u8, place: TagId, words: &mut [u32]) {
-    io::write_all(STDOUT_FILENO, b"insert");
-    match store::insert(kind, place, words) {
+fn inserted(reply: InsertReply) {
+    match reply {
         InsertReply::Inserted {
             first,
             moved,
@@ -56,6 +55,16 @@ fn insert(kind: u8, place: TagId, words: &mut [u32]) {
         }
         InsertReply::Refused(k) => refused(k),
     }
+}
+
+fn insert(kind: u8, place: TagId, words: &mut [u32]) {
+    io::write_all(STDOUT_FILENO, b"insert");
+    inserted(store::insert(kind, place, words));
+}
+
+fn insert_sheet(kinds: &[u8], place: TagId, words: &mut [u32]) {
+    io::write_all(STDOUT_FILENO, b"sheet");
+    inserted(store::insert_sheet(kinds, place, words));
 }
 
 fn mark(tag: TagId, words: &mut [u32]) {
@@ -173,12 +182,16 @@ fn insertions(words: &mut [u32]) {
     ask(7, 0, 0, 7, 6, words);
 }
 
-// Words for the tags of each part: 8, 3 and 128; words and bytes of the printed load, and where the stamp is in its file.
+// Words for the tags of each part: 8, 3, 128, 12 and 1,024; words and bytes of the printed load, and where the stamp is in its file.
 const PRINTED_WORDS: usize = words::HEADER_WORDS + words::TAG_WORDS * 8;
 
 const FEW_WORDS: usize = words::HEADER_WORDS + words::TAG_WORDS * 3;
 
 const LIMIT_WORDS: usize = words::HEADER_WORDS + words::TAG_WORDS * 128;
+
+const SHEET_WORDS: usize = words::HEADER_WORDS + words::TAG_WORDS * 12;
+
+const LONG_WORDS: usize = words::HEADER_WORDS + words::TAG_WORDS * 1024;
 
 const LOADED_WORDS: usize = words::HEADER_WORDS + words::TAG_WORDS * 6;
 
@@ -252,6 +265,35 @@ fn limits() {
     load(12, 2, &kinds, &mut words);
 }
 
+// Sheets into the printed load (document 02, CR 5), with each of their refusals but 1 and 7: an accepted one, then, in words for twelve
+// tags, none that is left.
+fn sheets() {
+    let mut words = [0u32; SHEET_WORDS];
+    let mut tags = [0u32; 12];
+    let mut labels = [0u32; 12];
+    insert_sheet(b"\x03", TagId::NONE, &mut words);
+    load(2, 2, b"\x01\x01\x02\x01\x02\x02", &mut words);
+    insert_sheet(b"\x01\x04", TagId(9), &mut words);
+    insert_sheet(b"\x02\x01", TagId(9), &mut words);
+    insert_sheet(b"\x03", TagId(6), &mut words);
+    insert_sheet(b"", TagId(6), &mut words);
+    insert_sheet(b"", TagId(5), &mut words);
+    insert_sheet(b"\x01\x01\x03\x02\x03\x02", TagId(1), &mut words);
+    list(TagId::NONE, &words, &mut tags, &mut labels);
+    insert_sheet(b"\x03", TagId(11), &mut words);
+    mark(TagId(6), &mut words);
+    insert_sheet(b"\x03", TagId(6), &mut words);
+}
+
+// The largest sheet that labels of 32 bits allow at s = 16 and r = 2, and one tag more.
+fn long_sheets() {
+    let mut words = [0u32; LONG_WORDS];
+    let kinds = [3u8; 897];
+    load(16, 2, &kinds[..127], &mut words);
+    insert_sheet(&kinds, TagId(5), &mut words);
+    insert_sheet(&kinds[..896], TagId(5), &mut words);
+}
+
 // The printed load as a file: into enough bytes, and into one too few.
 fn saves(words: &mut [u32], bytes: &mut [u8]) {
     let mut few = [0u8; LOADED_BYTES - 1];
@@ -295,5 +337,7 @@ fn main() {
     printed();
     refusals();
     limits();
+    sheets();
+    long_sheets();
     files();
 }

@@ -5,5 +5,6 @@ pub mod Book
 pub mod Families
 pub mod Spelling
 pub mod Reach
+pub mod Grown
 pub mod Promise
 pub mod Specimens

@@ -9,9 +9,10 @@ use Rattle.lists.specs.Lists.{numbers}
 use Rattle.tree.specs.Row.{member, place, insert-at, all-below}
 use Rattle.tree.specs.Forest.{leaves, size, trees, spread}
 use Rattle.tree.specs.Good.{Complete}
-use Rattle.tree.specs.Book.{Book, height, tags, labels-in-order, label-of, base, loaded, inserted, split-of, moved-among, moved, book-within}
+use Rattle.tree.specs.Book.{Book, height, tags, labels-in-order, label-of, base, loaded, inserted, split-of, inserted-row, split-of-row, moved-among, moved, book-within}
 use Rattle.tree.specs.Families.{families-of, Joins}
 use Rattle.tree.specs.Reach.{left-of, border, split-book, reach-bound}
+use Rattle.tree.specs.Grown.{grown, grown-split}
 
 -- widths that a tree of s and r may be numbered by; the powers of b are one choice
 pub record Widths (s r : ℕ) (w : ℕ → ℕ) : Type 0 where
@@ -79,6 +80,15 @@ pub record Second-does (w : ℕ → ℕ) (p x y : ℕ) (k : Book) : Type 0 where
 
 unfoldable pub Second-tag : Type 0
 Second-tag = (w : ℕ → ℕ) (p x y : ℕ) (k : Book) → Step w p x k → Step w (suc p) y (inserted p x k) → Second-does w p x y k
+
+-- A WHOLE ROW (document 02, CR 5): what its single insertions leave is what is worked out directly, and so is the greatest height
+-- of their splits
+pub record Row-grows (m p x : ℕ) (k : Book) : Type 0 where
+  pub book : inserted-row m p x k ≡ grown p (numbers x m) k
+  pub split : split-of-row m p x k ≡ grown-split m p k
+
+unfoldable pub Rows-grow : Type 0
+Rows-grow = (m p x : ℕ) (k : Book) → Sane k → p ≤ size (k .root) → Row-grows m p x k
 
 -- WHAT LOAD AND SPLIT MAKE. Over s times r^j leaves: s complete r-ary trees of height j, over these leaves in order
 pub record Split-made (s r j : ℕ) (row : List ℕ) : Type 0 where

@@ -1,4 +1,4 @@
--- Specimens of the tree (document 01, "Specimens", and others that tell it and its bounds from wrong ones): three tables,
+-- Specimens of the tree (document 01, "Specimens", and others that tell it and its bounds from wrong ones): four tables,
 -- which proofs/Specimens.antt shows to hold. Expected values are worked out from document 01, by hand or by a model of
 -- the tree on explicit nodes, never by these definitions.
 use mathlib.Core.Bool.{Bool, _&&_}
@@ -9,6 +9,7 @@ use Rattle.lists.specs.Lists.{same, all-hold, numbers}
 use Rattle.tree.specs.Forest.{Forest, nil, node, size, leaf-row}
 use Rattle.tree.specs.Book.{Book, height, tags, loaded, labels-of, labels-in-order, power-width, inserted, split-of, moved-among, moved, book-within}
 use Rattle.tree.specs.Reach.{reach-bound, account-bound}
+use Rattle.tree.specs.Grown.{grown, grown-split}
 
 abbrev powers : Book → ℕ → ℕ
 powers k = power-width (k .s) (k .r)
@@ -210,5 +211,81 @@ fronts =
     -- an insertion's share grows with the height
     record { s = 2; r = 2; n = 4; m = 44; end-height = 5; total = 300 } ∷ []
 
+-- A ROW AT ONE PLACE: n tags are loaded, then k go in at once behind the first p (document 02, CR 5): how many move, the greatest
+-- height of a split, and H and the labels afterwards
+pub record Row-history : Type 0 where
+  pub s : ℕ
+  pub r : ℕ
+  pub n : ℕ
+  pub p : ℕ
+  pub k : ℕ
+  pub moves : ℕ
+  pub split : ℕ
+  pub end-height : ℕ
+  pub end-labels : List ℕ
+
+unfoldable pub row-holds : Row-history → Bool
+row-holds e =
+    let b = loaded (e .s) (e .r) (e .n) in
+    let after = grown (e .p) (numbers (e .n) (e .k)) b in
+    (eqb (moved (powers b) b after) (e .moves) && eqb (grown-split (e .k) (e .p) b) (e .split)) && shows after (e .end-height) (e .end-labels)
+
+abbrev pub rows : List Row-history
+rows =
+    -- the second tag splits the place's node, and the third goes into the last of its trees
+    record {
+      s = 2;
+      r = 2;
+      n = 8;
+      p = 4;
+      k = 3;
+      moves = 0;
+      split = 1;
+      end-height = 3;
+      end-labels = 0 ∷ 1 ∷ 3 ∷ 4 ∷ 6 ∷ 7 ∷ 8 ∷ 9 ∷ 10 ∷ 12 ∷ 13 ∷ [];
+    } ∷
+    -- the fourth splits the node over it, and the four tags behind that move by its second tree
+    record {
+      s = 2;
+      r = 2;
+      n = 8;
+      p = 4;
+      k = 5;
+      moves = 4;
+      split = 2;
+      end-height = 3;
+      end-labels = 0 ∷ 1 ∷ 3 ∷ 4 ∷ 9 ∷ 10 ∷ 12 ∷ 13 ∷ 14 ∷ 18 ∷ 19 ∷ 21 ∷ 22 ∷ [];
+    } ∷
+    -- the last two stand before an old tag, in the last of three trees, and the tags behind these move by two
+    record {
+      s = 3;
+      r = 2;
+      n = 9;
+      p = 5;
+      k = 6;
+      moves = 4;
+      split = 1;
+      end-height = 3;
+      end-labels = 0 ∷ 1 ∷ 5 ∷ 6 ∷ 25 ∷ 26 ∷ 30 ∷ 31 ∷ 35 ∷ 36 ∷ 37 ∷ 38 ∷ 40 ∷ 41 ∷ 42 ∷ [];
+    } ∷
+    -- the root is split three times, the second and the third time at one height: three complete trees of 8
+    record {
+      s = 2;
+      r = 2;
+      n = 4;
+      p = 1;
+      k = 20;
+      moves = 3;
+      split = 3;
+      end-height = 4;
+      end-labels =
+          0 ∷ 1 ∷ 3 ∷ 4 ∷ 9 ∷ 10 ∷ 12 ∷ 13 ∷
+          27 ∷ 28 ∷ 30 ∷ 31 ∷ 36 ∷ 37 ∷ 39 ∷ 40 ∷
+          54 ∷ 55 ∷ 57 ∷ 58 ∷ 63 ∷ 64 ∷ 66 ∷ 67 ∷ [];
+    } ∷
+    []
+
 unfoldable pub tables-hold : Bool
-tables-hold = all-hold history-holds histories && (all-hold given-holds givens && all-hold front-holds fronts)
+tables-hold =
+    all-hold history-holds histories
+    && (all-hold given-holds givens && (all-hold front-holds fronts && all-hold row-holds rows))

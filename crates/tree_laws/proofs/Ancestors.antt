@@ -292,3 +292,15 @@ module _ {s r : ℕ} {w : ℕ → ℕ} (s-least : 2 ≤ s) (r-least : 2 ≤ r) (
         let reach : m ≤ l = omega (arith, k .1, label-within .0) in
         number-by-label m ((l - m) / w (suc h)) k
         (omega (arith, div-mul-le-self (l - m) (w (suc h)))) (omega (arith, lt-div-mul-add {a = l - m} (width-least s-least r-least widths (suc h))))
+
+-- an ancestor is over no more leaves than there are
+pub size-most : (f : Forest) (j h p : ℕ) → size-in f j h p ≤ size f
+unfolding size-in leaves
+size-most nil j h p = omega arith
+size-most (leaf z f) j h p = omega arith
+size-most (node g f) j h p =
+    let both = length-append (leaves g) (leaves f) in
+    three-ways (size g) p j h
+    (λ n. omega (arith, at-right g f (λ i. 0) j h p 0 n .2, size-most f j h (p - size g)))
+    (λ n e. omega (arith, at-here g f (λ i. 0) j h p 0 n e .2))
+    (λ n e. omega (arith, at-inside g f (λ i. 0) j h p 0 n e .2, size-most g (pred j) h p))

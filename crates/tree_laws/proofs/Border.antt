@@ -17,8 +17,7 @@ use Rattle.tree.specs.Promise.{Widths, Sane}
 use Rattle.tree_laws.proofs.Insertion.{rooted, empty-low}
 use Rattle.tree_laws.proofs.Labels.{Rising, rising-higher, rising-append, node-rising, children-fit, length-labels, label-room}
 use Rattle.tree_laws.proofs.Ancestors.{node-number, found, at-here, at-inside}
-use Rattle.tree_laws.proofs.Flat.{Flat}
-use Rattle.tree_laws.proofs.Root.{whole, labels-whole}
+use Rattle.tree_laws.proofs.Root.{whole}
 
 -- two lists cut alike are alike in both parts
 same-front : (xs ys us vs : List ℕ) → xs ++ ys ≡ us ++ vs → length xs ≡ length us → xs ≡ us
@@ -84,14 +83,3 @@ module _ {w : ℕ → ℕ} (p : ℕ) {k : Book} (widths : Widths (k .s) (k .r) w
       let below : h < k .under = omega (arith, eqb-false h (k .under) t) in
       let u = at-inside (k .root) nil w (height k) (suc h) p 0 fits (λ e. omega arith) in
       rw (u .0) (cut-ancestor h below (omega (arith, u .1, u .2))))
-
-module _ {w : ℕ → ℕ} {p x : ℕ} {k : Book} (widths : Widths (k .s) (k .r) w) (sane : Sane k) (fits : p ≤ size (k .root))
-    (d : Flat (k .s) (k .r) w (whole k) (height k) p x 0) where
-  all-parts : labels-of w k ≡ (d .before ++ (d .old ++ d .beside)) ++ d .after
-  all-parts = labels-whole w k ∙ d .was ∙ simp append-assoc
-
-  -- THE BORDER: the end of the parent
-  pub cut-flat : d .height < height k →
-      Cut 0 (node-number (whole k) w (height k) (suc (d .height)) p 0 + w (suc (d .height))) (w (height k)) (d .before ++ (d .old ++ d .beside)) (d .after)
-  cut-flat l =
-      cut-whole p widths sane fits (d .before ++ (d .old ++ d .beside)) (d .after) all-parts (d .height) l (simp length-append (omega (arith, d .parent l .border-is)))

@@ -19,7 +19,7 @@ use Rattle.tree_laws.proofs.Ancestors.{node-number, at-right, at-here, 
 use Rattle.tree_laws.proofs.Thinnest.{label-inside, label-beyond}
 
 -- a split leaves s trees
-trees-parts : (c e : ℕ) (g : List ℕ → Forest) (xs : List ℕ) → trees (parts c e g xs) ≡ c
+pub trees-parts : (c e : ℕ) (g : List ℕ → Forest) (xs : List ℕ) → trees (parts c e g xs) ≡ c
 trees-parts zero e g xs = rw parts-none
 trees-parts (suc zero) e g xs = rw parts-one
 trees-parts (suc (suc c)) e g xs = rw parts-more (ap suc (trees-parts (suc c) e g _))

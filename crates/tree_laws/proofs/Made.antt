@@ -1,24 +1,19 @@
 -- What load and split make: s complete trees, the smallest height, and the tags. Assumes nothing.
-use mathlib.Core.Path.{_≡_, refl, ap, _∙_}
-use mathlib.Core.List.{List, [], _∷_}
+use mathlib.Core.Path.{_≡_, refl, _∙_}
+use mathlib.Core.List.{List}
 use Prim.Native.Nat.{ℕ, zero, suc, _*_, _^_, _≤_, _<_}
 use native.Mathlib.Nat.{pow-zero, mul-one, mul-le-mul-right, pow-le-pow-right, lt-of-not-le}
 use native.Mathlib.Omega.{arith}
 use lib.ListN.{length}
-use Rattle.tree.specs.Forest.{leaf-row, spread, trees}
+use Rattle.tree.specs.Forest.{spread, trees}
 use Rattle.tree.specs.Book.{load-under, loaded}
 use Rattle.tree.specs.Promise.{Splits-complete, Load-smallest, Load-tags, Insertion-tags}
-use Rattle.tree_laws.proofs.Spread.{spread-zero, leaves-spread, complete-spread}
+use Rattle.tree_laws.proofs.Spread.{trees-leaf-row, spread-zero, leaves-spread, complete-spread}
 use Rattle.tree_laws.proofs.Load.{load-least, tags-loaded}
 use Rattle.tree_laws.proofs.Flat.{trees-spread}
 use Rattle.tree_laws.proofs.Insertion.{tags-inserted}
 
 -- how many trees a spread row has
-trees-leaf-row : (xs : List ℕ) → trees (leaf-row xs) ≡ length xs
-unfolding leaf-row
-trees-leaf-row [] = refl
-trees-leaf-row (x ∷ xs) = ap suc (trees-leaf-row xs)
-
 trees-made : (j r s : ℕ) (xs : List ℕ) → 2 ≤ r → length xs ≡ s * r ^ j → trees (spread j r xs) ≡ s
 trees-made zero r s xs l n = rw spread-zero (trees-leaf-row xs ∙ (n ∙ rw (pow-zero, mul-one)))
 trees-made (suc j) r s xs l n = trees-spread j r s xs l n

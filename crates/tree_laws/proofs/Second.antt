@@ -27,15 +27,15 @@ use Rattle.tree_laws.proofs.Reach.{moves-inside, inside-moves, by-label
 
 -- the equations of `split-with` at a node
 module _ (g f : Forest) (r j h p : ℕ) (ns : List ℕ) where
-  pub with-right : size g < p → split-with (node g f) r j h p ns ≡ node g (split-with f r j h (p - size g) ns)
+  with-right : size g < p → split-with (node g f) r j h p ns ≡ node g (split-with f r j h (p - size g) ns)
   unfolding split-with
   with-right l = rw (lt-ltb _ _ l)
 
-  pub with-here : p ≤ size g → j ≡ h → split-with (node g f) r j h p ns ≡ joined (spread j r (insert-at p ns (leaves g))) f
+  with-here : p ≤ size g → j ≡ h → split-with (node g f) r j h p ns ≡ joined (spread j r (insert-at p ns (leaves g))) f
   unfolding split-with
   with-here l e = rw (le-ltb _ _ l, eq-eqb j h e)
 
-  pub with-inside : p ≤ size g → (j ≡ h → ⊥) → split-with (node g f) r j h p ns ≡ node (split-with g r (pred j) h p ns) f
+  with-inside : p ≤ size g → (j ≡ h → ⊥) → split-with (node g f) r j h p ns ≡ node (split-with g r (pred j) h p ns) f
   unfolding split-with
   with-inside l n = rw (le-ltb _ _ l, ne-eqb j h n)
 
@@ -62,7 +62,7 @@ module _ {s r : ℕ} (s-least : 2 ≤ s) (r-least : 2 ≤ r) where
       go (below l n) onward inside = height-below g c s r (suc j) q l n ∙ inside
 
   -- nor where they stand before other trees
-  pub unsplit-joined : (c f : Forest) (j q : ℕ) → Complete r c j → 1 ≤ q → q ≤ size c → split-height (joined c f) s r j q ≡ 0
+  unsplit-joined : (c f : Forest) (j q : ℕ) → Complete r c j → 1 ≤ q → q ≤ size c → split-height (joined c f) s r j q ≡ 0
   unfolding split-height joined leaves
   unsplit-joined nil f j q k low high = absurd (omega arith)
   unsplit-joined (leaf z c) f j q k low high = refl
@@ -124,7 +124,7 @@ module _ {s r : ℕ} (s-least : 2 ≤ s) (r-least : 2 ≤ r) where
 
 -- and in a book
 module _ (p x y h : ℕ) (k : Book) (sane : Sane k) (fits : p ≤ size (k .root)) where
-  pub unsplit-root : root-full k ≡ true → split-of (suc p) (inserted p x k) ≡ 0
+  unsplit-root : root-full k ≡ true → split-of (suc p) (inserted p x k) ≡ 0
   unfolding root-split
   unsplit-root t =
       let m = root-split p x k in
@@ -158,14 +158,14 @@ module _ (p x y h : ℕ) (k : Book) (sane : Sane k) (fits : p ≤ size (k .root)
       let lower = split-at-most (m .root) (k .s) (k .r) (k .under) (suc p) good′ in
       rw (inserted-inside (suc p) m y t, split-book-inside (omega arith), second-split (sane .s-least) (sane .r-least) (k .root) (k .under) p x y h good fits at))
 
-  pub second-book : split-of (suc p) (inserted p x k) ≡ suc h → inserted (suc p) y (inserted p x k) ≡ split-book (suc h) p (x ∷ y ∷ []) k
+  second-book : split-of (suc p) (inserted p x k) ≡ suc h → inserted (suc p) y (inserted p x k) ≡ split-book (suc h) p (x ∷ y ∷ []) k
   second-book e =
       by-test (root-full k)
       (λ t. absurd (omega (arith, unsplit-root t)))
       (λ t. rw (inserted-inside p k x t) (second-inside (rw (inserted-inside p k x t) at e)))
 
 -- WHERE ANCESTORS END: how many leaves stand left of, and under, the tree of height h that p goes into
-abbrev pub end-in : Forest → (j h p : ℕ) → ℕ
+abbrev end-in : Forest → (j h p : ℕ) → ℕ
 end-in f j h p = left-in f j h p + size-in f j h p
 
 module _ (g f : Forest) (j h p : ℕ) where
@@ -178,7 +178,7 @@ module _ (g f : Forest) (j h p : ℕ) where
   end-inside : p ≤ size g → (j ≡ h → ⊥) → end-in (node g f) j h p ≡ end-in g (pred j) h p
   end-inside l n = omega (arith, at-inside g f (λ i. 0) j h p 0 l n .1, at-inside g f (λ i. 0) j h p 0 l n .2)
 
-pub end-most : (f : Forest) (j h p : ℕ) → p ≤ size f → end-in f j h p ≤ size f
+end-most : (f : Forest) (j h p : ℕ) → p ≤ size f → end-in f j h p ≤ size f
 unfolding left-in size-in leaves
 end-most nil j h p fits = omega arith
 end-most (leaf z f) j h p fits = omega arith
@@ -190,7 +190,7 @@ end-most (node g f) j h p fits =
     (λ l n. omega (arith, end-inside g f j h p l n, end-most g (pred j) h p l))
 
 -- a higher one ends no sooner
-pub end-higher : (f : Forest) (j h i p : ℕ) → h ≤ i → i ≤ j → p ≤ size f → end-in f j h p ≤ end-in f j i p
+end-higher : (f : Forest) (j h i p : ℕ) → h ≤ i → i ≤ j → p ≤ size f → end-in f j h p ≤ end-in f j i p
 unfolding left-in size-in leaves
 end-higher nil j h i p low high fits = omega arith
 end-higher (leaf z f) j h i p low high fits = omega arith

@@ -9,9 +9,10 @@ use borrow.Author.Tests.{lt-ltb, le-ltb}
 use lib.ListN.{length, length-append}
 use lib.Seq.{take-at, drop-at, take-append-seam, drop-append-seam}
 use Rattle.tree.specs.Good.{Good}
-use Rattle.tree.specs.Forest.{Forest, nil, leaf, node, leaves, size, labels, leaf-row}
+use Rattle.tree.specs.Forest.{Forest, nil, leaf, node, leaves, size, labels}
 use Rattle.tree.specs.Spelling.{front-below, spelled-nodes, spelled}
 use Rattle.tree.specs.Promise.{Widths}
+use Rattle.tree_laws.proofs.Spread.{leaf-row-of}
 use Rattle.tree_laws.proofs.Labels.{Rising, rising-order, good-rising, node-rising, length-labels}
 
 -- the numbers below a bound that stand before numbers from that bound on
@@ -34,12 +35,6 @@ unfolding spelled-nodes
 spelled-step k w g a [] ys ls ms h n e = absurd (omega arith)
 spelled-step k w g a (x ∷ xs) ys ls ms h n e =
     rw (e, take-at (x ∷ xs) ys (length ls) (sym n), drop-at (x ∷ xs) ys (length ls) (sym n), take-append-seam ls ms, drop-append-seam ls ms)
-
-leaf-row-good : (s r : ℕ) (f : Forest) → Good s r f 0 → leaf-row (leaves f) ≡ f
-unfolding leaf-row leaves
-leaf-row-good s r nil h = refl
-leaf-row-good s r (leaf x f) h = ap (leaf x) (leaf-row-good s r f h)
-leaf-row-good s r (node g f) h = absurd h
 
 module _ {s r : ℕ} {w : ℕ → ℕ} (s-least : 2 ≤ s) (r-least : 2 ≤ r) (widths : Widths s r w) where
   nodes-good : (j : ℕ) → ((g : Forest) (b : ℕ) → Good s r g j → spelled j w b (leaves g) (labels g w j b) ≡ g) →
@@ -65,7 +60,7 @@ module _ {s r : ℕ} {w : ℕ → ℕ} (s-least : 2 ≤ s) (r-least : 2 ≤ r) (
   -- a good forest is the one that its tags and labels spell
   pub spelled-good : (j : ℕ) (f : Forest) (a : ℕ) → Good s r f j → spelled j w a (leaves f) (labels f w j a) ≡ f
   unfolding spelled
-  spelled-good zero f a h = leaf-row-good s r f h
+  spelled-good zero f a h = leaf-row-of s r f h
   spelled-good (suc j) f a h = nodes-good j (λ g b k. spelled-good j g b k) (size f) f a h (le-refl (size f))
 
   -- so two good forests of one height with the same tags and labels are equal

@@ -7,7 +7,7 @@ use native.Mathlib.Omega.{arith}
 use lib.ListN.{length, take, drop, length-drop, take-append-drop}
 use lib.Seq.{length-take-le}
 use Rattle.tree.specs.Good.{Good, Complete}
-use Rattle.tree.specs.Forest.{Forest, nil, leaf, node, leaves, size, joined, leaf-row, parts, spread}
+use Rattle.tree.specs.Forest.{Forest, nil, leaf, node, leaves, size, joined, leaf-row, parts, spread, trees}
 
 -- forests joined
 pub leaves-joined : (f g : Forest) → leaves (joined f g) ≡ leaves f ++ leaves g
@@ -15,6 +15,24 @@ unfolding joined leaves
 leaves-joined nil g = refl
 leaves-joined (leaf x f) g = rw (leaves-joined f g)
 leaves-joined (node h f) g = rw (leaves-joined f g, append-assoc)
+
+pub joined-nil : (f : Forest) → joined f nil ≡ f
+unfolding joined
+joined-nil nil = refl
+joined-nil (leaf x f) = ap (leaf x) (joined-nil f)
+joined-nil (node g f) = ap (node g) (joined-nil f)
+
+pub joined-assoc : (f g h : Forest) → joined (joined f g) h ≡ joined f (joined g h)
+unfolding joined
+joined-assoc nil g h = refl
+joined-assoc (leaf x f) g h = ap (leaf x) (joined-assoc f g h)
+joined-assoc (node e f) g h = ap (node e) (joined-assoc f g h)
+
+pub trees-joined : (f g : Forest) → trees (joined f g) ≡ trees f + trees g
+unfolding joined
+trees-joined nil g = omega arith
+trees-joined (leaf x f) g = omega (arith, trees-joined f g)
+trees-joined (node e f) g = omega (arith, trees-joined f g)
 
 pub good-joined : (s r : ℕ) (f g : Forest) (j : ℕ) → Good s r f j → Good s r g j → Good s r (joined f g) j
 unfolding joined
@@ -52,6 +70,18 @@ pub good-leaf-row : (s r : ℕ) (xs : List ℕ) → Good s r (leaf-row xs) 0
 unfolding leaf-row
 good-leaf-row s r [] = tt
 good-leaf-row s r (x ∷ xs) = good-leaf-row s r xs
+
+pub trees-leaf-row : (xs : List ℕ) → trees (leaf-row xs) ≡ length xs
+unfolding leaf-row
+trees-leaf-row [] = refl
+trees-leaf-row (x ∷ xs) = ap suc (trees-leaf-row xs)
+
+-- one is known by its tags
+pub leaf-row-of : (s r : ℕ) (f : Forest) → Good s r f 0 → leaf-row (leaves f) ≡ f
+unfolding leaf-row leaves
+leaf-row-of s r nil h = refl
+leaf-row-of s r (leaf x f) h = ap (leaf x) (leaf-row-of s r f h)
+leaf-row-of s r (node g f) h = absurd h
 
 -- the clauses of `parts`
 pub parts-none : (e : ℕ) (g : List ℕ → Forest) (xs : List ℕ) → parts 0 e g xs ≡ nil

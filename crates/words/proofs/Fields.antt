@@ -17,6 +17,10 @@ pub words-next : (n : ℕ) → words-for header-words (suc n) ≡ words-for head
 unfolding words-for
 words-next n = omega arith
 
+pub words-more : (n k : ℕ) → words-for header-words (n + k) ≡ words-for header-words n + tag-words * k
+unfolding words-for
+words-more n k = omega arith
+
 pub words-up : (n m : ℕ) → n ≤ m → words-for header-words n ≤ words-for header-words m
 unfolding words-for
 words-up n m l = omega arith
@@ -88,7 +92,16 @@ pub length-with-label : (ws : List ℕ) (x l : ℕ) → length (with-label ws x 
 unfolding with-label records-at
 length-with-label ws x l = length-set ws (header-words + tag-words * x) l
 
--- what stands past the records of n tags too
+-- what stands before the record of tag n too
+pub front-with-field : (ws : List ℕ) (x k v n i : ℕ) → n ≤ x → i < words-for header-words n → word-at (with-field ws x k v) i ≡ word-at ws i
+unfolding with-field words-for records-at
+front-with-field ws x k v n i l small = getD-set-other ws _ i v 0 (λ e. omega arith)
+
+pub front-with-label : (ws : List ℕ) (x l n i : ℕ) → n ≤ x → i < words-for header-words n → word-at (with-label ws x l) i ≡ word-at ws i
+unfolding with-label words-for records-at
+front-with-label ws x l n i past small = getD-set-other ws _ i l 0 (λ e. omega arith)
+
+-- and what stands past the records of n tags
 pub rest-with-field : (ws : List ℕ) (x k v n : ℕ) → x < n → k < tag-words → drop (words-for header-words n) (with-field ws x k v) ≡ drop (words-for header-words n) ws
 unfolding with-field words-for records-at
 rest-with-field ws x k v n l small = drop-set-lt (header-words + tag-words * n) ws (header-words + tag-words * x + k) v (omega arith)

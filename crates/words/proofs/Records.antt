@@ -5,11 +5,11 @@ use mathlib.Core.List.{List, [], _∷_, _++_, append-assoc, flatMap}
 use Prim.Native.Nat.{ℕ, zero, suc, _+_, _*_, _≤_, _<_}
 use native.Mathlib.Nat.{zero-add, add-zero, not-suc-le-zero, le-of-suc-le-suc}
 use native.Mathlib.Omega.{arith}
-use lib.ListN.{length, getD, set, take, drop, length-append, List·getD-append}
+use lib.ListN.{length, getD, take, drop, length-append, List·getD-append}
 use lib.Seq.{getD-append-add, drop-cons}
 use Rattle.lists.specs.Lists.{numbers}
 use Rattle.lists.proofs.Numbers.{length-numbers, getD-numbers}
-use Rattle.store_types.specs.Layout.{header-words, at-next, at-prior, at-mate, at-up, at-kind, tag-words, record-list, label-in, records-at, words-for, field, label-at, with-field, with-label}
+use Rattle.store_types.specs.Layout.{header-words, at-next, at-prior, at-mate, at-up, at-kind, tag-words, record-list, label-in, records-at, words-for, field, label-at}
 use Rattle.words.proofs.Fields.{words-next, words-up}
 
 module _ (f : ℕ → List ℕ) (each : (x : ℕ) → length (f x) ≡ tag-words) where
@@ -128,24 +128,16 @@ module _ (ws head : List ℕ) (f : ℕ → List ℕ) (n : ℕ) (header : head �
       let fits : header-words ≤ length ws = omega arith in
       drop-part ws 0 header-words fits ∙ rw (append-assoc, ← from-tag n 0 (omega arith), header)
 
--- A RECORD BEHIND the words of n tags
-set-behind : (xs ys : List ℕ) (i a : ℕ) → set (xs ++ ys) (length xs + i) a ≡ xs ++ set ys i a
-set-behind [] ys i a = let here : 0 + i ≡ i = omega arith in rw here
-set-behind (x ∷ xs) ys i a = let later : suc (length xs) + i ≡ suc (length xs + i) = omega arith in rw (later, set-behind xs ys i a)
-
-module _ (n : ℕ) (ws ys : List ℕ) (many : length ws ≡ words-for header-words n) where
-  pub with-field-behind : (k v : ℕ) → with-field (ws ++ ys) n k v ≡ ws ++ set ys k v
-  unfolding with-field words-for records-at
-  with-field-behind k v = let at : header-words + tag-words * n + k ≡ length ws + k = omega arith in rw at (set-behind ws ys k v)
-
-  pub with-label-behind : (l : ℕ) → with-label (ws ++ ys) n l ≡ ws ++ set ys 0 l
-  unfolding with-label words-for records-at
-  with-label-behind l = let at : header-words + tag-words * n ≡ length ws + 0 = omega arith in rw at (set-behind ws ys 0 l)
-
-  pub field-behind : (k : ℕ) → field (ws ++ ys) n k ≡ getD ys k 0
+-- RECORDS BEHIND the words of n tags
+module _ (n : ℕ) (ws ys : List ℕ) (many : length ws ≡ words-for header-words n) (i : ℕ) where
+  pub field-behind : (k : ℕ) → field (ws ++ ys) (n + i) k ≡ getD ys (tag-words * i + k) 0
   unfolding field words-for records-at
-  field-behind k = let at : header-words + tag-words * n + k ≡ length ws + k = omega arith in rw at (getD-append-add ws ys k 0)
+  field-behind k =
+      let at : header-words + tag-words * (n + i) + k ≡ length ws + (tag-words * i + k) = omega arith in
+      rw at (getD-append-add ws ys (tag-words * i + k) 0)
 
-  pub label-behind : label-at (ws ++ ys) n ≡ label-in ys
+  pub label-behind : label-at (ws ++ ys) (n + i) ≡ getD ys (tag-words * i + 0) 0
   unfolding label-at words-for records-at
-  label-behind = let at : header-words + tag-words * n ≡ length ws + 0 = omega arith in rw at (getD-append-add ws ys 0 0)
+  label-behind =
+      let at : header-words + tag-words * (n + i) ≡ length ws + (tag-words * i + 0) = omega arith in
+      rw at (getD-append-add ws ys (tag-words * i + 0) 0)

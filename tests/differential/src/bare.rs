@@ -3,7 +3,7 @@
 //! The list is fed arguments and whether a call was accepted, never a word of the store. Only the checks look at words.
 
 use crate::call::{Call, Reply};
-use crate::kinds::{BEGIN, END, TEXT};
+use crate::kinds::{BEGIN, END};
 use reference::{HEADER, NO_TAG, RECORD, bytes_for};
 
 /// Where a record has its label and its kind, and what a mark adds to the kind.
@@ -56,11 +56,11 @@ impl Bare {
     /// An accepted call after the load, or what is wrong with the numbers that it replied.
     pub fn accepted(&mut self, call: &Call, reply: &Reply) -> Result<(), String> {
         match *call {
-            Call::Insert { kind, place } => {
+            Call::Insert { place, .. } | Call::InsertSheet { place, .. } => {
                 if reply[1] as usize != self.list.len() {
                     return Err(format!("bare list: first new tag {}, not {}", reply[1], self.list.len()));
                 }
-                self.insert(kind, place);
+                self.insert(call.inserts().unwrap_or_default(), place);
                 self.moved += u64::from(reply[2]);
             }
             Call::Mark { tag } => {
@@ -77,10 +77,9 @@ impl Bare {
         Ok(())
     }
 
-    fn insert(&mut self, kind: u8, place: u32) {
+    fn insert(&mut self, kinds: &[u8], place: u32) {
         let at = if place == NO_TAG { 0 } else { self.position(place) + 1 };
-        let new: &[u8] = if kind == BEGIN { &[BEGIN, END] } else { &[TEXT] };
-        for (i, &kind) in new.iter().enumerate() {
+        for (i, &kind) in kinds.iter().enumerate() {
             self.list.insert(at + i, self.list.len() as u32);
             self.kinds.push(kind);
             self.marked.push(false);
@@ -189,7 +188,9 @@ fn differing<'a>(field: usize, before: &'a [u32], after: &'a [u32]) -> impl Iter
 pub fn counts(call: &Call, reply: &Reply, before: &[u32], after: &[u32]) -> Result<(), String> {
     let unmarked = |tag: &usize| [before, after].iter().all(|words| words[HEADER + RECORD * tag + KIND] < MARK);
     let (count, said) = match call {
-        Call::Insert { .. } => (differing(LABEL, before, after).filter(unmarked).count(), reply[2]),
+        Call::Insert { .. } | Call::InsertSheet { .. } => {
+            (differing(LABEL, before, after).filter(unmarked).count(), reply[2])
+        }
         Call::Mark { .. } => (differing(KIND, before, after).count(), reply[1]),
         _ => return Ok(()),
     };

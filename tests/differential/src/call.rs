@@ -1,5 +1,7 @@
 //! One call with its arguments, and a case: a start and calls, all that is needed to do it again.
 
+use crate::kinds::{BEGIN, END, TEXT};
+
 #[derive(Clone, PartialEq, Eq, Debug)]
 pub enum Call {
     Load {
@@ -10,6 +12,11 @@ pub enum Call {
     },
     Insert {
         kind: u8,
+        place: u32,
+    },
+    /// A whole sheet.
+    InsertSheet {
+        kinds: Vec<u8>,
         place: u32,
     },
     Mark {
@@ -50,6 +57,7 @@ impl Call {
         match self {
             Call::Load { .. } => "load",
             Call::Insert { .. } => "insert",
+            Call::InsertSheet { .. } => "sheet",
             Call::Mark { .. } => "mark",
             Call::Hold { .. } => "hold",
             Call::Question { .. } => "question",
@@ -62,8 +70,20 @@ impl Call {
     /// The bytes that the call is given to read: kinds or a file.
     pub fn given(&self) -> &[u8] {
         match self {
-            Call::Load { kinds: given, .. } | Call::Read { file: given, .. } => given,
+            Call::Load { kinds: given, .. }
+            | Call::InsertSheet { kinds: given, .. }
+            | Call::Read { file: given, .. } => given,
             _ => &[],
+        }
+    }
+
+    /// The kinds of the tags that the call puts in where it is accepted; None where it is no insertion.
+    pub fn inserts(&self) -> Option<&[u8]> {
+        match self {
+            Call::Insert { kind: BEGIN, .. } => Some(&[BEGIN, END]),
+            Call::Insert { .. } => Some(&[TEXT]),
+            Call::InsertSheet { kinds, .. } => Some(kinds),
+            _ => None,
         }
     }
 

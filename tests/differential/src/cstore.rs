@@ -3,7 +3,7 @@
 use crate::call::{Call, Reply};
 use crate::sheet::SheetReader;
 use crate::subject::{Lent, Subject};
-use vekhturop_sys::{vk_hold, vk_insert, vk_list, vk_load, vk_mark, vk_question};
+use vekhturop_sys::{vk_hold, vk_insert, vk_insert_sheet, vk_list, vk_load, vk_mark, vk_question};
 use vekhturop_sys::{vk_read_file, vk_write_file, vk_xml_kinds};
 
 pub struct CStore;
@@ -27,6 +27,7 @@ impl Subject for CStore {
             match *call {
                 Call::Load { s, r, book, .. } => reply(vk_load(s, r, book, from, from_len, to, len)),
                 Call::Insert { kind, place } => reply(vk_insert(kind, place, to, len)),
+                Call::InsertSheet { place, .. } => reply(vk_insert_sheet(from, from_len, place, to, len)),
                 Call::Mark { tag } => reply(vk_mark(tag, to, len)),
                 Call::Hold { tag } => reply(vk_hold(tag, to, len)),
                 Call::Question { book, tag, start, end, d } => reply(vk_question(book, tag, start, end, d, to, len)),

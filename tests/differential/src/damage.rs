@@ -239,6 +239,7 @@ fn probes(sound: &[u32], rng: &mut Rng) -> Vec<Call> {
         Call::Insert { kind: TEXT, place: NO_TAG },
         Call::Insert { kind: BEGIN, place: tag },
         Call::Insert { kind: END, place: tag },
+        Call::InsertSheet { kinds: vec![BEGIN, END], place: tag },
         Call::Mark { tag },
         Call::Hold { tag },
         Call::Question { book, tag, start, end, d },

@@ -18,6 +18,10 @@ fn too_few(words: usize, tags: usize) -> bool {
     words < HEADER + RECORD * tags
 }
 
+fn all_kinds(kinds: &[u8]) -> bool {
+    kinds.iter().all(|kind| [BEGIN, END, TEXT].contains(kind))
+}
+
 fn properly_nested(kinds: &[u8]) -> bool {
     let mut open = 0i64;
     kinds.iter().all(|&kind| {
@@ -38,7 +42,7 @@ pub fn load_refusal(s: u32, r: u32, kinds: &[u8], words: usize) -> u32 {
         (!degrees, 3),
         (n > MOST_TAGS, 6),
         (too_few(words, n), 1),
-        (!kinds.iter().all(|kind| [BEGIN, END, TEXT].contains(kind)), 4),
+        (!all_kinds(kinds), 4),
         (!properly_nested(kinds), 5),
         (degrees && n <= MOST_TAGS && no_labels(), 7),
     ])
@@ -50,7 +54,14 @@ impl Bare {
     pub fn refusal(&self, call: &Call, words: usize) -> Option<u32> {
         match *call {
             Call::Load { s, r, ref kinds, .. } => Some(load_refusal(s, r, kinds, words)),
-            Call::Insert { kind, place } => Some(self.insert_refusal(kind, place, words)),
+            Call::Insert { kind, place } => {
+                let wrong = first(&[(kind != BEGIN && kind != TEXT, 4)]);
+                Some(self.insert_refusal(wrong, if kind == BEGIN { 2 } else { 1 }, place, words))
+            }
+            Call::InsertSheet { ref kinds, place } => {
+                let wrong = first(&[(!all_kinds(kinds), 4), (!properly_nested(kinds), 5)]);
+                Some(self.insert_refusal(wrong, kinds.len(), place, words))
+            }
             Call::Mark { tag } | Call::Hold { tag } => {
                 Some(first(&[(self.no_tag(tag), 8), (self.is_marked(tag), 9), (self.kind(tag) == END, 10)]))
             }
@@ -60,18 +71,20 @@ impl Bare {
         }
     }
 
-    /// In the order 4, 8, 9, 6, 7.
-    fn insert_refusal(&self, kind: u8, place: u32, words: usize) -> u32 {
-        let n = self.list.len() + if kind == BEGIN { 2 } else { 1 };
+    /// Of so many tags: what is wrong with their kinds, which is 4 or 5, or 0; then in the order 8, 9, 6, 7.
+    fn insert_refusal(&self, wrong: u32, new: usize, place: u32, words: usize) -> u32 {
+        let n = self.list.len() + new;
         let at_front = place == NO_TAG;
-        let root_splits = n as u64 >= self.s * self.r.pow(self.height);
-        let no_labels = (self.s * self.r - 1).pow(self.height + 1) > LABELS;
+        // The height that the tree comes to, which is not that of the next root split alone where many tags go in.
+        let holds = |height: &u32| (n as u64) < self.s * self.r.pow(*height);
+        let height = (self.height..).find(holds).expect("r is at least 2");
+        let no_labels = (self.s * self.r - 1).saturating_pow(height) > LABELS;
         first(&[
-            (kind != BEGIN && kind != TEXT, 4),
+            (wrong != 0, wrong),
             (!at_front && self.no_tag(place), 8),
             (!at_front && self.is_marked(place), 9),
             (n > MOST_TAGS || too_few(words, n), 6),
-            (root_splits && no_labels, 7),
+            (height > self.height && no_labels, 7),
         ])
     }
 

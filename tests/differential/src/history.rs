@@ -1,6 +1,7 @@
 //! Random histories: a load and a walk of calls by a pattern, refused calls among them.
 
 use crate::call::Call;
+use crate::insert_sheets;
 use crate::kinds::{self, BEGIN, END, TEXT};
 use crate::session::{Failure, Session};
 use draw::Rng;
@@ -112,8 +113,9 @@ fn odd_tag(rng: &mut Rng, view: &View) -> u32 {
 /// A call that is not the pattern's insertion.
 fn other(rng: &mut Rng, view: &View, held: &[[u32; 4]]) -> Call {
     let n = view.tags.len();
-    match rng.below(6) {
+    match rng.below(7) {
         0 => Call::Insert { kind: rng.pick(&[0, END, 4, 17, 19, 255, BEGIN, TEXT]), place: odd_tag(rng, view) },
+        6 => Call::InsertSheet { kinds: insert_sheets::any(rng), place: odd_tag(rng, view) },
         1 => Call::Mark { tag: odd_tag(rng, view) },
         2 => Call::Hold { tag: odd_tag(rng, view) },
         3 | 4 if !held.is_empty() => {
@@ -150,6 +152,7 @@ pub fn walk(session: &mut Session, rng: &mut Rng, steps: usize) -> Result<(), Fa
     let elements = rng.pick(&[0, 10, 50, 100]);
     // In half of the walks many tags are marked: they move, and do not count as moved.
     let marks = rng.pick(&[2, 2, 20, 50]);
+    let sheets = rng.pick(&[0, 5, 25]);
     let mut held: Vec<[u32; 4]> = Vec::new();
     let mut full = 0;
     for step in 0..steps {
@@ -174,8 +177,12 @@ pub fn walk(session: &mut Session, rng: &mut Rng, steps: usize) -> Result<(), Fa
                 session.step(Call::Mark { tag })?;
             }
         }
-        let kind = if rng.percent(elements) { BEGIN } else { TEXT };
-        let reply = session.step(Call::Insert { kind, place: place(rng, pattern_now, &view, step) })?;
+        let place = place(rng, pattern_now, &view, step);
+        let call = match if rng.percent(elements) { BEGIN } else { TEXT } {
+            _ if rng.percent(sheets) => Call::InsertSheet { kinds: insert_sheets::any(rng), place },
+            kind => Call::Insert { kind, place },
+        };
+        let reply = session.step(call)?;
         if reply[0] == 0 && matches!(pattern_now, Pattern::MarkEach(_)) {
             session.step(Call::Mark { tag: reply[1] })?;
         }

@@ -2,8 +2,8 @@
 //! lines, and of two readers of sheets.
 //!
 //! By calls: `subject` names what is compared, `session` makes one call on both sides and compares, `bare` and `due`
-//! set it beside the bare list, the generators (`history`, `shape`, `limits`, `damage`, `flaw`) choose the calls, and
-//! `shrink` makes a failure short.
+//! set it beside the bare list, `in_turn` a whole sheet beside single texts, the generators (`history`, `shape`, `limits`,
+//! `insert_sheets`, `damage`, `flaw`) choose the calls, and `shrink` makes a failure short.
 //!
 //! By lines: `program` names what is compared, `process` starts the book program and `pieces` cuts what is written to
 //! it, `near`, `scripts` and `writer` make the lines, and `shorten` and `edit` make a failure short.
@@ -27,6 +27,8 @@ pub mod file_damage;
 pub mod files;
 pub mod flaw;
 pub mod history;
+pub mod in_turn;
+pub mod insert_sheets;
 pub mod kept;
 pub mod kinds;
 pub mod limits;

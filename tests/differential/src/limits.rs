@@ -119,14 +119,19 @@ pub fn loads(subject: &dyn Subject, tally: &mut Tally) -> Result<(), Failure> {
     }
     for kinds in every_kinds(6) {
         let mut session = Session::new(subject, tally, vec![6; HEADER + RECORD * 6]);
-        session.step(Call::Load { s: 2, r: 2, book: 1, kinds })?;
+        session.step(Call::Load { s: 2, r: 2, book: 1, kinds: kinds.clone() })?;
         session.step(Call::Hold { tag: 0 })?;
+        session.step(Call::Load { s: 2, r: 2, book: 1, kinds: vec![] })?;
+        session.step(Call::InsertSheet { kinds, place: NO_TAG })?;
     }
     for kind in 0..=u8::MAX {
         for kinds in [vec![kind], vec![BEGIN, kind], vec![END, kind], vec![BEGIN, kind, END]] {
             let mut session = Session::new(subject, tally, vec![6; HEADER + RECORD * 5]);
-            session.step(Call::Load { s: 2, r: 2, book: 1, kinds })?;
+            session.step(Call::Load { s: 2, r: 2, book: 1, kinds: kinds.clone() })?;
             session.step(Call::Load { s: 2, r: 2, book: 1, kinds: vec![BEGIN, END] })?;
+            for place in [2, 0] {
+                session.step(Call::InsertSheet { kinds: kinds.clone(), place })?;
+            }
             session.step(Call::Insert { kind, place: 0 })?;
         }
     }

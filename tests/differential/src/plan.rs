@@ -5,6 +5,7 @@ use crate::damage;
 use crate::files;
 use crate::flaw::{self, Flaw};
 use crate::history::{ground, history, walk};
+use crate::insert_sheets;
 use crate::kinds;
 use crate::limits;
 use crate::pieces::Pieces;
@@ -87,6 +88,14 @@ pub fn damages(subject: &dyn Subject, tally: &mut Tally, rng: &mut Rng, size: us
     small_stores(rng, size, &mut |rng, sound| damage::damage(subject, tally, rng, sound))
 }
 
+/// So many small sound stores, with sheets at all their places and into words for just so many tags.
+pub fn sheet_places(subject: &dyn Subject, tally: &mut Tally, rng: &mut Rng, size: usize) -> Result<(), Failure> {
+    small_stores(rng, size, &mut |rng, sound| {
+        insert_sheets::everywhere(subject, tally, rng, sound)?;
+        insert_sheets::room(subject, tally, rng, sound)
+    })
+}
+
 /// Stores with flaws, for so many of s and r.
 pub fn flaws(subject: &dyn Subject, tally: &mut Tally, rng: &mut Rng, size: usize) -> Result<(), Failure> {
     flawed_stores(rng, size, &mut |rng, words| damage::flawed(subject, tally, rng, words))
@@ -100,17 +109,21 @@ pub fn calls(subject: &dyn Subject, tally: &mut Tally, seed: u64, size: usize) -
     limits::words(subject, tally, rng)?;
     histories(subject, tally, rng, size)?;
     shapes(subject, tally, rng, size)?;
+    sheet_places(subject, tally, rng, size)?;
     damages(subject, tally, rng, size / 8 + 4)?;
     flaws(subject, tally, rng, size)?;
     limits::run_from_k(subject, tally, rng)?;
+    insert_sheets::from_k(subject, tally)?;
     limits::heights(subject, tally, rng)?;
     // With 225 or more the run is meant to meet all pairs; the great stores then come too.
     let great = 225 <= size;
     limits::labels(subject, tally, rng, if great { 20_000 } else { 5_000 })?;
+    insert_sheets::labels(subject, tally, rng, if great { 4_000 } else { 1_100 })?;
     if great {
         limits::tables(subject, tally, rng)?;
     }
-    limits::tags(subject, tally, rng)
+    limits::tags(subject, tally, rng)?;
+    insert_sheets::tags_at_most(subject, tally, rng)
 }
 
 /// So many histories, each with stops in it, from sound stores of random shape and from loads over them.

@@ -11,15 +11,19 @@ pub(crate) fn tag(tag: u32) -> String {
     if tag == NO_TAG { "front".into() } else { tag.to_string() }
 }
 
-pub(crate) fn load(s: u32, r: u32, book: u32, kinds: &[u8]) -> Option<String> {
+/// Kinds by their letters.
+fn letters(kinds: &[u8]) -> Option<String> {
     let letter = |kind: &u8| match *kind {
         BEGIN => Some('B'),
         END => Some('E'),
         TEXT => Some('T'),
         _ => None,
     };
-    let letters: String = kinds.iter().map(letter).collect::<Option<_>>()?;
-    Some(format!("load {s} {r} {book} {letters}").trim_end().into())
+    kinds.iter().map(letter).collect()
+}
+
+pub(crate) fn load(s: u32, r: u32, book: u32, kinds: &[u8]) -> Option<String> {
+    Some(format!("load {s} {r} {book} {}", letters(kinds)?).trim_end().into())
 }
 
 /// The line that makes the program make this call, if there is one. Its lists have room for all its tags.
@@ -49,9 +53,14 @@ pub fn input(case: &Case) -> Option<String> {
     starts_as_the_program(case).then(|| lines.join("\n") + "\n")
 }
 
-/// A call that no line says. A file's bytes stand as C and Rust write them in hexadecimal, without spaces.
+/// A call that no line says. A file's bytes stand as C and Rust write them in hexadecimal, without spaces, a sheet's kinds by
+/// their letters, where all have one.
 fn said(call: &Call) -> String {
     match call {
+        Call::InsertSheet { kinds, place } => {
+            let kinds = letters(kinds).unwrap_or_else(|| format!("{kinds:?}"));
+            format!("# InsertSheet {{ kinds: {kinds}, place: {} }}", tag(*place))
+        }
         Call::Read { file, cleared } => {
             let file: String = file.iter().map(|byte| format!("{byte:02x}")).collect();
             format!("# Read {{ file: {file}, cleared: {cleared:?} }}")

@@ -3,6 +3,7 @@
 use crate::bare::{self, Bare};
 use crate::call::{Call, Case, Reply};
 use crate::due;
+use crate::in_turn;
 use crate::kept::{Kept, store_of};
 use crate::subject::{Lent, Reference, Subject};
 use std::collections::BTreeMap;
@@ -183,11 +184,14 @@ impl<'a> Session<'a> {
             return Ok(());
         }
         bare::counts(call, &got.reply, &self.words, &got.words)?;
+        if let Call::InsertSheet { kinds, place } = call {
+            in_turn::check(self.subject, kinds.len(), *place, &self.words, &got.reply, &got.words)?;
+        }
         match (&mut self.bare, call) {
             (bare, Call::Load { s, r, kinds, .. }) => *bare = Some(Bare::load(*s, *r, kinds)),
             (Some(bare), _) => {
                 bare.accepted(call, &got.reply)?;
-                if matches!(call, Call::Insert { .. }) {
+                if call.inserts().is_some() {
                     bare.relabelled(&self.words, &got.words);
                 }
             }

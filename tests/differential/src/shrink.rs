@@ -1,7 +1,7 @@
-//! Makes a failing case short: plain words to start from, small s and r, fewer calls, fewer kinds, small files.
+//! Makes a failing case short: plain words to start from, small s and r, fewer calls, fewer kinds, single texts, small files.
 
-use crate::call::{Call, Case};
-use crate::kinds::{BEGIN, TEXT};
+use crate::call::{Call, Case, Reply};
+use crate::kinds::TEXT;
 use crate::session::replay;
 use crate::subject::{Lent, Reference, Subject};
 use reference::{HEADER, NO_TAG, PROGRAM_TAGS, RECORD, Store, bytes_for};
@@ -25,7 +25,7 @@ fn forget(calls: &mut [Call], first: u32, many: u32, place: u32) {
     let lower = |tag: &mut u32| *tag = lowered(*tag, first, many, place);
     for call in calls.iter_mut().take_while(|call| !matches!(call, Call::Load { .. })) {
         match call {
-            Call::Insert { place, .. } => lower(place),
+            Call::Insert { place, .. } | Call::InsertSheet { place, .. } => lower(place),
             Call::Mark { tag } | Call::Hold { tag } => lower(tag),
             Call::List { begin, .. } => lower(begin),
             Call::Question { tag, d, .. } => {
@@ -37,11 +37,11 @@ fn forget(calls: &mut [Call], first: u32, many: u32, place: u32) {
     }
 }
 
-/// The kinds of the call, if it is a load.
-fn kinds_of(case: &Case, index: usize) -> &[u8] {
-    match case.calls.get(index) {
-        Some(Call::Load { kinds, .. }) => kinds,
-        _ => &[],
+/// The kinds of the call, if it is a load or a sheet.
+fn kinds_of(case: &mut Case, index: usize) -> Option<&mut Vec<u8>> {
+    match case.calls.get_mut(index) {
+        Some(Call::Load { kinds, .. } | Call::InsertSheet { kinds, .. }) => Some(kinds),
+        _ => None,
     }
 }
 
@@ -98,20 +98,27 @@ impl Shrinker<'_> {
         }
     }
 
-    /// Leaves out one call. Where it was an accepted insertion, the calls after it are told so.
-    fn without(&self, index: usize) -> Case {
-        let mut case = self.best.clone();
-        let mut words = case.start.clone();
+    /// What the reference replies to a call.
+    fn reply(&self, index: usize) -> Reply {
+        let mut words = self.best.start.clone();
         let mut reply = [2; 5];
-        for call in &case.calls[..=index] {
+        for call in &self.best.calls[..=index] {
             let (tags, labels) = call.lists();
             let (tags, labels, bytes) = (&mut vec![0; tags], &mut vec![0; labels], &mut vec![0; call.bytes()]);
             words = call.over(&words);
             let lent = Lent { given: &mut call.given().to_vec(), words: &mut words, tags, labels, bytes };
             reply = Reference::right().call(call, lent);
         }
-        if let (Call::Insert { kind, place }, 0) = (case.calls.remove(index), reply[0]) {
-            forget(&mut case.calls[index..], reply[1], if kind == BEGIN { 2 } else { 1 }, place);
+        reply
+    }
+
+    /// Leaves out one call. Where it was an accepted insertion, the calls after it are told so.
+    fn without(&self, index: usize) -> Case {
+        let mut case = self.best.clone();
+        let (reply, call) = (self.reply(index), case.calls.remove(index));
+        if let (Call::Insert { place, .. } | Call::InsertSheet { place, .. }, 0) = (&call, reply[0]) {
+            let tags = call.inserts().unwrap_or_default().len();
+            forget(&mut case.calls[index..], reply[1], tags as u32, *place);
         }
         case
     }
@@ -132,12 +139,13 @@ impl Shrinker<'_> {
         for index in 0..self.best.calls.len() {
             for (plain, plain_place) in [(TEXT, None), (TEXT, Some(0)), (TEXT, Some(NO_TAG))] {
                 let mut case = self.best.clone();
-                if let Some(Call::Insert { kind, place }) = case.calls.get_mut(index) {
-                    let new_place = plain_place.unwrap_or(*place);
-                    if (*kind, *place) != (plain, new_place) {
-                        (*kind, *place) = (plain, new_place);
-                        self.try_case(case);
-                    }
+                match case.calls.get_mut(index) {
+                    Some(Call::Insert { kind, place }) => (*kind, *place) = (plain, plain_place.unwrap_or(*place)),
+                    Some(Call::InsertSheet { place, .. }) => *place = plain_place.unwrap_or(*place),
+                    _ => {}
+                }
+                if case != self.best {
+                    self.try_case(case);
                 }
             }
         }
@@ -159,14 +167,28 @@ impl Shrinker<'_> {
         }
     }
 
-    /// Leaves out kinds of the loads, in runs that get shorter. Long runs matter: a tree of r^j leaves often fails
+    /// Texts one by one in place of a sheet, which lines can say.
+    fn single_texts(&mut self) {
+        for index in 0..self.best.calls.len() {
+            let mut case = self.best.clone();
+            let Some(Call::InsertSheet { kinds, place }) = case.calls.get(index).cloned() else { continue };
+            let first = self.reply(index)[1];
+            let places = [place].into_iter().chain(first..);
+            let texts = places.take(kinds.len()).map(|place| Call::Insert { kind: TEXT, place });
+            case.calls.splice(index..=index, texts);
+            self.try_case(case);
+        }
+    }
+
+    /// Leaves out kinds of loads and sheets, in runs that get shorter. Long runs matter: a tree of r^j leaves often fails
     /// where one of a few leaves less does not. A run that breaks the nesting fails to load, and so is not taken.
     fn fewer_kinds(&mut self) {
         for index in 0..self.best.calls.len() {
-            let mut run = kinds_of(&self.best, index).len().div_ceil(2);
+            let left = |it: &mut Self| kinds_of(&mut it.best, index).map_or(0, |kinds| kinds.len());
+            let mut run = left(self).div_ceil(2);
             while run > 0 {
-                let mut end = kinds_of(&self.best, index).len();
-                while end >= run && run <= kinds_of(&self.best, index).len() {
+                let mut end = left(self);
+                while end >= run && run <= left(self) {
                     let case = self.without_kinds(index, end - run, run);
                     self.try_case(case);
                     // Runs of two may be an element anywhere, so they are tried at every place.
@@ -179,12 +201,17 @@ impl Shrinker<'_> {
 
     fn without_kinds(&self, index: usize, at: usize, many: usize) -> Case {
         let mut case = self.best.clone();
-        if let Some(Call::Load { kinds, .. }) = case.calls.get_mut(index) {
+        // A load's tags are numbered from 0; a sheet's from the number that is replied, and they stand behind its place.
+        let (first, front) = match case.calls[index] {
+            Call::InsertSheet { place, .. } => (self.reply(index)[1], place),
+            _ => (0, NO_TAG),
+        };
+        if let Some(kinds) = kinds_of(&mut case, index) {
             let len = kinds.len();
             kinds.drain(at.min(len)..(at + many).min(len));
         }
-        let place = at.checked_sub(1).map_or(NO_TAG, |before| before as u32);
-        forget(&mut case.calls[index + 1..], at as u32, many as u32, place);
+        let place = at.checked_sub(1).map_or(front, |before| first + before as u32);
+        forget(&mut case.calls[index + 1..], first + at as u32, many as u32, place);
         case
     }
 
@@ -197,8 +224,8 @@ impl Shrinker<'_> {
             }
         }
         self.try_case(case.clone());
-        for call in &mut case.calls {
-            if let Call::Load { kinds, .. } = call {
+        for index in 0..case.calls.len() {
+            if let Some(kinds) = kinds_of(&mut case, index) {
                 kinds.fill(TEXT);
             }
         }
@@ -237,6 +264,19 @@ impl Shrinker<'_> {
         }
         self.try_case(case);
     }
+
+    /// Fewer words behind a store that is found in them. Where they are all 0, as the program's are, their number is as good
+    /// as any.
+    fn fewer_words(&mut self) {
+        let mut run = self.best.start.len() / 2;
+        while run > 0 && self.best.start.iter().any(|word| *word != 0) {
+            let mut case = self.best.clone();
+            case.start.truncate(case.start.len().saturating_sub(run));
+            if !self.try_case(case) {
+                run /= 2;
+            }
+        }
+    }
 }
 
 /// A short case that fails too, and what is wrong there.
@@ -244,6 +284,7 @@ pub fn shrink(subject: &dyn Subject, case: Case, what: String) -> (Case, String)
     let mut it = Shrinker { subject, best: case.clone(), what, replays: 0 };
     it.try_case(case);
     it.plainer_start();
+    it.fewer_words();
     loop {
         let before = it.best.clone();
         it.smaller_trees();
@@ -251,6 +292,7 @@ pub fn shrink(subject: &dyn Subject, case: Case, what: String) -> (Case, String)
         it.fewer_calls();
         it.single_calls();
         it.fewer_kinds();
+        it.single_texts();
         it.plainer_insertions();
         it.plainer_files();
         // What one pass made plainer, another may now make shorter.

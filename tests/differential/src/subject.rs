@@ -51,6 +51,9 @@ impl Subject for Reference {
         let reply = match *call {
             Call::Load { s, r, book, ref kinds } => reply(store.load(s, r, book, kinds).map(|it| [it.tags, it.height])),
             Call::Insert { kind, place } => reply(store.insert(kind, place).map(|it| [it.first, it.moved, it.split])),
+            Call::InsertSheet { ref kinds, place } => {
+                reply(store.insert_sheet(kinds, place).map(|it| [it.first, it.moved, it.split]))
+            }
             Call::Mark { tag } => reply(store.mark(tag).map(|marked| [marked])),
             Call::Hold { tag } => reply(store.hold(tag).map(|it| [it.book, it.tag, it.start, it.end])),
             Call::Question { book, tag, start, end, d } => {

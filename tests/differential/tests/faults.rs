@@ -2,6 +2,8 @@
 
 use differential::call::{Call, Case, Reply};
 use differential::flaw::{Flaw, flawed};
+use differential::in_turn;
+use differential::insert_sheets;
 use differential::limits;
 use differential::plan;
 use differential::program::due;
@@ -11,7 +13,7 @@ use differential::session::{Failure, Tally, replay};
 use differential::shrink::shrink;
 use differential::subject::{Lent, Reference, Subject};
 use draw::Rng;
-use reference::{Clause, Fault, HEADER, NO_TAG, Program, RECORD};
+use reference::{Blunder, Clause, Fault, HEADER, NO_TAG, Program, RECORD, Store};
 
 fn histories(subject: &dyn Subject, seed: u64) -> Result<(), Failure> {
     plan::histories(subject, &mut Tally::new(), &mut Rng::new(seed), 40)
@@ -25,6 +27,7 @@ fn the_reference_agrees_with_itself() {
     let expected: &[(&str, &[u32])] = &[
         ("load", &[0, 1, 3, 4, 5, 6, 7]),
         ("insert", &[0, 1, 2, 4, 6, 7, 8, 9]),
+        ("sheet", &[0, 1, 2, 4, 5, 6, 7, 8, 9]),
         ("mark", &[0, 1, 2, 8, 9, 10]),
         ("hold", &[0, 1, 2, 8, 9, 10]),
         ("question", &[1, 2, 8, 9, 10]),
@@ -89,6 +92,51 @@ fn moved_off_by_one_is_caught() {
 fn marked_moved_is_caught() {
     let script = caught(Fault::MarkedMoved);
     assert!(script.contains("mark "), "{script}");
+}
+
+/// What the comparison has of sheets that go in by one call.
+fn sheets(subject: &dyn Subject, seed: u64) -> Result<(), Failure> {
+    let (mut tally, mut rng) = (Tally::new(), Rng::new(seed));
+    plan::sheet_places(subject, &mut tally, &mut rng, 20)
+        .and_then(|()| insert_sheets::labels(subject, &mut tally, &mut rng, 1_100))
+}
+
+#[test]
+fn every_blunder_with_sheets_is_caught() {
+    assert!(sheets(&Reference::right(), 9).is_ok());
+    for blunder in Blunder::ALL {
+        let subject = Reference { fault: Fault::Misputs(blunder) };
+        assert!(sheets(&subject, 9).is_err(), "{blunder:?}");
+        // Behind loads it is shown more briefly, where it shows there.
+        let failure = histories(&subject, 3).and_then(|()| sheets(&subject, 9)).expect_err("the blunder must show");
+        let (case, what) = shrink(&subject, failure.case, failure.what);
+        assert_eq!(replay(&subject, &case).map(|(_, what)| what), Some(what));
+        assert!(replay(&Reference::right(), &case).is_none());
+        // No line of the book program says a sheet, so words and calls are shown.
+        let printed = script(&case);
+        println!("{blunder:?}\n{printed}");
+        assert!(printed.contains("InsertSheet") && input(&case).is_none(), "{printed}");
+        // Labels run out only where there are many tags.
+        let most = if blunder == Blunder::OneHeight { 3_000 } else { 100 };
+        assert!(case.calls.len() <= 3 && printed.len() <= most, "{blunder:?} is not short");
+    }
+}
+
+/// By calls of the store itself: a store that inserts sheets in another way than texts is told, though the reference were to
+/// do the same.
+#[test]
+fn a_sheet_is_set_beside_single_texts() {
+    let mut store = Store::new(vec![0; HEADER + RECORD * 40]);
+    store.load(2, 2, 7, &[3; 9]).expect("a book");
+    let before = store.words.clone();
+    let check = |split, after: &[u32]| {
+        in_turn::check(&Reference::right(), 12, 4, &before, &[0, 9, 0, split, 0], after).err().unwrap_or_default()
+    };
+    let split = store.insert_sheet(&[1, 3, 2].repeat(4), 4).expect("room").split;
+    assert_eq!(check(split, &store.words), "");
+    assert!(check(split + 1, &store.words).contains("split height"));
+    store.words[HEADER] += 1;
+    assert!(check(split, &store.words).contains("other labels"));
 }
 
 /// What is printed of a difference by calls: an input of the book program with what it must print, where lines can say

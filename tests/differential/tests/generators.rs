@@ -89,12 +89,24 @@ fn the_bare_list_knows_the_refusals() {
     assert_eq!(bare.accepted(&Call::Mark { tag: 1 }, &[0, 1, 0, 0, 0]), Ok(()));
     let words = HEADER + RECORD * 6;
     let list = |begin, tags, labels| Call::List { begin, tags, labels };
+    let sheet = |kinds: &[u8], place| Call::InsertSheet { kinds: kinds.to_vec(), place };
     for (call, due) in [
         (Call::Insert { kind: 2, place: 9 }, 4),
         (Call::Insert { kind: 3, place: 4 }, 8),
         (Call::Insert { kind: 3, place: 1 }, 9),
         (Call::Insert { kind: 1, place: NO_TAG }, 0),
         (Call::Insert { kind: 3, place: 3 }, 0),
+        (sheet(&[1, 4], 9), 4),
+        (sheet(&[2, 0], 9), 4),
+        (sheet(&[1], 9), 5),
+        (sheet(&[2, 1], 3), 5),
+        (sheet(&[3; 9], 4), 8),
+        (sheet(&[3; 9], 1), 9),
+        (sheet(&[3; 3], 3), 6),
+        (sheet(&[1, 2], NO_TAG), 0),
+        (sheet(&[], 4), 8),
+        (sheet(&[], 3), 0),
+        (sheet(&[3; 200_001], 3), 6),
         (Call::Mark { tag: NO_TAG }, 8),
         (Call::Mark { tag: 1 }, 9),
         (Call::Hold { tag: 2 }, 10),
@@ -119,6 +131,10 @@ fn the_bare_list_knows_the_refusals() {
     assert_eq!(load_refusal(16, 2, &[3; 127], 9_999), 0);
     assert_eq!(load_refusal(16, 2, &[3; 128], 9_999), 7);
     let mut bare = Bare::load(16, 2, &[3; 127]);
+    assert_eq!(bare.refusal(&sheet(&[3; 896], 5), 9_999), Some(0));
+    assert_eq!(bare.refusal(&sheet(&[3; 897], 5), 9_999), Some(7));
+    // The first root split has room for its labels, the second not.
+    assert_eq!(Bare::load(16, 2, &[3; 63]).refusal(&sheet(&[3; 961], 5), 9_999), Some(7));
     for n in 127..1_022 {
         bare.accepted(&Call::Insert { kind: 3, place: 0 }, &[0, n, 0, 0, 0]).unwrap();
     }
@@ -126,6 +142,27 @@ fn the_bare_list_knows_the_refusals() {
     assert_eq!(bare.refusal(&Call::Insert { kind: 3, place: 0 }, 9_999), Some(0));
     bare.accepted(&Call::Insert { kind: 3, place: 0 }, &[0, 1_022, 0, 0, 0]).unwrap();
     assert_eq!(bare.refusal(&Call::Insert { kind: 3, place: 0 }, 9_999), Some(7));
+}
+
+/// A sheet's tags take their places and count as an element's two do, and H rises with each that fills the root.
+#[test]
+fn the_bare_list_takes_sheets() {
+    let (mut store, mut bare) = (Store::new(vec![0; HEADER + RECORD * 30]), Bare::load(2, 2, &[3; 4]));
+    store.load(2, 2, 7, &[3; 4]).unwrap();
+    for (kinds, place) in [(&[3; 20][..], 0), (&[], 3), (&[1, 1, 2, 3, 2], NO_TAG)] {
+        let before = store.words.clone();
+        let reply = store.insert_sheet(kinds, place).unwrap();
+        let call = Call::InsertSheet { kinds: kinds.to_vec(), place };
+        let said = [0, reply.first, reply.moved, reply.split, 0];
+        assert_eq!(counts(&call, &said, &before, &store.words), Ok(()));
+        assert_eq!(bare.accepted(&call, &said), Ok(()));
+        bare.relabelled(&before, &store.words);
+        assert_eq!(bare.check(&store.words), Ok(()));
+    }
+    assert_eq!(store.words[3..5], [4, 29]);
+    // A sheet that is said to have gone in and has not.
+    bare.accepted(&Call::InsertSheet { kinds: vec![3], place: 0 }, &[0, 29, 0, 0, 0]).unwrap();
+    assert!(bare.check(&store.words).is_err());
 }
 
 /// Moved and marked are counted in the words, whoever replies them.
@@ -171,6 +208,12 @@ fn a_script_is_what_the_program_reads() {
     assert_eq!(input(&case), None);
     case.calls.pop();
     assert_eq!(input(&case).as_deref(), Some(lines));
+    let sheets = [(vec![1, 3, 2], 4), (vec![], NO_TAG), (vec![1, 4], 0)];
+    let calls = sheets.map(|(kinds, place)| Call::InsertSheet { kinds, place }).to_vec();
+    let printed = script(&Case { calls, ..case.clone() });
+    assert_eq!(printed.lines().next(), Some("# InsertSheet { kinds: BTE, place: 4 }"));
+    let others = "# InsertSheet { kinds: , place: front }\n# InsertSheet { kinds: [1, 4], place: 0 }";
+    assert!(printed.ends_with(others), "{printed}");
     // A listing shows what another last call has left behind.
     case.calls.pop();
     assert_eq!(input(&case).as_deref(), Some(lines));
@@ -182,6 +225,7 @@ fn a_script_is_what_the_program_reads() {
         Call::Load { s: 2, r: 2, book: 7, kinds: vec![4] },
         Call::Load { s: 2, r: 2, book: 7, kinds: vec![3; 2_100] },
         Call::Insert { kind: 2, place: 0 },
+        Call::InsertSheet { kinds: vec![3], place: 0 },
     ] {
         assert_eq!(input(&Case { calls: vec![call.clone()], ..case.clone() }), None, "{call:?}");
     }
@@ -191,14 +235,21 @@ fn a_script_is_what_the_program_reads() {
 #[test]
 fn a_script_does_what_its_calls_do() {
     let mut rng = Rng::new(6);
-    for round in 0..40 {
+    let mut said = 0;
+    for round in 0..200 {
         let (reference, mut tally) = (Reference::right(), Tally::new());
         let mut session = Session::new(&reference, &mut tally, vec![0; HEADER + RECORD * 2_000]);
         history(&mut session, &mut rng, 2 + round % 4, 2 + round / 4 % 3, 40, 60).expect("no difference");
         let (words, mut case) = (session.words.clone(), session.case().clone());
+        // No line says a sheet: what comes of one could not be told.
+        if case.calls.iter().any(|call| matches!(call, Call::InsertSheet { .. })) {
+            continue;
+        }
+        said += 1;
         case.calls.retain(|call| input(&Case { start: case.start.clone(), calls: vec![call.clone()] }).is_some());
         let mut program = Program::default();
         program.run(input(&case).expect("all calls are lines").as_bytes());
         assert_eq!(program.store.words, words);
     }
+    assert!(said > 30, "{said}");
 }

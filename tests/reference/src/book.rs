@@ -1,6 +1,7 @@
 //! The book: a tree, its tags, and the calls on it. A book is always sound; the words are dealt with elsewhere.
 
-use crate::fault::Fault;
+use crate::fault::{Blunder, Fault};
+use crate::load::nest;
 use crate::params::MAX_TAGS;
 use crate::reply::{Answer, Held, Inserted, Loaded, Refusal};
 use crate::tag::{Kind, Tag};
@@ -26,51 +27,98 @@ impl Book {
 
     /// Refusals after 1 and 2: 4, 8, 9, 6, 7. `len` is the number of words lent.
     pub fn insert(&mut self, kind: u8, place: u32, len: usize) -> Result<Inserted, Refusal> {
-        let kind = match Kind::of_byte(kind) {
-            Some(kind) if kind != Kind::End => kind,
+        let kinds: &[u8] = match Kind::of_byte(kind) {
+            Some(Kind::Begin) => &[1, 2],
+            Some(Kind::Text) => &[3],
             _ => return Err(Refusal::Kind),
         };
-        let after = self.place(place)?;
-        if after.is_some_and(|y| self.tags[y].marked) {
-            return Err(Refusal::Marked);
+        if matches!(self.fault, Fault::Misputs(_)) {
+            // Blunders are those of whole sheets.
+            self.fault = Fault::None;
         }
+        self.insert_row(kinds, place, len)
+    }
+
+    /// A whole sheet (document 02, CR 5). Refusals after 1 and 2: 4, 5, 8, 9, 6, 7.
+    pub fn insert_sheet(&mut self, kinds: &[u8], place: u32, len: usize) -> Result<Inserted, Refusal> {
+        if self.fault.misputs(Blunder::NestingLate) {
+            self.unmarked_place(place)?;
+        }
+        // Whatever stands around them: kinds and nesting are told before the place is looked at.
+        nest(kinds, 0, None)?;
+        if kinds.is_empty() && !self.fault.misputs(Blunder::EmptyStamps) {
+            self.unmarked_place(place)?;
+            return Ok(Inserted { first: self.tags.len() as u32, moved: 0, split: 0 });
+        }
+        self.insert_row(kinds, place, len)
+    }
+
+    /// Puts tags in one by one, each behind the one before. Refusals: 8, 9, 6, 7.
+    fn insert_row(&mut self, kinds: &[u8], place: u32, len: usize) -> Result<Inserted, Refusal> {
+        let after = self.unmarked_place(place)?;
         let old = self.tags.len();
-        let new = old + if kind == Kind::Begin { 2 } else { 1 };
+        let new = old + kinds.len();
         if new as u64 > MAX_TAGS || len < words_for(new) {
             return Err(Refusal::TooMany);
         }
-        let (params, height) = (self.tree.params, self.tree.height);
-        if new as u64 >= params.limit(height) && !params.labels_fit(height + 1) {
+        if !self.labels_suffice(new) {
             return Err(Refusal::Labels);
         }
 
-        let before: Vec<(u64, bool)> = self.tags.iter().map(|tag| (tag.label, tag.marked)).collect();
+        let before = self.tags.clone();
         let up = match after {
+            _ if self.fault.misputs(Blunder::NoUp) => None,
             Some(y) if self.tags[y].kind == Kind::Begin => Some(y),
             Some(y) => self.tags[y].up,
             None => None,
         };
-        let split = if kind == Kind::Begin {
-            self.tags.push(Tag::new(Kind::Begin, old + 1, up));
-            let first = self.tree.insert(old, after, &mut self.tags, self.fault);
-            self.tags.push(Tag::new(Kind::End, old, up));
-            first.max(self.tree.insert(old + 1, Some(old), &mut self.tags, self.fault))
-        } else {
-            self.tags.push(Tag::new(Kind::Text, old, up));
-            self.tree.insert(old, after, &mut self.tags, self.fault)
-        };
-        self.stamp += 1;
-
-        // Only tags that are unmarked before and after the call count (document 02, CR 4).
-        let counts = |marked: bool| !marked || self.fault == Fault::MarkedMoved;
-        let lost = |&(&(label, marked), tag): &(&(u64, bool), &Tag)| {
-            label != tag.label && counts(marked) && counts(tag.marked)
-        };
-        let mut moved = before.iter().zip(&self.tags).filter(lost).count() as u32;
+        self.tags.extend(nest(kinds, old, up)?);
+        let (split, counted) = self.put(old, after);
+        self.stamp += if self.fault.misputs(Blunder::StampByTags) { kinds.len() as u64 } else { 1 };
+        let mut moved = counted.unwrap_or_else(|| self.moved(&before));
         if self.fault == Fault::MovedOffByOne {
             moved += 1;
         }
         Ok(Inserted { first: old as u32, moved, split })
+    }
+
+    /// Puts the tags from this number on into the tree, and gives the greatest height that was split. A blunder may bring
+    /// a moved number of its own.
+    fn put(&mut self, old: usize, after: Option<usize>) -> (u32, Option<u32>) {
+        let backwards = self.fault.misputs(Blunder::Backwards);
+        let mut numbers: Vec<usize> = (old..self.tags.len()).collect();
+        if backwards {
+            numbers.reverse();
+        }
+        let (mut split, mut place) = (0, after);
+        let mut counted = self.fault.misputs(Blunder::MovedInTurn).then_some(0);
+        for x in numbers {
+            let before = counted.map(|_| self.tags[..x].to_vec());
+            let height = self.tree.insert(x, place, &mut self.tags, self.fault);
+            split = if self.fault.misputs(Blunder::LastSplit) { height } else { split.max(height) };
+            counted = counted.zip(before).map(|(sum, before)| sum + self.moved(&before));
+            place = if backwards { after } else { Some(x) };
+        }
+        (split, counted)
+    }
+
+    /// Of the tags that stood before, how many have another label now. Only those count that are unmarked before and after
+    /// (document 02, CR 4).
+    fn moved(&self, before: &[Tag]) -> u32 {
+        let counts = |tag: &Tag| !tag.marked || self.fault == Fault::MarkedMoved;
+        let lost = |(old, new): &(&Tag, &Tag)| old.label != new.label && counts(old) && counts(new);
+        before.iter().zip(&self.tags).filter(lost).count() as u32
+    }
+
+    /// Whether tags can be put in one by one up to this number: each that fills the root needs one height more.
+    fn labels_suffice(&self, new: usize) -> bool {
+        let (params, mut height) = (self.tree.params, self.tree.height);
+        (self.tags.len()..new).all(|n| {
+            let fills = n as u64 + 1 >= params.limit(height);
+            let first = height == self.tree.height;
+            height += u32::from(fills);
+            !fills || params.labels_fit(height) || (!first && self.fault.misputs(Blunder::OneHeight))
+        })
     }
 
     /// Refusals after 1 and 2: 8, 9, 10.
@@ -146,6 +194,14 @@ impl Book {
     /// A tag or the front.
     fn place(&self, place: u32) -> Result<Option<usize>, Refusal> {
         if place == NO_TAG { Ok(None) } else { self.tag(place).map(Some) }
+    }
+
+    /// A tag that is not marked, or the front.
+    fn unmarked_place(&self, place: u32) -> Result<Option<usize>, Refusal> {
+        match self.place(place)? {
+            Some(y) if self.tags[y].marked => Err(Refusal::Marked),
+            after => Ok(after),
+        }
     }
 
     /// An unmarked begin or text.

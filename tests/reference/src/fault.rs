@@ -1,8 +1,8 @@
 //! Faults that a test can switch on, to see that the comparison notices them.
 //!
 //! They are the mistakes that document 01 lists under "Plausible and false", two wrong moved counts, a soundness
-//! test that overlooks one clause, and mistakes in reading the book program's lines and sheets and in files. Everything
-//! outside tests uses `Fault::None`.
+//! test that overlooks one clause, and mistakes in reading the book program's lines and sheets, in files and in inserting
+//! whole sheets. Everything outside tests uses `Fault::None`.
 
 #[derive(Clone, Copy, PartialEq, Eq, Debug, Default)]
 pub enum Fault {
@@ -38,6 +38,8 @@ pub enum Fault {
     Misreads(Slip),
     /// Files are written and read with this lapse.
     Misfiles(Lapse),
+    /// Sheets are inserted with this blunder.
+    Misputs(Blunder),
 }
 
 /// A clause of document 01's "Sound means". That labels have H digits is none of its own: a root with more children
@@ -203,6 +205,40 @@ impl Lapse {
     ];
 }
 
+/// A way to insert a sheet that looks right and is not.
+#[derive(Clone, Copy, PartialEq, Eq, Debug)]
+pub enum Blunder {
+    /// The tags go in from the last to the first, each behind the place.
+    Backwards,
+    /// The height of the last split is replied, not the greatest.
+    LastSplit,
+    /// The moved numbers of the single insertions are summed up: a tag that moves twice counts twice, a new one too.
+    MovedInTurn,
+    /// The top level of the sheet has no up.
+    NoUp,
+    /// Every tag raises the stamp.
+    StampByTags,
+    /// The empty sheet raises the stamp.
+    EmptyStamps,
+    /// Labels are told to suffice where one height more has them.
+    OneHeight,
+    /// 8 and 9 come before 4 and 5.
+    NestingLate,
+}
+
+impl Blunder {
+    pub const ALL: [Blunder; 8] = [
+        Blunder::Backwards,
+        Blunder::LastSplit,
+        Blunder::MovedInTurn,
+        Blunder::NoUp,
+        Blunder::StampByTags,
+        Blunder::EmptyStamps,
+        Blunder::OneHeight,
+        Blunder::NestingLate,
+    ];
+}
+
 impl Fault {
     pub(crate) fn overlooks(self, clause: Clause) -> bool {
         self == Fault::Overlooks(clause)
@@ -211,7 +247,12 @@ impl Fault {
     pub(crate) fn misreads(self, slip: Slip) -> bool {
         self == Fault::Misreads(slip)
     }
+
     pub(crate) fn misfiles(self, lapse: Lapse) -> bool {
         self == Fault::Misfiles(lapse)
+    }
+
+    pub(crate) fn misputs(self, blunder: Blunder) -> bool {
+        self == Fault::Misputs(blunder)
     }
 }

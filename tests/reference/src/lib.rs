@@ -23,7 +23,7 @@ mod words;
 
 pub use book::Book;
 pub use command::{Command, LONGEST_LINE};
-pub use fault::{Clause, Fault, Lapse, Slip};
+pub use fault::{Blunder, Clause, Fault, Lapse, Slip};
 pub use file::bytes_for;
 pub use params::{LABELS, MAX_TAGS, Params};
 pub use program::{PROGRAM_TAGS, Program, lines};

@@ -8,26 +8,25 @@ use crate::tag::{Kind, Tag};
 use crate::tree::Tree;
 use crate::words::words_for;
 
-/// The tags of properly nested kinds, numbered in book order; None where begins and ends do not pair up.
-fn nest(kinds: &[Kind]) -> Option<Vec<Tag>> {
-    let mut tags: Vec<Tag> = Vec::with_capacity(kinds.len());
+/// The tags of bytes that are kinds and nest properly, numbered in their order from `first` on, with `up` around them all.
+/// Refusals: 4, where a byte is no kind; 5, where begins and ends do not pair up.
+pub(crate) fn nest(kinds: &[u8], first: usize, up: Option<usize>) -> Result<Vec<Tag>, Refusal> {
+    let kinds: Option<Vec<Kind>> = kinds.iter().map(|&byte| Kind::of_byte(byte)).collect();
+    let mut tags: Vec<Tag> = Vec::new();
     let mut open: Vec<usize> = Vec::new();
-    for (i, &kind) in kinds.iter().enumerate() {
-        match kind {
-            Kind::Begin => {
-                // The mate is known when its end comes.
-                tags.push(Tag::new(kind, i, open.last().copied()));
-                open.push(i);
-            }
-            Kind::End => {
-                let begin = open.pop()?;
-                tags[begin].mate = i;
-                tags.push(Tag::new(kind, begin, open.last().copied()));
-            }
-            Kind::Text => tags.push(Tag::new(kind, i, open.last().copied())),
+    for (x, kind) in (first..).zip(kinds.ok_or(Refusal::Kind)?) {
+        let mut mate = x;
+        if kind == Kind::End {
+            mate = open.pop().ok_or(Refusal::Nesting)?;
+            // A begin's mate is known when its end comes.
+            tags[mate - first].mate = x;
+        }
+        tags.push(Tag::new(kind, mate, open.last().copied().or(up)));
+        if kind == Kind::Begin {
+            open.push(x);
         }
     }
-    open.is_empty().then_some(tags)
+    if open.is_empty() { Ok(tags) } else { Err(Refusal::Nesting) }
 }
 
 impl Book {
@@ -40,8 +39,7 @@ impl Book {
         if len < words_for(kinds.len()) {
             return Err(Refusal::FewWords);
         }
-        let kinds: Option<Vec<Kind>> = kinds.iter().map(|&byte| Kind::of_byte(byte)).collect();
-        let mut tags = nest(&kinds.ok_or(Refusal::Kind)?).ok_or(Refusal::Nesting)?;
+        let mut tags = nest(kinds, 0, None)?;
         if !params.labels_fit(params.load_height(tags.len() as u64)) {
             return Err(Refusal::Labels);
         }

@@ -36,6 +36,13 @@ impl Store {
         Ok(reply)
     }
 
+    pub fn insert_sheet(&mut self, kinds: &[u8], place: u32) -> Result<Inserted, Refusal> {
+        let mut book = self.book()?;
+        let reply = book.insert_sheet(kinds, place, self.words.len())?;
+        self.write(&book);
+        Ok(reply)
+    }
+
     pub fn mark(&mut self, tag: u32) -> Result<u32, Refusal> {
         let mut book = self.book()?;
         let reply = book.mark(tag)?;

@@ -27,7 +27,8 @@ fn random_histories_stay_sound() {
             let place = if random.below(8) == 0 { NO_TAG } else { random.below(n.max(1)) };
             let accepted = match random.below(10) {
                 0 => store.mark(place).is_ok(),
-                1..=4 => store.insert(1, place).is_ok(),
+                1..=3 => store.insert(1, place).is_ok(),
+                4 => store.insert_sheet(&[1, 3, 2, 3].repeat(random.below(4) as usize), place).is_ok(),
                 _ => store.insert(3, place).is_ok(),
             };
             let book = read(&store.words, Fault::None).expect("sound after every call");

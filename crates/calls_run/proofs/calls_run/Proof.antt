@@ -1,5 +1,6 @@
 -- `calls_run::calls_run` meets its contract: the entries' contracts, one after the other, are a run. Assumes nothing.
 use mathlib.Core.Path.{refl}
+use native.Mathlib.Omega.{arith}
 use borrow.Author.Needs.{needs}
 use Rattle.calls.specs.Calls.{Happens, Run}
 use Rattle.calls_run.proofs.calls_run.Statement.{statement}
@@ -10,6 +11,9 @@ load-requires c κs = search needs
 
 insert-requires : tie.Need-insert-requires
 insert-requires c κs = search needs
+
+insert-sheet-requires : tie.Need-insert-sheet-requires
+insert-sheet-requires c κs = search needs
 
 mark-requires : tie.Need-mark-requires
 mark-requires c κs = search needs
@@ -27,7 +31,13 @@ write-file-requires : tie.Need-write-file-requires
 write-file-requires c κs = search needs
 
 same-length : tie.Need-same-length
-same-length c = search needs
+same-length c =
+    let write = c .before .before in
+    let mark = write .before .before .before .before .before .before .before .before .before .before .before .before .before .before .before .before .before in
+    let sheet = mark .before .before .before .before in
+    let insert = sheet .before .before .before .before in
+    let load = insert .before .before .before .before in
+    omega (arith, mark .mark .kept, sheet .insert-sheet .kept, insert .insert .kept, load .load .kept)
 
 same-length-2 : tie.Need-same-length-2
 same-length-2 c = search needs
@@ -46,7 +56,8 @@ returns c =
     let question = list .before .before .before .before in
     let hold = question .before .before in
     let mark = hold .before .before .before .before in
-    let insert = mark .before .before .before .before in
+    let sheet = mark .before .before .before .before in
+    let insert = sheet .before .before .before .before in
     let load = insert .before .before .before .before in (
       _,
       load .load .ensures,
@@ -55,17 +66,21 @@ returns c =
         insert .insert .ensures,
         (
           _,
-          mark .mark .ensures,
+          sheet .insert-sheet .ensures,
           (
             _,
-            (hold .hold .ensures, refl),
+            mark .mark .ensures,
             (
               _,
-              (question .question .ensures, refl),
+              (hold .hold .ensures, refl),
               (
                 _,
-                (list .list .ensures .0, list .list .ensures .1 .0, list .list .ensures .1 .1, refl),
-                (_, (write .write-file .ensures .0, write .write-file .ensures .1, refl), refl),
+                (question .question .ensures, refl),
+                (
+                  _,
+                  (list .list .ensures .0, list .list .ensures .1 .0, list .list .ensures .1 .1, refl),
+                  (_, (write .write-file .ensures .0, write .write-file .ensures .1, refl), refl),
+                ),
               ),
             ),
           ),
@@ -79,6 +94,7 @@ calls-run-spec =
     (tie.spec
     load-requires
     insert-requires
+    insert-sheet-requires
     mark-requires
     hold-requires
     question-requires

@@ -1,80 +1,111 @@
 -- `insert_call::change` meets its contract. Assumes nothing.
 use borrow.Author.Needs.{needs}
-use Rattle.insert_refuse.proofs.Headers.{header-room}
-use Rattle.insert_call.proofs.Accepted.{says-accepted, place-accepted, plan-accepted}
-use Rattle.insert_call.proofs.Changes.{text-ready, element-ready, text-changes, element-changes}
+use Prim.Native.Nat.{_≤_}
+use native.Mathlib.Omega.{arith}
+use lib.ListN.{length}
+use Rattle.store_types.specs.Layout.{header-words}
+use Rattle.words.proofs.Fields.{header-long}
+use Rattle.insert_call.proofs.Accepted.{says, records-said, few-all, place-there, height-read, stays-read, put-fits, put-edits, packed-here, inner-reads, inner-planned}
 use Rattle.insert_call.proofs.change.Statement.{statement}
 use Rattle.insert_call.proofs.change.Tie as tie
 
--- from the plan of one tag back to the up of new tags, and from there to n and to the call
-abbrev up-read : tie.After-plan-at → tie.After-up-at
-up-read c = c .before .before
+long : (c : tie.Start) → header-words ≤ length (c .args .words .now)
+long c = header-long (records-said (c .pre .0))
 
-abbrev counted : tie.After-up-at → tie.After-count-of
+-- where n was read, and what it is read for
+abbrev start : tie.After-count-of → tie.Start
+start c = c .before .before .before .before
+
+abbrev counted : tie.After-height-with → tie.After-count-of
 counted c = c .before .before
 
-abbrev call : tie.After-up-at → tie.Start
-call c = c .before .before .before .before .before
+abbrev tested : tie.Else1 → tie.After-height-with
+tested c = c .before .before .before
 
 count-of-requires : tie.Need-count-of-requires
-count-of-requires c κs = let start = c .before .before in header-room _ (says-accepted _ (start .args .kind) (start .args .place .0) (start .pre .0))
+count-of-requires c κs = long (c .before .before .before)
 
-up-at-requires : tie.Need-up-at-requires
-up-at-requires c κs = let start = c .before .before .before .before in place-accepted _ (start .args .kind) _ (start .pre .0)
+cast-k : tie.Need-cast-k
+cast-k c = omega (arith, few-all (start c .pre .0))
 
-plan-at-requires : tie.Need-plan-at-requires
-plan-at-requires c κs = let start = call (c .before) in plan-accepted _ (start .args .kind) _ (start .pre .0) (start .pre .1)
+add-height-with : tie.Need-add-height-with
+add-height-with c = omega (arith, c .count-of .ensures, few-all (start c .pre .0))
 
-insert-text-requires : tie.Need-insert-text-requires
-insert-text-requires c κs =
-    let test = c .before in
-    let up = up-read (test .before) in
-    let asked = call up .pre in
-    rw (counted up .count-of .ensures) (text-ready _ _ _ (asked .0) (up .up-at .ensures) (asked .1) (asked .2) (test .if1 .taken) (test .before .plan-at .ensures))
+height-with-requires : tie.Need-height-with-requires
+height-with-requires c κs =
+    let n = c .before in
+    let asked = start n .pre in
+    (says (asked .0), omega (arith, n .count-of .ensures, few-all (asked .0)), asked .1 .packed .highs-are)
+
+height-of-requires : tie.Need-height-of-requires
+height-of-requires c κs = long (start (counted (c .before)))
+
+change-root-requires : tie.Need-change-root-requires
+change-root-requires c κs =
+    let height = c .before .before in
+    let top = height .before .before in
+    let n = counted top in
+    let asked = start n .pre in
+    (asked .0, record { top-is = height-read (asked .0) (n .count-of .ensures) (top .height-with .ensures); higher = omega (arith, height .height-of .ensures, c .before .if1 .taken) })
 
 same-length : tie.Need-same-length
 same-length c = search needs
 
 returns : tie.Need-returns
-returns c =
-    let done = c .before .before in
-    text-changes _ _ _ (done .before .before .if1 .taken) (done .insert-text .ensures)
+returns c = search needs
 
-plan-at-requires-2 : tie.Need-plan-at-requires-2
-plan-at-requires-2 c κs =
-    let start = call (up-read (c .before .before)) in
-    plan-accepted _ (start .args .kind) _ (start .pre .0) (start .pre .1)
+up-at-requires : tie.Need-up-at-requires
+up-at-requires c κs = place-there (start (counted (tested (c .before))) .pre .0)
 
-insert-element-requires : tie.Need-insert-element-requires
-insert-element-requires c κs =
-    let two = c .before in
-    let test = two .before .before in
-    let one = test .before in
-    let up = up-read one in
-    let asked = call up .pre in
-    let ready = element-ready _ _ _ (asked .0) (up .up-at .ensures) (asked .1) (asked .2) (test .if1 .left) in
-    rw (counted up .count-of .ensures) (ready 1 _ (one .plan-at .ensures), ready 2 _ (two .plan-at2 .ensures))
+inner-plan-requires : tie.Need-inner-plan-requires
+inner-plan-requires c κs =
+    let test = c .before .before .before in
+    let top = tested test in
+    let n = counted top in
+    let asked = start n .pre in
+    inner-reads (asked .0) (stays-read (asked .0) (n .count-of .ensures) (top .height-with .ensures) (test .before .height-of .ensures) (test .if1 .left)) (asked .1) (asked .2)
+
+put-requires : tie.Need-put-requires
+put-requires c κs =
+    let plan = c .before in
+    let up = plan .before .before in
+    let test = up .before .before in
+    let top = tested test in
+    let n = counted top in
+    let asked = start n .pre in
+    let stays = stays-read (asked .0) (n .count-of .ensures) (top .height-with .ensures) (test .before .height-of .ensures) (test .if1 .left) in
+    put-fits (asked .0) (packed-here (asked .0) stays (asked .1) (asked .2)) (n .count-of .ensures) (up .up-at .ensures) (inner-planned (asked .0) stays (asked .1) (asked .2) (plan .inner-plan .ensures))
 
 same-length-2 : tie.Need-same-length-2
 same-length-2 c = search needs
 
 returns-2 : tie.Need-returns-2
 returns-2 c =
-    let done = c .before .before in
-    let test = done .before .before .before .before in
-    element-changes _ _ _ (test .if1 .left) (done .insert-element .ensures)
+    let put = c .before .before in
+    let plan = put .before .before in
+    let up = plan .before .before in
+    let test = up .before .before in
+    let top = tested test in
+    let n = counted top in
+    let asked = start n .pre in
+    let stays = stays-read (asked .0) (n .count-of .ensures) (top .height-with .ensures) (test .before .height-of .ensures) (test .if1 .left) in
+    put-edits (asked .0) (packed-here (asked .0) stays (asked .1) (asked .2)) (n .count-of .ensures) (up .up-at .ensures) (inner-planned (asked .0) stays (asked .1) (asked .2) (plan .inner-plan .ensures))
+    (put .put .ensures)
 
 pub change-spec : {M : Type 1} → statement M
 change-spec =
     tie.close
     (tie.spec
     count-of-requires
-    up-at-requires
-    plan-at-requires
-    insert-text-requires
+    cast-k
+    add-height-with
+    height-with-requires
+    height-of-requires
+    change-root-requires
     same-length
     returns
-    plan-at-requires-2
-    insert-element-requires
+    up-at-requires
+    inner-plan-requires
+    put-requires
     same-length-2
     returns-2)

@@ -1,83 +1,114 @@
 -- `insert_plan::split_plan` meets its contract. Assumes nothing.
-use Prim.Native.Nat.{_+_, _-_, _≤_}
+use borrow.Author.Needs.{needs}
+use Prim.Native.Nat.{_+_, _≤_}
 use native.Mathlib.Omega.{arith}
-use native.Mathlib.Nat.{mul-le-mul}
-use Rattle.shape.specs.Tables.{entry-limit}
-use Rattle.shape.specs.Packed.{widths-in, highs-in, numbers-in}
-use Rattle.insert_plan.specs.Parts.{plan-record}
-use Rattle.insert_plan.proofs.Plans.{split-made}
+use Rattle.insert_plan.proofs.Plans.{taken-few, low-is, low-some, trees-few, times-width, split-made}
+use Rattle.insert_plan.specs.Parts.{plan-record, border-record}
 use Rattle.insert_plan.proofs.split_plan.Statement.{statement}
 use Rattle.insert_plan.proofs.split_plan.Tie as tie
 
-high-requires : tie.Need-high-requires
-high-requires c κs = omega arith
+in-node-requires : tie.Need-in-node-requires
+in-node-requires c κs = search needs
 
-add-number : tie.Need-add-number
-add-number c = omega (arith, c .before .pre .height)
+add-trees : tie.Need-add-trees
+add-trees c = omega (arith, taken-few (c .before .pre) (c .in-node .ensures), c .before .pre .size)
 
-number-requires : tie.Need-number-requires
-number-requires c κs = omega (arith, c .before .pre .height)
+low-requires : tie.Need-low-requires
+low-requires c κs = search needs
 
-add-width : tie.Need-add-width
-add-width c = omega (arith, c .before .before .pre .height)
+div-trees : tie.Need-div-trees
+div-trees c = let node = c .before in omega (arith, low-some (node .before .pre) (node .in-node .ensures) (c .low .ensures))
+
+less-requires : tie.Need-less-requires
+less-requires c κs = search needs
 
 width-requires : tie.Need-width-requires
-width-requires c κs = omega (arith, c .before .before .pre .height)
+width-requires c κs = search needs
+
+mul-cut : tie.Need-mul-cut
+mul-cut c =
+    let low = c .before .before in
+    let node = low .before in
+    let few : c .before .less .result ≤ 400000 = omega (arith, c .before .less .ensures, trees-few (node .before .pre) (node .in-node .ensures) (low .low .result)) in
+    omega (arith, times-width 400000 few (c .width .ensures) (node .before .pre .widths _))
+
+cut-requires : tie.Need-cut-requires
+cut-requires c κs = search needs
+
+-- from where the shift is known back to where the node's tags are
+abbrev begun : tie.After-cut → tie.After-in-node
+begun c = c .before .before .before .before
+
+add-number : tie.Need-add-number
+add-number c = search needs
+
+number-requires : tie.Need-number-requires
+number-requires c κs = search needs
+
+add-width : tie.Need-add-width
+add-width c = search needs
+
+width-requires-2 : tie.Need-width-requires-2
+width-requires-2 c κs = search needs
 
 sum-requires : tie.Need-sum-requires
 sum-requires c κs =
-    let start = c .before .before .before in
-    (rw (c .before .number .ensures) (start .pre .numbers (start .args .h + 1)), rw (c .width .ensures) (start .pre .widths (start .args .h + 1)))
-
--- from where the end is known back to where s is
-abbrev begun : tie.After-sum → tie.After-high
-begun c = c .before .before .before
+    let number = c .before in
+    let start = begun (number .before) .before in
+    (rw (number .number .ensures) (start .pre .numbers (start .args .h + 1)), rw (c .width2 .ensures) (start .pre .widths (start .args .h + 1)))
 
 number-requires-2 : tie.Need-number-requires-2
-number-requires-2 c κs = omega (arith, begun c .before .pre .height)
+number-requires-2 c κs = search needs
 
-high-requires-2 : tie.Need-high-requires-2
-high-requires-2 c κs = omega (arith, begun (c .before) .before .pre .height)
+add-t11 : tie.Need-add-t11
+add-t11 c = search needs
 
-sub-t10 : tie.Need-sub-t10
-sub-t10 c = let read = begun (c .before .before) in omega (arith, read .high .ensures, read .before .pre .least)
+cast-t13 : tie.Need-cast-t13
+cast-t13 c = search needs
 
-width-requires-2 : tie.Need-width-requires-2
-width-requires-2 c κs = omega (arith, begun (c .before .before) .before .pre .height)
+add-t16 : tie.Need-add-t16
+add-t16 c =
+    let node = begun (c .before .before .before .before .before .before) in
+    omega (arith, taken-few (node .before .pre) (node .in-node .ensures), c .struct-known .given)
 
-mul-t12 : tie.Need-mul-t12
-mul-t12 c =
-    let read = begun (c .before .before .before) in
-    let start = read .before in
-    let few : read .high .result - 1 ≤ 15 = omega (arith, read .high .ensures, start .pre .most) in
-    let wide : c .width2 .result ≤ entry-limit = rw (c .width2 .ensures) (start .pre .widths (start .args .h)) in
-    omega (arith, mul-le-mul few wide)
+less-requires-2 : tie.Need-less-requires-2
+less-requires-2 c κs = search needs
 
 returns : tie.Need-returns
-unfolding plan-record
+unfolding plan-record border-record
 returns c =
-    let limit = c .before in
-    let number = limit .before in
-    let end = number .before in
-    let read = begun end in
-    let args = read .before .args in
-    let t = args .tables .now in
-    split-made (widths-in t) (highs-in t) (numbers-in t) (args .h) (args .left .0) (read .high .ensures) (end .before .before .number .ensures) (end .before .width .ensures) (number .number2 .ensures) (limit .high2 .ensures) (c .width2 .ensures)
-    (end .sum .ensures)
+    let own = c .before .before in
+    let end = own .before .before in
+    let wide = end .before in
+    let next = wide .before in
+    let shift = next .before in
+    let width = shift .before in
+    let low = width .before .before in
+    let node = low .before in
+    let args = node .before .args in
+    split-made _ _ _ _ (args .h) (args .l) (args .k) (border-record (args .border)) (node .in-node .ensures) (low-is (node .before .pre) (node .in-node .ensures) (low .low .ensures))
+    (width .before .less .ensures) (width .width .ensures) (shift .cut .ensures) (next .number .ensures) (wide .width2 .ensures) (end .sum .ensures) (own .number2 .ensures) (c .less2 .ensures)
 
 pub split-plan-spec : {M : Type 1} → statement M
 split-plan-spec =
     tie.close
     (tie.spec
-    high-requires
+    in-node-requires
+    add-trees
+    low-requires
+    div-trees
+    less-requires
+    width-requires
+    mul-cut
+    cut-requires
     add-number
     number-requires
     add-width
-    width-requires
+    width-requires-2
     sum-requires
     number-requires-2
-    high-requires-2
-    sub-t10
-    width-requires-2
-    mul-t12
+    add-t11
+    cast-t13
+    add-t16
+    less-requires-2
     returns)

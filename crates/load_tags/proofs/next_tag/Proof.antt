@@ -1,6 +1,5 @@
 -- `load_tags::next_tag` meets its contract. Assumes nothing.
 use borrow.Author.Tests.{lt-ltb, le-ltb}
-use Rattle.load_tags.specs.Tags.{next-number}
 use borrow.Author.Needs.{needs}
 use Rattle.load_tags.proofs.next_tag.Statement.{statement}
 use Rattle.load_tags.proofs.next_tag.Tie as tie
@@ -12,12 +11,10 @@ add-t5 : tie.Need-add-t5
 add-t5 c = search needs
 
 returns : tie.Need-returns
-unfolding next-number
 returns c = rw (lt-ltb _ _ (c .if1 .taken))
 
 returns-2 : tie.Need-returns-2
-unfolding next-number
-returns-2 c = rw (le-ltb _ _ (c .if1 .left))
+returns-2 c = rw (le-ltb _ _ (c .before .if1 .left))
 
 pub next-tag-spec : {M : Type 1} → statement M
 next-tag-spec = tie.close (tie.spec add-if1 add-t5 returns returns-2)

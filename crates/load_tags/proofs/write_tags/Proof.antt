@@ -4,25 +4,25 @@ use mathlib.Core.Path.{sym}
 use mathlib.Core.Bool.{true≢false}
 use mathlib.Core.List.{List}
 use Prim.Native.Nat.{ℕ, _-_, _≤_, _<_}
-use lib.ListN.{length}
-use Rattle.store_types.specs.Limits.{label-limit}
+use lib.ListN.{length, getD}
+use Rattle.store_types.specs.Limits.{no-tag, label-limit}
 use Rattle.load_model.proofs.Steps.{Abreast}
 use Rattle.load_tags.specs.Tags.{gap, labels-new, Around-known}
-use Rattle.load_tags.proofs.Row.{Filling, row-starts, tag-fits, row-turns, row-ends}
+use Rattle.load_tags.proofs.Filling.{Filling, book-fits, book-kind, row-starts, tag-fits, row-turns, book-ends}
 use Rattle.load_tags.proofs.Labelled.{lows-fit, lows-small, small, labels-start, labels-begun, labels-next, label-new}
 use native.Mathlib.Omega.{arith}
 use Rattle.load_tags.proofs.write_tags.Statement.{statement}
 use Rattle.load_tags.proofs.write_tags.Tie as tie
 
 abbrev Inv-loop : tie.InvT-loop
-Inv-loop words₀ kinds r under widths n gaps lows begins₀ inside₀ label₀ i₀ words begins inside label i =
+Inv-loop words₀ kinds r under widths n row gaps lows begins₀ inside₀ label₀ i₀ words begins inside label i =
     (i ≤ length kinds)
     × Abreast r under (length kinds) (gap r widths) i 0 label begins
-    × Filling kinds (labels-new r widths (length kinds) under) words₀ i words (inside .begin .0)
+    × Filling kinds row no-tag (λ x. getD (labels-new r widths (length kinds) under) x 0) words₀ i words (inside .begin .0)
     × Around-known words i inside
 
 abbrev μ-loop : tie.MeasureT-loop
-μ-loop words₀ kinds r under widths n gaps lows begins₀ inside₀ label₀ i₀ words begins inside label i =
+μ-loop words₀ kinds r under widths n row gaps lows begins₀ inside₀ label₀ i₀ words begins inside label i =
     length kinds - i
 
 cast-n : tie.Need-cast-n Inv-loop μ-loop
@@ -48,7 +48,7 @@ loop-holds c =
     let p = made .before .before .before .before .pre in (
       omega arith,
       labels-start _ _ _ _ (p .1) _ _ (made .before .gaps .ensures) (made .table .ensures) _ (c .first-begins .ensures),
-      row-starts _ _ _ (p .0),
+      row-starts _ _ _ _ _ (book-fits (p .0)),
       record { up = λ k. absurd (true≢false (sym k)); below = λ k. absurd (true≢false (sym k)) },
     )
 
@@ -98,14 +98,14 @@ cast-write-tag c = omega arith
 shared-slice-read-write-tag : tie.Need-shared-slice-read-write-tag Inv-loop μ-loop
 shared-slice-read-write-tag c = omega arith
 
-cast-t30 : tie.Need-cast-t30 Inv-loop μ-loop
-cast-t30 c = omega (arith, small-here (c .before .before))
+cast-t31 : tie.Need-cast-t31 Inv-loop μ-loop
+cast-t31 c = omega (arith, small-here (c .before .before))
 
 write-tag-requires : tie.Need-write-tag-requires Inv-loop μ-loop
 write-tag-requires c κs =
     let turn = c .before .before .before .before .before .before in
     let l = turn .before .loop in
-    (tag-fits _ _ _ (start (turn .before) .pre .0) (l .i) (l .words) (l .inside .begin .0) (l .inv .2) (turn .loop-test .taken), l .inv .3)
+    (tag-fits _ _ _ _ _ (book-fits (start (turn .before) .pre .0)) (l .i) (l .words) (l .inside .begin .0) (l .inv .2) (turn .loop-test .taken) _ (book-kind (start (turn .before) .args .kinds .now) (l .i)), l .inv .3)
 
 element-copy-out-sum : tie.Need-element-copy-out-sum Inv-loop μ-loop
 element-copy-out-sum c = omega arith
@@ -138,17 +138,17 @@ loop-again c =
     let w = written .write-tag .ensures in (
       omega arith,
       rw (c .sum .ensures) (labels-next _ _ _ _ (p .1) (l .i) _ _ here),
-      rw (w .0, w .1 .0) (row-turns _ _ _ (p .0) (l .i) (l .words) (l .inside .begin .0) (l .inv .2) test _ (label-new _ _ _ _ (p .1) (l .i) _ _ test here)),
+      rw (w .0, w .1 .0) (row-turns _ _ _ _ _ (book-fits (p .0)) (l .i) (l .words) (l .inside .begin .0) (l .inv .2) test _ (book-kind (start (turn .before) .args .kinds .now) (l .i)) _ (label-new _ _ _ _ (p .1) (l .i) _ _ test here)),
       w .1 .1,
     )
 
 same-length : tie.Need-same-length Inv-loop μ-loop
-same-length c = c .before .loop .inv .2 .filled .around .size
+same-length c = c .before .loop .inv .2 .filled .beside .size
 
 returns : tie.Need-returns Inv-loop μ-loop
 returns c =
     let l = c .before .loop in
-    row-ends _ _ _ (start (c .before) .pre .0) (l .i) _ _ (l .inv .2) (omega arith)
+    book-ends _ _ _ (start (c .before) .pre .0) (l .i) _ _ (l .inv .2) (omega arith)
 
 pub write-tags-spec : {M : Type 1} → statement M
 write-tags-spec =
@@ -167,7 +167,7 @@ write-tags-spec =
     begin-nodes-requires
     cast-write-tag
     shared-slice-read-write-tag
-    cast-t30
+    cast-t31
     write-tag-requires
     element-copy-out-sum
     sum-requires

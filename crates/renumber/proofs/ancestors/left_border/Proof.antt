@@ -47,10 +47,13 @@ loop-again c =
 returns : tie.Need-returns Inv-loop μ-loop
 returns c =
     let at = c .before .before .before in
-    rw (at .before .count-of .ensures) at (left-stops (at .loop .inv) (c .before .before .loop-test .taken) (c .before .at-least .ensures) (c .if1 .left))
+    let whole = left-stops (at .loop .inv) (c .before .before .loop-test .taken) (c .before .at-least .ensures) (c .if1 .left) in
+    rw (← at .before .count-of .ensures) (record { tag-is = whole .0; steps-are = whole .1 })
 
 returns-2 : tie.Need-returns-2 Inv-loop μ-loop
-returns-2 c = rw (c .before .before .count-of .ensures) at (left-spent (c .before .loop .inv) (c .loop-test .left))
+returns-2 c =
+    let whole = left-spent (c .before .loop .inv) (c .loop-test .left) in
+    rw (← c .before .before .count-of .ensures) (record { tag-is = whole .0; steps-are = whole .1 })
 
 pub left-border-spec : {M : Type 1} → statement M
 left-border-spec =
