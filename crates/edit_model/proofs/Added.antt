@@ -2,10 +2,10 @@
 -- that no tag has. And the levels and the stamp of an image, set in its header. Assumes nothing.
 use mathlib.Core.Path.{_≡_, refl, ap, sym, _∙_}
 use mathlib.Core.Bool.{true, false}
-use mathlib.Core.List.{List, _∷_, _++_, append-assoc}
+use mathlib.Core.List.{List, _++_, append-assoc}
 use Prim.Native.Nat.{ℕ, zero, suc, _+_, _-_, _≤_, _<_}
 use native.Mathlib.Omega.{arith}
-use borrow.Author.Tests.{ne-eqb, eqb-true, eqb-false, ltb-true, ltb-false}
+use borrow.Author.Tests.{eqb-true, eqb-false, ltb-true, ltb-false}
 use lib.Dec.{ltb, eqb}
 use lib.ListN.{length, getD, drop, replicate, set, length-set, length-append, length-replicate, getD-replicate, List·getD-append, List·getD-eq-default}
 use lib.Seq.{getD-set-same, getD-set-other, getD-append-add, set-append-left, take-at}
@@ -165,9 +165,6 @@ module _ {v : Image} (h : Proper v) where
   no-member : (x : ℕ) → length (v .facts) ≤ x → member x (v .tags) ≡ false
   no-member x new =
       fails (member x (v .tags)) (λ m. not-new x (place x (v .tags)) new (place-of-member x (v .tags) m) (sym (getD-place x (v .tags) no-tag m)))
-
-  pub new-tag : member (length (v .facts)) (v .tags) ≡ false
-  new-tag = no-member (length (v .facts)) (omega arith)
 
   new-apart : (k : ℕ) → Apart (numbers (length (v .facts)) k) (v .tags)
   new-apart k x m = no-member x (number-bounds x (length (v .facts)) k m .0)

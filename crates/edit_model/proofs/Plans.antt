@@ -85,11 +85,11 @@ Row-in-store st p ns = Row-flat (width st) p ns (st .book)
 pub record Planned (st : Store) (p : ℕ) (ns : List ℕ) (d : Row-in-store st p ns) (q : Plan) : Type 0 where
   pub height-is : q .height ≡ d .height
   pub left-is : q .left ≡ place-tag st (length (d .before))
-  pub number-is : q .number ≡ d .number
-  pub count-is : q .count ≡ length (d .old) + length ns
-  pub cursor-is : q .cursor ≡ d .cursor
-  pub rest-is : q .rest ≡ d .rest
-  pub by-is : 1 ≤ length (d .beside) → d .shift < label-limit → q .by ≡ d .shift
+  pub number-is : q .number ≡ d .piece .number
+  pub count-is : q .count ≡ length (d .piece .old) + length ns
+  pub cursor-is : q .cursor ≡ d .piece .cursor
+  pub rest-is : q .rest ≡ d .piece .rest
+  pub by-is : 1 ≤ length (d .beside) → d .piece .shift < label-limit → q .by ≡ d .piece .shift
   pub low : (i : ℕ) → i < length (d .beside) → getD (d .beside) i 0 < q .bound
   pub stop : 1 ≤ length (d .after) → q .bound ≤ getD (d .after) 0 0
 
@@ -227,7 +227,7 @@ module _ (ws : List ℕ) (st : Store) (says : Says ws st) where
 
     module _ (ns : List ℕ) (d : Row-in-store st p ns) where
       bound-cuts : d .height ≤ st .book .under →
-          Cut 0 (entry (numbers-before ws st p) (suc (d .height)) + entry (widths-of ws) (suc (d .height))) (width st (height (st .book))) (d .before ++ (d .old ++ d .beside)) (d .after)
+          Cut 0 (entry (numbers-before ws st p) (suc (d .height)) + entry (widths-of ws) (suc (d .height))) (width st (height (st .book))) (d .before ++ (d .piece .old ++ d .beside)) (d .after)
       bound-cuts low =
           rw (number-right (suc (d .height)) (omega arith) (omega arith), widths-right (suc (d .height)) (omega arith))
           (row-cut (store-widths st) (sane sound-said) size-said d low)
@@ -238,9 +238,9 @@ module _ (ws : List ℕ) (st : Store) (says : Says ws st) where
       root-planned above =
           let none = d .root above in
           let all = rw (none .1, none .2, none .3) at (row-parts d) in
-          let many : length (d .old) ≡ count st = omega (arith, sound-said .as-many) in
-          let here : p ≡ d .offset = d .place-is ∙ rw (none .1) (omega arith) in
-          let piece = rw many at (d .split (omega arith)) in
+          let many : length (d .piece .old) ≡ count st = omega (arith, sound-said .as-many) in
+          let here : p ≡ d .piece .offset = d .place-is ∙ rw (none .1) (omega arith) in
+          let piece = rw many at (d .piece .split (omega arith)) in
           record {
             height-is = refl;
             left-is = rw (none .1);
@@ -257,28 +257,28 @@ module _ (ws : List ℕ) (st : Store) (says : Says ws st) where
       plain-planned : d .height ≡ 0 → Planned st p ns d (plain-plan ws (widths-of ws) (length ns) (st .book .under) (place-tag st p))
       unfolding plain-plan
       plain-planned none =
-          let piece = d .plain none in
+          let piece = d .piece .plain none in
           let here : p ≡ length (d .before) = omega (arith, d .place-is, piece .offset-is) in
           let cuts = rw none at (bound-cuts (omega arith)) in
           record {
             height-is = sym none;
             left-is = rw (← here);
-            number-is = next-number p (d .number) fits (d .front) (d .next none);
+            number-is = next-number p (d .piece .number) fits (d .front) (d .next none);
             count-is = rw (piece .none) (omega arith);
             cursor-is = sym (piece .cursor-is);
             rest-is = sym (piece .rest-is);
-            by-is = λ l small. rw (widths-right 0 (omega arith), ← piece .shift-is) (cut-below (d .shift) small);
-            low = rw (numbers-said, bound-whole _ _ (d .after) (cuts .1) narrow-said) (cut-low _ _ _ (d .before) (d .old) (d .beside) (d .after) cuts);
+            by-is = λ l small. rw (widths-right 0 (omega arith), ← piece .shift-is) (cut-below (d .piece .shift) small);
+            low = rw (numbers-said, bound-whole _ _ (d .after) (cuts .1) narrow-said) (cut-low _ _ _ (d .before) (d .piece .old) (d .beside) (d .after) cuts);
             stop = rw (numbers-said, bound-whole _ _ (d .after) (cuts .1) narrow-said) (rising-from _ _ (d .after) (cuts .1) 0);
           }
 
       -- BELOW THE ROOT: the height that is found is that of the split
       split-planned : 1 ≤ d .height → d .height ≤ st .book .under →
-          Planned st p ns d (split-plan (st .book .s) (st .book .r) (widths-of ws) (numbers-before ws st p) (d .height) (length (d .old)) (length ns)
-          (ended (place-tag st (length (d .before))) (d .offset)))
+          Planned st p ns d (split-plan (st .book .s) (st .book .r) (widths-of ws) (numbers-before ws st p) (d .height) (length (d .piece .old)) (length ns)
+          (ended (place-tag st (length (d .before))) (d .piece .offset)))
       unfolding split-plan
       split-planned least most =
-          let piece = d .split least in
+          let piece = d .piece .split least in
           let cuts = bound-cuts most in
           record {
             height-is = refl;
@@ -287,8 +287,8 @@ module _ (ws : List ℕ) (st : Store) (says : Says ws st) where
             count-is = refl;
             cursor-is = sym (piece .cursor-is);
             rest-is = sym (piece .rest-is);
-            by-is = λ l small. rw (widths-right (d .height) (omega arith), ← piece .shift-is) (cut-below (d .shift) small);
-            low = rw (bound-whole _ _ (d .after) (cuts .1) narrow-said) (cut-low _ _ _ (d .before) (d .old) (d .beside) (d .after) cuts);
+            by-is = λ l small. rw (widths-right (d .height) (omega arith), ← piece .shift-is) (cut-below (d .piece .shift) small);
+            low = rw (bound-whole _ _ (d .after) (cuts .1) narrow-said) (cut-low _ _ _ (d .before) (d .piece .old) (d .beside) (d .after) cuts);
             stop = rw (bound-whole _ _ (d .after) (cuts .1) narrow-said) (rising-from _ _ (d .after) (cuts .1) 0);
           }
 
@@ -309,15 +309,15 @@ module _ (ws : List ℕ) (st : Store) (says : Says ws st) where
           ∙ sym (split-inner (length ns) p k (d .grows ∙ t)) ∙ d .height-is
 
       -- the tags of the split node, and the tag left of it
-      split-size : 1 ≤ d .height → d .height ≤ st .book .under → entry (sizes-before ws st p) (d .height) ≡ length (d .old)
+      split-size : 1 ≤ d .height → d .height ≤ st .book .under → entry (sizes-before ws st p) (d .height) ≡ length (d .piece .old)
       split-size least most =
           let k = st .book in
           sizes-said (d .height) least most ∙ sym (at-inside (k .root) nil (width st) (height k) (d .height) p 0 size-said (λ i. omega arith) .2) ∙ d .size-is most
 
       split-left : 1 ≤ d .height → d .height ≤ st .book .under →
-          left-border (count st) (count st) ws (entry (numbers-before ws st p) (d .height)) (place-tag st p) ≡ ended (place-tag st (length (d .before))) (d .offset)
+          left-border (count st) (count st) ws (entry (numbers-before ws st p) (d .height)) (place-tag st p) ≡ ended (place-tag st (length (d .before))) (d .piece .offset)
       split-left least most =
-          let steps : p - length (d .before) ≡ d .offset = omega (arith, d .place-is) in
+          let steps : p - length (d .before) ≡ d .piece .offset = omega (arith, d .place-is) in
           left-said (d .height) least most ∙ rw (d .left-is most, steps)
 
       inside-planned : ltb (st .book .under) (d .height) ≡ false → (h : ℕ) → d .height ≡ h → Planned st p ns d

@@ -10,18 +10,18 @@ use native.Mathlib.Omega.{arith}
 use borrow.Author.Tests.{eq-eqb, ne-eqb}
 use lib.Dec.{leb, eqb}
 use lib.ListN.{length, getD, drop, replicate, length-append, length-replicate}
-use lib.Seq.{getD-append-add, ext-getD}
+use lib.Seq.{getD-append-add}
 use Rattle.store_types.specs.Limits.{no-tag, most-tags}
-use Rattle.store_types.specs.Layout.{at-s, at-r, at-height, at-count, header-words, word-at, words-for}
+use Rattle.store_types.specs.Layout.{at-s, at-r, at-height, header-words, word-at, words-for}
 use Rattle.lists.specs.Lists.{numbers}
 use Rattle.lists.proofs.Tests.{by-test, fails}
-use Rattle.lists.proofs.Numbers.{length-numbers, getD-numbers}
+use Rattle.lists.proofs.Numbers.{length-numbers}
 use Rattle.shape.specs.Tables.{entry, widths-of}
 use Rattle.shape.proofs.TableLaws.{table-at}
 use Rattle.words.specs.Places.{up-word}
 use Rattle.tree.specs.Row.{member, insert-at}
 use Rattle.tree.specs.Forest.{size}
-use Rattle.tree.specs.Book.{Book, height, labels-of, base, inserted-row, split-of-row}
+use Rattle.tree.specs.Book.{Book, height, labels-of, base, inserted-row}
 use Rattle.tree.specs.Grown.{Path-fits}
 use Rattle.tree.specs.Promise.{Sane, Rows-grow, Row-grows}
 use Rattle.tree_laws.proofs.Rows.{Apart, member-first, member-later, getD-place, length-insert, getD-before, distinct-numbers, number-bounds}
@@ -29,7 +29,7 @@ use Rattle.tree_laws.proofs.Insertion.{sane-inserted-row, tags-inserted-row}
 use Rattle.tree_laws.proofs.RowFlat.{Row-flat, row-flat, row-with, row-shift, row-levels, row-lower}
 use Rattle.tree_laws.proofs.RowsGrow.{rows-grow}
 use Rattle.calls.specs.Kind.{Kind, begin, end, text, code, kind-word, is-begin}
-use Rattle.calls.specs.Store.{Store, Fact, no-fact, fact, fact-in, count, row, width, height-fits}
+use Rattle.calls.specs.Store.{Store, Fact, no-fact, fact, count, row, width, height-fits}
 use Rattle.calls.specs.Nesting.{new-facts}
 use Rattle.calls.specs.Insert.{position, up-at, book-after, insert-store, insert-moved, insert-split}
 use Rattle.calls.specs.Words.{words-of, Says, in-front}
@@ -39,7 +39,6 @@ use Rattle.calls_laws.proofs.Sections.{in-row, distinct-row, row-below}
 use Rattle.calls_laws.proofs.NewFacts.{length-new-facts, new-unmarked}
 use Rattle.calls_laws.proofs.Inserts.{row-degrees, labels-kept, Row-accepted, position-fits}
 use Rattle.calls_laws.proofs.Moved.{moved-unmarked, moved-once}
-use Rattle.calls_laws.proofs.Reader.{getD-map}
 use Rattle.calls_laws.proofs.Widths.{store-powers}
 use Rattle.calls_laws.proofs.WordSteps.{header-said}
 use Rattle.edit_model.specs.Image.{Image, image-header, image-words, image-of, with-labels}
@@ -171,7 +170,7 @@ module _ (ws : List ℕ) (st : Store) (says : Says ws st) (ks : List Kind) (y : 
   abbrev ls : List ℕ
   ls = labels-of (width st) after
 
-  labels-now : ls ≡ d .before ++ (d .new ++ (map (λ l. l + d .shift) (d .beside) ++ d .after))
+  labels-now : ls ≡ d .before ++ (d .piece .new ++ (map (λ l. l + d .piece .shift) (d .beside) ++ d .after))
   labels-now = rw (grows .book) (d .now)
 
   label-below : (i : ℕ) → i < length ls → getD ls i 0 < no-tag
@@ -225,12 +224,12 @@ module _ (ws : List ℕ) (st : Store) (says : Says ws st) (ks : List Kind) (y : 
 
   -- THE PLAN IS RIGHT on the words with the new tags
   abbrev old : List ℕ
-  old = insert-at (d .offset) (replicate k no-tag) (d .old)
+  old = insert-at (d .piece .offset) (replicate k no-tag) (d .piece .old)
 
-  old-long : length old ≡ length (d .old) + length ns
-  old-long = omega (arith, length-insert (d .offset) (replicate k no-tag) (d .old), length-replicate k no-tag, numbers-long)
+  old-long : length old ≡ length (d .piece .old) + length ns
+  old-long = omega (arith, length-insert (d .piece .offset) (replicate k no-tag) (d .piece .old), length-replicate k no-tag, numbers-long)
 
-  right : Right u (widths-of (image-words u ++ rest)) (width st) (st .book .s) (st .book .r) q (d .before) old (d .new) (d .beside) (d .after) (d .shift)
+  right : Right u (widths-of (image-words u ++ rest)) (width st) (st .book .s) (st .book .r) q (d .before) old (d .piece .new) (d .beside) (d .after) (d .piece .shift)
   unfolding with-levels with-tags image-of insert-at
   right =
       record {
@@ -239,8 +238,8 @@ module _ (ws : List ℕ) (st : Store) (says : Says ws st) (ks : List Kind) (y : 
             right-plan .left-is
             ∙ rw facts-long (sym (getD-before (suc p) ns (no-tag ∷ row st) (length (d .before)) no-tag (omega (arith, in-book)) (omega (arith, d .place-is))));
         count = right-plan .count-is ∙ sym old-long;
-        complete = λ zs many. rw (right-plan .height-is, right-plan .cursor-is, right-plan .rest-is, right-plan .number-is) (d .complete zs (many ∙ old-long));
-        as-many = d .as-many ∙ sym old-long;
+        complete = λ zs many. rw (right-plan .height-is, right-plan .cursor-is, right-plan .rest-is, right-plan .number-is) (d .piece .complete zs (many ∙ old-long));
+        as-many = d .piece .as-many ∙ sym old-long;
         wide = rw (right-plan .height-is) (λ h l. widths-said h (rw (grows .book) (omega (arith, row-lower d))));
         by-is = λ l. right-plan .by-is l (omega (arith, row-shift d no-tag (rw (grows .book) at label-below) l));
         low = right-plan .low;
@@ -259,11 +258,11 @@ module _ (ws : List ℕ) (st : Store) (says : Says ws st) (ks : List Kind) (y : 
 
   numbered-words : numbered .words ≡ image-words (with-labels ls u) ++ rest
   numbered-words =
-      renumbered-words proper-raised few-tags table (width st) (st .book .s) (st .book .r) q (d .before) old (d .new) (d .beside) (d .after) (d .shift) right ls labels-now label-below rest
+      renumbered-words proper-raised few-tags table (width st) (st .book .s) (st .book .r) q (d .before) old (d .piece .new) (d .beside) (d .after) (d .piece .shift) right ls labels-now label-below rest
 
   numbered-moved : numbered .moved ≡ differ (unmarked-row u) (u .labels) ls
   numbered-moved =
-      renumbered-moved proper-raised few-tags table (width st) (st .book .s) (st .book .r) q (d .before) old (d .new) (d .beside) (d .after) (d .shift) right ls labels-now label-below rest
+      renumbered-moved proper-raised few-tags table (width st) (st .book .s) (st .book .r) q (d .before) old (d .piece .new) (d .beside) (d .after) (d .piece .shift) right ls labels-now label-below rest
 
   -- THE STORE afterwards, not stamped yet
   abbrev su : Store
@@ -343,16 +342,13 @@ module _ (ws : List ℕ) (st : Store) (says : Says ws st) (ks : List Kind) (y : 
   pub row-found : Row-in there (n + k) (plan-of ws k y)
   row-found =
       let g : Words-in (raised-words (added-row ws n (place-tag st p) ts) (q .height)) (n + k) = record { image = u; rest = rest; words-are = raised-said; proper = proper-raised; counted = counted } in
-      rw place-said at (row-in q g table (width st) (st .book .s) (st .book .r) (d .before) old (d .new) (d .beside) (d .after) (d .shift) right)
+      rw place-said at (row-in q g table (width st) (st .book .s) (st .book .r) (d .before) old (d .piece .new) (d .beside) (d .after) (d .piece .shift) right)
 
   pub path-there : Path-fits (st .book .r) (plan-of ws k y .height) (plan-of ws k y .cursor) (plan-of ws k y .rest) (plan-of ws k y .count)
   path-there =
-      rw place-said at (rw (← right-plan .height-is, ← right-plan .cursor-is, ← right-plan .rest-is, ← right-plan .count-is) at (d .paths))
+      rw place-said at (rw (← right-plan .height-is, ← right-plan .cursor-is, ← right-plan .rest-is, ← right-plan .count-is) at (d .piece .paths))
 
-  -- H afterwards is above the plan's height, and one more where the root is split
-  pub levels-there : height after ≡ cond (leb (height (st .book)) (plan-of ws k y .height)) (suc (plan-of ws k y .height)) (height (st .book))
-  levels-there = rw place-said at levels-said
-
+  -- H afterwards is above the plan's height
   pub lower-there : plan-of ws k y .height < height after
   lower-there = let lower : q .height < height after = rw (grows .book, right-plan .height-is) (row-lower d) in rw place-said at lower
 

@@ -1,23 +1,22 @@
 -- An accepted sheet that has tags: its place, the tables and its plan are as the code asks, and so are the words with the new tags.
 -- Assumes nothing.
-use mathlib.Core.Path.{_≡_, refl, ap, sym, _∙_}
-use mathlib.Core.Bool.{true, false, cond}
+use mathlib.Core.Path.{_≡_, refl, sym, _∙_}
+use mathlib.Core.Bool.{false}
 use mathlib.Core.List.{List, [], map}
 use mathlib.Core.Logic.{_⊎_, inl, inr}
-use Prim.Native.Nat.{ℕ, zero, suc, pred, _+_, _*_, _-_, _^_, _≤_, _<_}
+use Prim.Native.Nat.{ℕ, suc, pred, _+_, _-_, _≤_, _<_}
 use native.Mathlib.Numerals.{sub-one}
 use native.Mathlib.Omega.{arith}
 use borrow.Author.Tests.{eq-eqb, ne-eqb, le-ltb}
 use lib.ListN.{length, getD, replicate, length-map}
 use Rattle.store_types.specs.Limits.{no-tag, most-tags}
-use Rattle.store_types.specs.Layout.{at-s, at-r, at-height, at-count, header-words, word-at, words-for, Records}
+use Rattle.store_types.specs.Layout.{at-s, at-r, at-height, at-count, word-at, Records}
 use Rattle.lists.proofs.Tests.{by-test}
 use Rattle.words.specs.Places.{Tag-or-none, Place-there, behind, up-word}
 use Rattle.words.proofs.PlaceLaws.{place-in}
-use Rattle.shape.specs.Tables.{entry, entry-limit, table, table-length, widths-of, lows-of, highs-of}
-use Rattle.shape.specs.Packed.{Packed, widths-in, highs-in, s-in, r-in}
+use Rattle.shape.specs.Tables.{entry, entry-limit, table-length, widths-of, lows-of, highs-of}
+use Rattle.shape.specs.Packed.{s-in, r-in}
 use Rattle.shape.specs.Needs.{Tables-fit}
-use Rattle.shape.specs.Sums.{cut}
 use Rattle.shape.proofs.Sums.{cut-small}
 use Rattle.shape.proofs.Fits.{Fits, widths-fit, lows-fit, highs-fit}
 use Rattle.tree.specs.Forest.{size}
@@ -27,7 +26,7 @@ use Rattle.tree_laws.proofs.RowHeight.{search-least, height-grown}
 use Rattle.calls.specs.Kind.{Kind, kind-of, is-begin}
 use Rattle.calls.specs.Store.{Store, fact, count, row}
 use Rattle.calls.specs.Nesting.{new-facts}
-use Rattle.calls.specs.Insert.{position, up-at, book-after, insert-store, insert-sheet-refusal, insert-sheet-store}
+use Rattle.calls.specs.Insert.{position, up-at, book-after, insert-store, insert-sheet-refusal}
 use Rattle.calls.specs.Words.{Says}
 use Rattle.calls.specs.Promise.{Insert-sound}
 use Rattle.calls.specs.Replies.{said, insert-sheet-refused}
@@ -43,15 +42,15 @@ use Rattle.edit_model.specs.Image.{image-of}
 use Rattle.edit_model.specs.Split.{left-border}
 use Rattle.edit_model.specs.Insert.{Plan, numbers-at, added-row, raised-words, root-plan, plan, plan-of, row-edit}
 use Rattle.edit_model.proofs.Image.{proper-image}
-use Rattle.edit_model.proofs.Plans.{place-tag, sound-said, image-said, behind-said, sizes-few}
-use Rattle.edit_model.proofs.Renumbered.{Words-in, Row-in}
-use Rattle.edit_model.proofs.Row.{place-said, up-said, fits, row-found, path-there, levels-there, lower-there, header-there}
+use Rattle.edit_model.proofs.Plans.{sound-said, image-said, behind-said, sizes-few}
+use Rattle.edit_model.proofs.Renumbered.{Words-in}
+use Rattle.edit_model.proofs.Row.{place-said, up-said, fits, row-found, path-there, lower-there, header-there}
 use Rattle.store_refuse.proofs.Laws.{accepted-says, accepted-store}
 use Rattle.insert_link.specs.Needs.{New-row-fits}
 use Rattle.insert_plan.specs.Parts.{inner-plan}
 use Rattle.insert_plan.specs.Needs.{Node-fits, Root-reads, Plan-reads, Applicable}
 use Rattle.insert_plan.proofs.Plans.{plan-root, plan-inner, plan-by}
-use Rattle.insert_refuse.proofs.Headers.{Ranges, ranges, fits-of}
+use Rattle.insert_refuse.proofs.Headers.{Ranges, ranges}
 use Rattle.insert_call.specs.Parts.{row-put, put-edit}
 use Rattle.insert_call.specs.Needs.{Edits, Put-fits, Accepted, Rises}
 use Rattle.insert_call.proofs.Rows as rows

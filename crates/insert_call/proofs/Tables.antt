@@ -4,7 +4,7 @@ use mathlib.Core.List.{List}
 use Prim.Native.Nat.{ℕ, _*_, _-_, _^_, _≤_}
 use native.Mathlib.Nat.{one-mul, mul-one, pow-zero, pow-succ'}
 use native.Mathlib.Omega.{arith}
-use Rattle.shape.specs.Tables.{entry, entry-limit, table, table-under}
+use Rattle.shape.specs.Tables.{entry, entry-limit, table}
 use Rattle.shape.specs.Packed.{Packed, widths-in, lows-in, highs-in, s-in, r-in}
 use Rattle.shape.proofs.TableLaws.{table-at, table-bound}
 use Rattle.shape.proofs.Fits.{Fits, product-range, widths-fit, highs-fit}

@@ -1,7 +1,7 @@
 -- The search for the least height with room for some tags, height by height. Assumes nothing.
 use mathlib.Core.Path.{_≡_, sym}
 use Prim.Native.Nat.{ℕ, suc, _+_, _*_, _-_, _^_, _≤_, _<_}
-use native.Mathlib.Nat.{mul-le-mul, mul-le-mul-left, mul-assoc, mul-one, pow-zero, pow-suc}
+use native.Mathlib.Nat.{mul-le-mul-left, mul-assoc, mul-one, pow-zero, pow-suc}
 use native.Mathlib.Omega.{arith}
 use Rattle.shape.specs.Needs.{Search-fits, Least-room}
 

@@ -38,38 +38,67 @@ pub record Split-piece (s r : ℕ) (w : ℕ → ℕ) (h offset l k cursor rest s
   pub rest-is : rest ≡ k - in-node s r h l k
   pub shift-is : shift ≡ ((l + in-node s r h l k) / r ^ h - 1) * w h
 
--- THE FLAT VIEW of new tags behind the first p leaves, where the tree of height h grows, none where h is 0: what stands before
--- the piece and what stands behind the border keep their labels, what stands between is shifted
-pub record Grown-flat (s r : ℕ) (w : ℕ → ℕ) (f : Forest) (j h p a : ℕ) (ns : List ℕ) : Type 0 where
+-- its labels before and after, and by how much what stands beside it is shifted: it is numbered as trees of height h, none grown
+-- where h is 0, of which only the cursor's is not complete
+pub record Piece (s r : ℕ) (w : ℕ → ℕ) (h k : ℕ) : Type 0 where
   pub offset : ℕ
   pub number : ℕ
   pub shift : ℕ
   pub cursor : ℕ
   pub rest : ℕ
-  pub before : List ℕ
   pub old : List ℕ
   pub new : List ℕ
+  pub fits : offset ≤ length old
+  pub paths : Path-fits r h cursor rest (length old + k)
+  pub complete : (zs : List ℕ) → length zs ≡ length old + k → labels (path s r h cursor rest zs) w h number ≡ new
+  pub as-many : length new ≡ length old + k
+  pub plain : h ≡ 0 → Plain-piece w offset (length old) k cursor rest shift
+  pub split : 1 ≤ h → Split-piece s r w h offset (length old) k cursor rest shift
+
+-- THE FLAT VIEW of new tags behind the first p leaves, where the tree of height h grows: what stands before the piece and what
+-- stands behind the border keep their labels, what stands between is shifted
+pub record Grown-flat (s r : ℕ) (w : ℕ → ℕ) (f : Forest) (j h p a : ℕ) (ns : List ℕ) : Type 0 where
+  pub piece : Piece s r w h (length ns)
+  pub before : List ℕ
   pub beside : List ℕ
   pub after : List ℕ
-  pub was : labels f w j a ≡ before ++ (old ++ (beside ++ after))
-  pub now : labels (grown-in f s r j h p ns) w j a ≡ before ++ (new ++ (map (λ l. l + shift) beside ++ after))
-  pub place-is : p ≡ length before + offset
-  pub fits : offset ≤ length old
-  -- the piece is numbered as trees of height h of which only the cursor's is not complete
-  pub paths : Path-fits r h cursor rest (length old + length ns)
-  pub complete : (zs : List ℕ) → length zs ≡ length old + length ns → labels (path s r h cursor rest zs) w h number ≡ new
-  pub as-many : length new ≡ length old + length ns
-  pub plain : h ≡ 0 → Plain-piece w offset (length old) (length ns) cursor rest shift
-  pub split : 1 ≤ h → Split-piece s r w h offset (length old) (length ns) cursor rest shift
+  pub was : labels f w j a ≡ before ++ (piece .old ++ (beside ++ after))
+  pub now : labels (grown-in f s r j h p ns) w j a ≡ before ++ (piece .new ++ (map (λ l. l + piece .shift) beside ++ after))
+  pub place-is : p ≡ length before + piece .offset
   pub left-is : left-in f j h p ≡ length before
-  pub size-is : size-in f j h p ≡ length old
+  pub size-is : size-in f j h p ≡ length (piece .old)
   -- the number of the tree that grows; the first new label where none does
-  pub number-is : 1 ≤ h → node-number f w j h p a ≡ number
-  pub front : p ≡ 0 → number ≡ a
-  pub next : h ≡ 0 → (q : ℕ) → p ≡ suc q → number ≡ getD (labels f w j a) q 0 + w 0
+  pub number-is : 1 ≤ h → node-number f w j h p a ≡ piece .number
+  pub front : p ≡ 0 → piece .number ≡ a
+  pub next : h ≡ 0 → (q : ℕ) → p ≡ suc q → piece .number ≡ getD (labels f w j a) q 0 + w 0
   -- the parent's leaves end where those that are shifted do; with no parent in the forest all that follows is shifted
-  pub parent : h < j → left-in f j (suc h) p + size-in f j (suc h) p ≡ length before + (length old + length beside)
+  pub parent : h < j → left-in f j (suc h) p + size-in f j (suc h) p ≡ length before + (length (piece .old) + length beside)
   pub outer : h ≡ j → after ≡ []
+
+-- A PIECE THAT GROWS: new tags behind the first p leaves of a node, which they bring to its limit; the leaves had these labels
+unfoldable pub grown-piece : (w : ℕ → ℕ) {s r : ℕ} (h p a : ℕ) (ns xs ls : List ℕ) → 2 ≤ s → 2 ≤ r → 1 ≤ h → length ls ≡ length xs → p ≤ length xs → length xs < s * r ^ h → s * r ^ h ≤ length xs + length ns → Piece s r w h (length ns)
+grown-piece w {s} {r} h p a ns xs ls s-least r-least some same fits room limit =
+    let k = length ns in
+    let row = insert-at p ns xs in
+    let c = node-fits s r h p (length xs) k s-least r-least fits room limit in
+    let t = in-node s r h (length xs) k in
+    let many : length row ≡ length xs + k = length-insert p ns xs ∙ omega arith in
+    let own : Path-fits r h (p + t) (k - t) (length row) = rw many (c .fits) in
+    record {
+      offset = p;
+      number = a;
+      shift = (c .fits .trees - 1) * w h;
+      cursor = p + t;
+      rest = k - t;
+      old = ls;
+      new = labels (path s r h (p + t) (k - t) row) w h a;
+      fits = omega arith;
+      paths = rw same (c .fits);
+      complete = λ zs n. path-labels w s r h (p + t) (k - t) zs row a (omega arith);
+      as-many = length-labels (path s r h (p + t) (k - t) row) w h a ∙ ap length (leaves-path s r h (p + t) (k - t) row r-least own) ∙ omega arith;
+      plain = λ i. absurd (omega arith);
+      split = λ l. rw same (record { cursor-is = refl; rest-is = refl; shift-is = rw (c .trees-are) });
+    }
 
 -- ROWS OF LEAVES, one behind the other
 row-append : (xs ys : List ℕ) → leaf-row (xs ++ ys) ≡ joined (leaf-row xs) (leaf-row ys)
@@ -109,25 +138,27 @@ module _ (s r : ℕ) (w : ℕ → ℕ) (ns : List ℕ) where
       let left = row-labels w (take p xs) (drop p xs) a in
       let all : k * r ^ 0 ≡ k = rw pow-zero (mul-one k) in
       record {
-        offset = 0;
-        number = n;
-        shift = k * w 0;
-        cursor = k;
-        rest = 0;
+        piece = record {
+          offset = 0;
+          number = n;
+          shift = k * w 0;
+          cursor = k;
+          rest = 0;
+          old = [];
+          new = labels (leaf-row ns) w 0 n;
+          fits = omega arith;
+          paths = record { trees = k; whole = omega arith; low = some; high = omega arith };
+          complete = λ zs same. path-labels w s r 0 k 0 zs ns n (omega arith) ∙ rw (path-zero s r k 0 ns);
+          as-many = omega (arith, row-long w ns n);
+          plain = λ e. record { offset-is = refl; none = refl; cursor-is = refl; rest-is = refl; shift-is = refl };
+          split = λ l. absurd (omega arith);
+        };
         before = labels (leaf-row (take p xs)) w 0 a;
-        old = [];
-        new = labels (leaf-row ns) w 0 n;
         beside = labels (leaf-row (drop p xs)) w 0 n;
         after = [];
         was = ap (λ (g : Forest). labels g w 0 a) f-row ∙ ap (λ (ys : List ℕ). labels (leaf-row ys) w 0 a) (sym (take-append-drop p xs)) ∙ left ∙ rw (front, append-nil);
         now = rw (grown-row s r ns f p good, row-labels w (take p xs) (ns ++ drop p xs) a, row-labels w ns (drop p xs), front, labels-shift (leaf-row (drop p xs)) w 0 n (k * w 0), append-nil);
         place-is = omega (arith, row-long w (take p xs) a);
-        fits = omega arith;
-        paths = record { trees = k; whole = omega arith; low = some; high = omega arith };
-        complete = λ zs same. path-labels w s r 0 k 0 zs ns n (omega arith) ∙ rw (path-zero s r k 0 ns);
-        as-many = omega (arith, row-long w ns n);
-        plain = λ e. record { offset-is = refl; none = refl; cursor-is = refl; rest-is = refl; shift-is = refl };
-        split = λ l. absurd (omega arith);
         left-is = omega (arith, left-row f p good fits .0, row-long w (take p xs) a);
         size-is = left-row f p good fits .1;
         number-is = λ l. absurd (omega arith);
@@ -146,25 +177,13 @@ module _ (s r : ℕ) (w : ℕ → ℕ) (ns : List ℕ) where
       let n-before = length-append left (d .before) in
       let e : (i : ℕ) → _ = λ i. at-right g f w (suc j) i p a n in
       record {
-        offset = d .offset;
-        number = d .number;
-        shift = d .shift;
-        cursor = d .cursor;
-        rest = d .rest;
+        piece = d .piece;
         before = left ++ d .before;
-        old = d .old;
-        new = d .new;
         beside = d .beside;
         after = d .after;
         was = ap (λ (t : List ℕ). left ++ t) (d .was) ∙ sym (append-assoc left (d .before) _);
         now = rw (grown-right g f s r (suc j) h p ns n) (ap (λ (t : List ℕ). left ++ t) (d .now) ∙ sym (append-assoc left (d .before) _));
         place-is = omega (arith, d .place-is);
-        fits = d .fits;
-        paths = d .paths;
-        complete = d .complete;
-        as-many = d .as-many;
-        plain = d .plain;
-        split = d .split;
         left-is = omega (arith, e h .1, d .left-is);
         size-is = e h .2 ∙ d .size-is;
         number-is = λ l. e h .0 ∙ d .number-is l;
@@ -176,7 +195,7 @@ module _ (s r : ℕ) (w : ℕ → ℕ) (ns : List ℕ) where
 
   -- a node that grows
   grown-flat-here : (g f : Forest) (h p a : ℕ) → 2 ≤ s → 2 ≤ r → p ≤ size g → size g < s * r ^ suc h → s * r ^ suc h ≤ size g + length ns → Grown-flat s r w (node g f) (suc h) (suc h) p a ns
-  unfolding labels grown-node
+  unfolding labels grown-node grown-piece
   grown-flat-here g f h p a s-least r-least fits room limit =
       let k = length ns in
       let row = insert-at p ns (leaves g) in
@@ -184,7 +203,6 @@ module _ (s r : ℕ) (w : ℕ → ℕ) (ns : List ℕ) where
       let t = in-node s r (suc h) (size g) k in
       let v = w (suc h) in
       let many : length row ≡ size g + k = length-insert p ns (leaves g) ∙ omega arith in
-      let own : Path-fits r (suc h) (p + t) (k - t) (length row) = rw many (c .fits) in
       let e = at-here g f w (suc h) (suc h) p a fits refl in
       let m = c .fits .trees in
       let trees-are : trees (path s r (suc h) (p + t) (k - t) row) ≡ m = same-trees row many c.fits in
@@ -192,25 +210,13 @@ module _ (s r : ℕ) (w : ℕ → ℕ) (ns : List ℕ) where
       let end : a + m * v ≡ a + v + (m - 1) * v = omega (arith, ap (λ (i : ℕ). i * v) m′, suc-mul (m - 1) v) in
       let old-long = length-labels g w h a in
       record {
-        offset = p;
-        number = a;
-        shift = (m - 1) * v;
-        cursor = p + t;
-        rest = k - t;
+        piece = grown-piece w (suc h) p a ns (leaves g) (labels g w h a) s-least r-least (omega arith) old-long fits room limit;
         before = [];
-        old = labels g w h a;
-        new = labels (path s r (suc h) (p + t) (k - t) row) w (suc h) a;
         beside = labels f w (suc h) (a + v);
         after = [];
         was = rw append-nil;
         now = rw (grown-here g f s r (suc h) (suc h) p ns fits refl, labels-joined (path s r (suc h) (p + t) (k - t) row) f w (suc h) a, trees-are, end, labels-shift f w (suc h) (a + v) ((m - 1) * v), append-nil);
         place-is = omega arith;
-        fits = omega arith;
-        paths = rw old-long (c .fits);
-        complete = λ zs same. path-labels w s r (suc h) (p + t) (k - t) zs row a (omega arith);
-        as-many = length-labels (path s r (suc h) (p + t) (k - t) row) w (suc h) a ∙ ap length (leaves-path s r (suc h) (p + t) (k - t) row r-least own) ∙ omega arith;
-        plain = λ i. absurd (omega arith);
-        split = λ l. rw old-long (record { cursor-is = refl; rest-is = refl; shift-is = rw (c .trees-are) });
         left-is = e .1;
         size-is = e .2 ∙ sym old-long;
         number-is = λ l. e .0;
@@ -232,25 +238,13 @@ module _ (s r : ℕ) (w : ℕ → ℕ) (ns : List ℕ) where
       let lower : suc j ≡ h → ⊥ = λ i. omega arith in
       let e = at-inside g f w (suc j) h p a fits lower in
       record {
-        offset = d .offset;
-        number = d .number;
-        shift = d .shift;
-        cursor = d .cursor;
-        rest = d .rest;
+        piece = d .piece;
         before = d .before;
-        old = d .old;
-        new = d .new;
         beside = d .beside;
         after = d .after ++ right;
         was = ap (λ (t : List ℕ). t ++ right) (d .was) ∙ simp append-assoc;
         now = rw (grown-inside g f s r (suc j) h p ns fits lower) (ap (λ (t : List ℕ). t ++ right) (d .now) ∙ simp append-assoc);
         place-is = d .place-is;
-        fits = d .fits;
-        paths = d .paths;
-        complete = d .complete;
-        as-many = d .as-many;
-        plain = d .plain;
-        split = d .split;
         left-is = e .1 ∙ d .left-is;
         size-is = e .2 ∙ d .size-is;
         number-is = λ l. e .0 ∙ d .number-is l;
@@ -260,13 +254,13 @@ module _ (s r : ℕ) (w : ℕ → ℕ) (ns : List ℕ) where
         outer = λ i. absurd (omega arith);
       }
     where
-      here : j ≡ h → left-in (node g f) (suc j) (suc h) p + size-in (node g f) (suc j) (suc h) p ≡ length (d .before) + (length (d .old) + length (d .beside))
+      here : j ≡ h → left-in (node g f) (suc j) (suc h) p + size-in (node g f) (suc j) (suc h) p ≡ length (d .before) + (length (d .piece .old) + length (d .beside))
       here i =
           let e = at-here g f w (suc j) (suc h) p a fits (ap suc i) in
           let n = simp (length-append, d .outer (sym i), append-nil) at (ap length (d .was)) in
           omega (arith, e .1, e .2, n, length-labels g w j a)
 
-      inside : (j ≡ h → ⊥) → left-in (node g f) (suc j) (suc h) p + size-in (node g f) (suc j) (suc h) p ≡ length (d .before) + (length (d .old) + length (d .beside))
+      inside : (j ≡ h → ⊥) → left-in (node g f) (suc j) (suc h) p + size-in (node g f) (suc j) (suc h) p ≡ length (d .before) + (length (d .piece .old) + length (d .beside))
       inside n =
           let e = at-inside g f w (suc j) (suc h) p a fits (λ i. n (omega arith)) in
           omega (arith, e .1, e .2, d .parent (omega arith))

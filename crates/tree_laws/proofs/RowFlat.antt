@@ -15,54 +15,39 @@ use Rattle.tree.specs.Forest.{nil, size, labels}
 use Rattle.tree.specs.Book.{Book, height, tags, labels-of}
 use Rattle.tree.specs.Reach.{left-in, size-in}
 use Rattle.tree.specs.Promise.{Widths, Sane}
-use Rattle.tree.specs.Grown.{path, Path-fits, in-node, grown-node, full-height, grown-in, grown-height, grown-split, grown}
-use Rattle.tree_laws.proofs.Rows.{length-insert, insert-left, insert-right}
+use Rattle.tree.specs.Grown.{grown-node, full-height, grown-in, grown-height, grown-split, grown}
+use Rattle.tree_laws.proofs.Rows.{insert-left, insert-right}
 use Rattle.tree_laws.proofs.Insertion.{rooted, empty-low}
 use Rattle.tree_laws.proofs.Labels.{length-labels}
 use Rattle.tree_laws.proofs.Ancestors.{node-number}
 use Rattle.tree_laws.proofs.Root.{whole, labels-whole}
 use Rattle.tree_laws.proofs.Border.{Cut, cut-whole}
-use Rattle.tree_laws.proofs.PathLaws.{leaves-path, path-labels, node-fits}
 use Rattle.tree_laws.proofs.Full.{full-at-most, grown-inside, split-root, split-inner, grown-root, grown-inner}
 use Rattle.tree_laws.proofs.RowHeight.{limits-grow, search-least}
-use Rattle.tree_laws.proofs.GrownFlat.{Plain-piece, Split-piece, grown-flat, grown-flat-inside}
+use Rattle.tree_laws.proofs.GrownFlat.{Piece, grown-piece, grown-flat, grown-flat-inside}
 
--- THE FLAT VIEW: what stands before the piece and what stands behind the border keep their labels, what stands between is
--- shifted, and the piece is numbered as trees of a height of which only the cursor's is not complete
+-- THE FLAT VIEW: what stands before the piece and what stands behind the border keep their labels, what stands between is shifted
 pub record Row-flat (w : ℕ → ℕ) (p : ℕ) (ns : List ℕ) (b : Book) : Type 0 where
   pub height : ℕ
-  pub offset : ℕ
-  pub number : ℕ
-  pub shift : ℕ
-  pub cursor : ℕ
-  pub rest : ℕ
+  pub piece : Piece (b .s) (b .r) w height (length ns)
   pub before : List ℕ
-  pub old : List ℕ
-  pub new : List ℕ
   pub beside : List ℕ
   pub after : List ℕ
   pub height-is : grown-split (length ns) p b ≡ height
-  pub was : labels-of w b ≡ before ++ (old ++ (beside ++ after))
-  pub now : labels-of w (grown p ns b) ≡ before ++ (new ++ (map (λ l. l + shift) beside ++ after))
-  pub place-is : p ≡ length before + offset
-  pub fits : offset ≤ length old
-  pub paths : Path-fits (b .r) height cursor rest (length old + length ns)
-  pub complete : (zs : List ℕ) → length zs ≡ length old + length ns → labels (path (b .s) (b .r) height cursor rest zs) w height number ≡ new
-  pub as-many : length new ≡ length old + length ns
-  -- the new tags alone where no node is split, else the leaves of the node with the new tags
-  pub plain : height ≡ 0 → Plain-piece w offset (length old) (length ns) cursor rest shift
-  pub split : 1 ≤ height → Split-piece (b .s) (b .r) w height offset (length old) (length ns) cursor rest shift
+  pub was : labels-of w b ≡ before ++ (piece .old ++ (beside ++ after))
+  pub now : labels-of w (grown p ns b) ≡ before ++ (piece .new ++ (map (λ l. l + piece .shift) beside ++ after))
+  pub place-is : p ≡ length before + piece .offset
   -- THE ROOT is split where its height grows; then all tags are numbered anew
   pub grows : ltb (suc (b .under)) (grown-height (length ns) b) ≡ ltb (b .under) height
-  pub root : b .under < height → (number ≡ 0) × (before ≡ []) × (beside ≡ []) × (after ≡ [])
+  pub root : b .under < height → (piece .number ≡ 0) × (before ≡ []) × (beside ≡ []) × (after ≡ [])
   -- BELOW THE ROOT: the split node, and the end of its parent
   pub left-is : height ≤ b .under → left-in (whole b) (suc (b .under)) height p ≡ length before
-  pub size-is : height ≤ b .under → size-in (whole b) (suc (b .under)) height p ≡ length old
-  pub number-is : height ≤ b .under → 1 ≤ height → node-number (whole b) w (suc (b .under)) height p 0 ≡ number
-  pub parent : height ≤ b .under → left-in (whole b) (suc (b .under)) (suc height) p + size-in (whole b) (suc (b .under)) (suc height) p ≡ length before + (length old + length beside)
+  pub size-is : height ≤ b .under → size-in (whole b) (suc (b .under)) height p ≡ length (piece .old)
+  pub number-is : height ≤ b .under → 1 ≤ height → node-number (whole b) w (suc (b .under)) height p 0 ≡ piece .number
+  pub parent : height ≤ b .under → left-in (whole b) (suc (b .under)) (suc height) p + size-in (whole b) (suc (b .under)) (suc height) p ≡ length before + (length (piece .old) + length beside)
   -- NO SPLIT: the first new label
-  pub front : p ≡ 0 → number ≡ 0
-  pub next : height ≡ 0 → (q : ℕ) → p ≡ suc q → number ≡ getD (labels-of w b) q 0 + w 0
+  pub front : p ≡ 0 → piece .number ≡ 0
+  pub next : height ≡ 0 → (q : ℕ) → p ≡ suc q → piece .number ≡ getD (labels-of w b) q 0 + w 0
 
 module _ (w : ℕ → ℕ) (p : ℕ) (ns : List ℕ) (b : Book) where
   abbrev top : ℕ
@@ -80,7 +65,7 @@ module _ (w : ℕ → ℕ) (p : ℕ) (ns : List ℕ) (b : Book) where
   module _ (sane : Sane b) (fits : p ≤ size (b .root)) (some : 1 ≤ length ns) where
     -- THE ROOT, which is split for the last time one below its new height
     at-root : ltb (height b) top ≡ true → Row-flat w p ns b
-    unfolding grown-node
+    unfolding grown-node grown-piece
     at-root t =
         let h = pred top in
         let higher = ltb-true (height b) top t in
@@ -89,35 +74,18 @@ module _ (w : ℕ → ℕ) (p : ℕ) (ns : List ℕ) (b : Book) where
         let l = size (b .root) in
         let room : l < b .s * b .r ^ h = omega (arith, own .high, limits-grow (b .s) (b .r) (height b) h (sane .r-least) (omega arith)) in
         let least = search-least k (b .s) (b .r) (l + k) (height b) (sane .s-least) (sane .r-least) (omega (arith, own .high)) in
-        let c = node-fits (b .s) (b .r) h p l k (sane .s-least) (sane .r-least) fits room (least .least higher) in
-        let n = in-node (b .s) (b .r) h l k in
-        let row = insert-at p ns (tags b) in
-        let many : length row ≡ l + k = length-insert p ns (tags b) ∙ omega arith in
-        let all : Path-fits (b .r) h (p + n) (k - n) (length row) = rw many (c .fits) in
         let old-long = length-labels (b .root) w (b .under) 0 in
         let above : b .under < h = omega arith in
         record {
           height = h;
-          offset = p;
-          number = 0;
-          shift = (c .fits .trees - 1) * w h;
-          cursor = p + n;
-          rest = k - n;
+          piece = grown-piece w h p 0 ns (tags b) (labels-of w b) (sane .s-least) (sane .r-least) (omega arith) old-long fits room (least .least higher);
           before = [];
-          old = labels-of w b;
-          new = labels (path (b .s) (b .r) h (p + n) (k - n) row) w h 0;
           beside = [];
           after = [];
           height-is = split-root (length ns) p b t;
           was = rw append-nil;
           now = labels-root t ∙ rw append-nil;
           place-is = omega arith;
-          fits = omega arith;
-          paths = rw old-long (c .fits);
-          complete = λ zs same. path-labels w (b .s) (b .r) h (p + n) (k - n) zs row 0 (omega arith);
-          as-many = length-labels (path (b .s) (b .r) h (p + n) (k - n) row) w h 0 ∙ ap length (leaves-path (b .s) (b .r) h (p + n) (k - n) row (sane .r-least) all) ∙ omega arith;
-          plain = λ e. absurd (omega arith);
-          split = λ i. rw old-long (record { cursor-is = refl; rest-is = refl; shift-is = rw (c .trees-are) });
           grows = t ∙ sym (lt-ltb (b .under) h above);
           root = λ i. (refl, refl, refl, refl);
           left-is = λ i. absurd (omega arith);
@@ -141,26 +109,14 @@ module _ (w : ℕ → ℕ) (p : ℕ) (ns : List ℕ) (b : Book) where
         let labelled : labels-of w (grown p ns b) ≡ labels (grown-in (whole b) (b .s) (b .r) (height b) inner p ns) w (height b) 0 = rw (labels-inner t, wrapped, append-nil) in
         record {
           height = inner;
-          offset = d .offset;
-          number = d .number;
-          shift = d .shift;
-          cursor = d .cursor;
-          rest = d .rest;
+          piece = d .piece;
           before = d .before;
-          old = d .old;
-          new = d .new;
           beside = d .beside;
           after = d .after;
           height-is = split-inner (length ns) p b t;
           was = labels-whole w b ∙ d .was;
           now = labelled ∙ d .now;
           place-is = d .place-is;
-          fits = d .fits;
-          paths = d .paths;
-          complete = d .complete;
-          as-many = d .as-many;
-          plain = d .plain;
-          split = d .split;
           grows = t ∙ sym (le-ltb (b .under) inner low);
           root = λ i. absurd (omega arith);
           left-is = λ i. d .left-is;
@@ -177,30 +133,30 @@ module _ (w : ℕ → ℕ) (p : ℕ) (ns : List ℕ) (b : Book) where
 
 -- how many labels there are
 pub row-parts : {w : ℕ → ℕ} {p : ℕ} {ns : List ℕ} {b : Book} (d : Row-flat w p ns b) →
-    length (d .before) + (length (d .old) + (length (d .beside) + length (d .after))) ≡ size (b .root)
+    length (d .before) + (length (d .piece .old) + (length (d .beside) + length (d .after))) ≡ size (b .root)
 row-parts {w} {b = b} d = omega (arith, simp length-append at (ap length (d .was)), length-labels (b .root) w (b .under) 0)
 
 -- something put in at the place of the new tags stands in the piece
 pub row-with : {w : ℕ → ℕ} {p : ℕ} {ns : List ℕ} {b : Book} (d : Row-flat w p ns b) (ms : List ℕ) →
-    insert-at p ms (labels-of w b) ≡ d .before ++ (insert-at (d .offset) ms (d .old) ++ (d .beside ++ d .after))
+    insert-at p ms (labels-of w b) ≡ d .before ++ (insert-at (d .piece .offset) ms (d .piece .old) ++ (d .beside ++ d .after))
 row-with {p = p} d ms =
-    let inside : p - length (d .before) ≡ d .offset = omega (arith, d .place-is) in
+    let inside : p - length (d .before) ≡ d .piece .offset = omega (arith, d .place-is) in
     rw (
       d .was,
-      insert-right p ms (d .before) (d .old ++ (d .beside ++ d .after)) (omega (arith, d .place-is)),
+      insert-right p ms (d .before) (d .piece .old ++ (d .beside ++ d .after)) (omega (arith, d .place-is)),
       inside,
-      insert-left (d .offset) ms (d .old) (d .beside ++ d .after) (d .fits),
+      insert-left (d .piece .offset) ms (d .piece .old) (d .beside ++ d .after) (d .piece .fits),
     )
 
 -- WHAT IS SHIFTED is shifted by less than a bound of the labels afterwards
 pub row-shift : {w : ℕ → ℕ} {p : ℕ} {ns : List ℕ} {b : Book} (d : Row-flat w p ns b) (bound : ℕ) →
-    ((i : ℕ) → i < length (labels-of w (grown p ns b)) → getD (labels-of w (grown p ns b)) i 0 < bound) → 1 ≤ length (d .beside) → d .shift < bound
+    ((i : ℕ) → i < length (labels-of w (grown p ns b)) → getD (labels-of w (grown p ns b)) i 0 < bound) → 1 ≤ length (d .beside) → d .piece .shift < bound
 row-shift {w} {p} {ns} {b} d bound below some =
-    let at = length (d .before) + (length (d .new) + 0) in
-    let raised = map (λ l. l + d .shift) (d .beside) in
+    let at = length (d .before) + (length (d .piece .new) + 0) in
+    let raised = map (λ l. l + d .piece .shift) (d .beside) in
     let many = simp (length-append, length-map) at (ap length (d .now)) in
-    let here : getD (labels-of w (grown p ns b)) at 0 ≡ getD (d .beside) 0 0 + d .shift =
-    rw (d .now, getD-append-add (d .before), getD-append-add (d .new)) (List·getD-append raised (d .after) 0 0 (rw length-map some) ∙ first-raised (d .shift) (d .beside) some) in
+    let here : getD (labels-of w (grown p ns b)) at 0 ≡ getD (d .beside) 0 0 + d .piece .shift =
+    rw (d .now, getD-append-add (d .before), getD-append-add (d .piece .new)) (List·getD-append raised (d .after) 0 0 (rw length-map some) ∙ first-raised (d .piece .shift) (d .beside) some) in
     omega (arith, rw here at (below at (omega arith)))
   where
     first-raised : (a : ℕ) (ls : List ℕ) → 1 ≤ length ls → getD (map (λ l. l + a) ls) 0 0 ≡ getD ls 0 0 + a
@@ -224,7 +180,7 @@ row-lower {b = b} d =
 -- THE BORDER in labels, below the root: what stands before it is below the end of the parent's width, what stands behind it from
 -- there on
 pub row-cut : {w : ℕ → ℕ} {p : ℕ} {ns : List ℕ} {b : Book} → Widths (b .s) (b .r) w → Sane b → p ≤ size (b .root) → (d : Row-flat w p ns b) → d .height ≤ b .under →
-    Cut 0 (node-number (whole b) w (height b) (suc (d .height)) p 0 + w (suc (d .height))) (w (height b)) (d .before ++ (d .old ++ d .beside)) (d .after)
+    Cut 0 (node-number (whole b) w (height b) (suc (d .height)) p 0 + w (suc (d .height))) (w (height b)) (d .before ++ (d .piece .old ++ d .beside)) (d .after)
 row-cut {w} {p} {b = b} widths sane fits d low =
-    cut-whole p widths sane fits (d .before ++ (d .old ++ d .beside)) (d .after) (d .was ∙ simp append-assoc) (d .height) (omega arith)
+    cut-whole p widths sane fits (d .before ++ (d .piece .old ++ d .beside)) (d .after) (d .was ∙ simp append-assoc) (d .height) (omega arith)
     (simp length-append (omega (arith, d .parent low)))

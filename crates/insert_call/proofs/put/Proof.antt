@@ -4,7 +4,6 @@ use mathlib.Core.Path.{refl}
 use native.Mathlib.Omega.{arith}
 use Rattle.words.proofs.Fields.{header-long}
 use Rattle.insert_plan.specs.Parts.{plan-record}
-use Rattle.insert_call.specs.Parts.{row-put}
 use Rattle.insert_call.proofs.Edits.{put-applies, put-done}
 use Rattle.insert_call.proofs.put.Statement.{statement}
 use Rattle.insert_call.proofs.put.Tie as tie

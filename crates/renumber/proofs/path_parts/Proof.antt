@@ -1,11 +1,10 @@
 -- `renumber::path_parts` meets its contract. Assumes nothing.
 use borrow.Author.Needs.{needs}
 use mathlib.Core.Path.{_≡_, refl}
-use Prim.Native.Nat.{pred, _-_, _^_, _≤_}
+use Prim.Native.Nat.{pred, _-_, _≤_}
 use native.Mathlib.Numerals.{sub-one}
 use native.Mathlib.Omega.{arith}
 use Rattle.shape.specs.Packed.{s-in, r-in}
-use Rattle.renumber.specs.Needs.{Splits-fit}
 use Rattle.renumber.proofs.Paths.{Cut-up, cut-up, splits-lower}
 use Rattle.renumber.proofs.path_parts.Statement.{statement}
 use Rattle.renumber.proofs.path_parts.Tie as tie
