@@ -5,7 +5,7 @@ use bench::books::{SHEETS, Sheet};
 use bench::calls::{Bench, Case, SHAPES, SIZES, Times};
 use bench::report::{Section, calls, files, filled, targets};
 use bench::table::thousands;
-use bench::{bits, branches, insert_sheets, moved, others, picture, plot, small, store, xml};
+use bench::{bits, branches, insert_sheets, moved, others, picture, plot, rights, small, store, xml};
 use std::path::{Path, PathBuf};
 use std::process::ExitCode;
 
@@ -73,13 +73,15 @@ fn main() -> ExitCode {
     let (times, note) = times();
     eprintln!("inserting sheets");
     let whole = insert_sheets::times(201);
+    eprintln!("acting for parties");
+    let parties = rights::times(201);
     eprintln!("holding on small books");
     let small = small::times(1_001);
     eprintln!("reading sheets");
     let speeds = xml::speeds(201);
     eprintln!("counting moved tags");
     let (moved, bits) = (moved::all(), bits::all());
-    let mut reached = targets(&times, &whole, &speeds);
+    let mut reached = targets(&times, &whole, &parties, &speeds);
     if !store::LINKED {
         reached.insert_str(0, "The verified store is not linked: the plain version stands in for it.\n\n");
     }
@@ -101,6 +103,7 @@ fn main() -> ExitCode {
             body: calls(&times, |it, i| it.plain[i] / it.bare),
         },
         Section { name: "inserted-sheets", title: "Whole sheets by one call", body: insert_sheets::table(&whole) },
+        Section { name: "rights", title: "Calls of parties", body: rights::table(&parties) },
         Section { name: "files", title: "Files", body: files(&times) },
         Section { name: "small", title: "Small books", body: small::tables(&small) },
         Section { name: "sheets", title: "Sheets", body: xml::table(&speeds) },

@@ -5,12 +5,13 @@ mod file;
 mod insert;
 mod load;
 mod read;
+mod rights;
 mod shape;
 mod sound;
 mod spread;
 mod xml;
 
-use crate::store::{Reader, Store};
+use crate::store::{Asked, Reader, Store};
 pub use file::bytes_for;
 
 pub struct Plain;
@@ -50,6 +51,10 @@ impl Store for Plain {
 
     fn read_file(bytes: &[u8], words: &mut [u32]) -> [u32; 3] {
         file::read(bytes, words)
+    }
+
+    fn party(asked: &Asked, words: &mut [u32]) -> [u32; 5] {
+        rights::party(asked, words)
     }
 }
 

@@ -3,13 +3,15 @@
 use crate::books::{SHEETS, Sheet};
 use crate::calls::{CALLS, Call, Times};
 use crate::insert_sheets::{self, Whole};
+use crate::rights::{self, Rights};
 use crate::table::{table, thousands};
 use crate::xml::Speed;
 
 /// The most that a verified reading of a sheet, or a reading or writing of a file, may take in plain ones.
 const MOST: f64 = 1.3;
 
-/// The most that a verified insertion of a sheet may take in plain ones, and one of a text or an element in walks.
+/// The most that a verified insertion of a sheet may take in plain ones, and one of a text or an element, by a party too, in
+/// walks.
 const MOST_INSERTED: f64 = 1.2;
 
 /// A generated piece of the document, which stands there between `<!-- bench:NAME -->` and `<!-- end -->`.
@@ -79,7 +81,7 @@ fn place(call: Call) -> usize {
 }
 
 /// What is to be reached, beside what this run gives.
-pub fn targets(all: &[Times], whole: &[Whole], speeds: &[Speed]) -> String {
+pub fn targets(all: &[Times], whole: &[Whole], parties: &[Rights], speeds: &[Speed]) -> String {
     let mut rows = Vec::new();
     let mut row = |what: String, figure: f64, most: f64| {
         // As precise as it is shown.
@@ -105,6 +107,10 @@ pub fn targets(all: &[Times], whole: &[Whole], speeds: &[Speed]) -> String {
         let (tags, book) = (thousands(it.tags), thousands(insert_sheets::TAGS));
         let what = format!("sheet of {tags} tags into {book}, ({}, {}): verified / plain", it.s, it.r);
         row(what, it.verified / it.plain, MOST_INSERTED);
+    }
+    for it in parties.iter().filter(|it| it.grants == 1) {
+        let what = format!("a party's insertion into {}, ({}, {}), one grant", thousands(rights::TAGS), it.s, it.r);
+        row(format!("{what}: insertion / walk"), it.insert / it.walk, MOST_INSERTED);
     }
     for (call, name, most) in [(Call::Write, "write", 2.0), (Call::Read, "read", 3.0)] {
         for it in just_loaded() {

@@ -1,5 +1,17 @@
-//! What is measured: anything that makes the seven calls on a store over lent slices and keeps books as files, and anything
-//! that reads sheets.
+//! What is measured: anything that makes the seven calls on a store over lent slices, keeps books as files and acts for parties,
+//! and anything that reads sheets.
+
+/// What a party brings: a held pair (book, tag, start and end label), a tag, a right, a kind, and the grants, all live, each a
+/// party, a section and rights.
+#[derive(Clone, Copy)]
+pub struct Asked<'a> {
+    pub party: u32,
+    pub pair: [u32; 4],
+    pub d: u32,
+    pub right: u32,
+    pub kind: u8,
+    pub grants: &'a [[u32; 3]],
+}
 
 /// A reply is a row of words: the refusal's number or 0, then the fields in document 01's order.
 pub trait Store {
@@ -13,6 +25,8 @@ pub trait Store {
     fn list(begin: u32, words: &[u32], tags: &mut [u32], labels: &mut [u32]) -> [u32; 2];
     fn write_file(words: &[u32], bytes: &mut [u8]) -> [u32; 2];
     fn read_file(bytes: &[u8], words: &mut [u32]) -> [u32; 3];
+    /// Answers: 1 yes, 2 stale, 3 inserted, and then the insertion's three.
+    fn party(asked: &Asked, words: &mut [u32]) -> [u32; 5];
 }
 
 pub trait Reader {

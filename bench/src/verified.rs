@@ -1,12 +1,12 @@
 //! The verified store through its C interface.
 
-use crate::store::{Reader, Store};
+use crate::store::{Asked, Reader, Store};
 use vekhturop_sys::{vk_hold, vk_insert, vk_insert_sheet, vk_list, vk_load, vk_mark, vk_question};
-use vekhturop_sys::{vk_read_file, vk_write_file, vk_xml_kinds};
+use vekhturop_sys::{vk_party_call, vk_read_file, vk_write_file, vk_xml_kinds};
 
 pub struct Verified;
 
-// SAFETY, for all ten: every pointer and length is that of a slice lent for the call.
+// SAFETY, for all eleven: every pointer and length is that of a slice lent for the call.
 impl Store for Verified {
     fn load(s: u32, r: u32, book: u32, kinds: &[u8], words: &mut [u32]) -> [u32; 3] {
         unsafe { vk_load(s, r, book, kinds.as_ptr(), kinds.len(), words.as_mut_ptr(), words.len()) }.into()
@@ -44,6 +44,14 @@ impl Store for Verified {
 
     fn read_file(bytes: &[u8], words: &mut [u32]) -> [u32; 3] {
         unsafe { vk_read_file(bytes.as_ptr(), bytes.len(), words.as_mut_ptr(), words.len()) }.into()
+    }
+
+    fn party(asked: &Asked, words: &mut [u32]) -> [u32; 5] {
+        let &Asked { party, pair: [book, tag, start, end], d, right, kind, grants } = asked;
+        // A grant's record is three words.
+        let (list, len) = (grants.as_ptr().cast(), grants.len());
+        let (words, words_len) = (words.as_mut_ptr(), words.len());
+        unsafe { vk_party_call(party, book, tag, start, end, d, right, kind, list, len, len, words, words_len) }.into()
     }
 }
 

@@ -6,7 +6,7 @@ use bench::plain::Plain;
 use bench::report::{Section, files, filled, targets};
 use bench::store::Store;
 use bench::words::*;
-use bench::{bits, books, insert_sheets, moved, small, xml};
+use bench::{bits, books, insert_sheets, moved, rights, small, xml};
 use draw::Rng;
 
 fn listed(words: &[u32], n: usize) -> (Vec<u32>, Vec<u32>) {
@@ -62,7 +62,7 @@ fn files_are_judged() {
     let all = [case(300, false), case(20_000, false), case(20_000, true)].map(|case| timed(case, 3));
     assert_eq!(files(&all).lines().count(), 2 + all.len());
     let judged: Vec<String> =
-        targets(&all, &[], &[]).lines().filter(|row| row.contains(" file")).map(String::from).collect();
+        targets(&all, &[], &[], &[]).lines().filter(|row| row.contains(" file")).map(String::from).collect();
     assert_eq!(judged.len(), 4, "{judged:?}");
     for (row, (what, most)) in judged.iter().zip([
         ("write file / walk ", "2.0"),
@@ -97,7 +97,7 @@ fn sheets_are_timed() {
     assert!(speeds.iter().all(|it| it.verified > 0.0 && it.plain > 0.0));
     assert_eq!(speeds.iter().map(|it| it.judged).collect::<Vec<_>>(), [true, true, true, false]);
     assert_eq!(xml::table(&speeds).lines().count(), 2 + speeds.len());
-    assert_eq!(targets(&[], &[], &speeds).lines().count(), 2 + 3);
+    assert_eq!(targets(&[], &[], &[], &speeds).lines().count(), 2 + 3);
 }
 
 /// Every sheet is accepted and both subjects reply alike, which `times` asserts; each is judged, and has a row of the table.
@@ -109,9 +109,23 @@ fn sheets_that_go_in_are_timed() {
     // Each of as many insertions walks over the book.
     assert!(all.iter().all(|it| it.single > 10.0 * it.walk));
     assert_eq!(insert_sheets::table(&all).lines().count(), 2 + 9);
-    let judged = targets(&[], &all, &[]);
+    let judged = targets(&[], &all, &[], &[]);
     let row = "sheet of 10,000 tags into 20,000, (16, 16): verified / plain";
     assert_eq!((judged.lines().count(), judged.contains(row)), (2 + 9, true), "{judged}");
+}
+
+/// Every call is allowed and the plain version replies alike, which `times` asserts; with one grant each is judged.
+#[test]
+fn calls_of_parties_are_timed() {
+    let all = rights::times(1);
+    assert_eq!(all.len(), 9);
+    assert!(all.iter().all(|it| it.walk > 0.0
+        && it.question > 0.0
+        && it.read > 0.0
+        && it.text > 0.0
+        && it.insert > 0.0));
+    assert_eq!(rights::table(&all).lines().count(), 2 + 9);
+    assert_eq!(targets(&[], &[], &all, &[]).lines().count(), 2 + 3);
 }
 
 /// Every hold is accepted, which `times` asserts, and a table has a row for each pair of s and r.

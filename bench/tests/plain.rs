@@ -20,7 +20,7 @@ fn reply<const N: usize>(words: [u32; N]) -> Reply {
 
 impl Subject for PlainSubject {
     fn call(&self, call: &Call, lent: Lent) -> Reply {
-        let Lent { given, words, tags, labels, bytes } = lent;
+        let Lent { given, words, tags, labels, bytes, .. } = lent;
         match *call {
             Call::Load { s, r, book, .. } => reply(Plain::load(s, r, book, given, words)),
             Call::Insert { kind, place } => reply(Plain::insert(kind, place, words)),
@@ -31,6 +31,7 @@ impl Subject for PlainSubject {
             Call::List { begin, .. } => reply(Plain::list(begin, words, tags, labels)),
             Call::Write { .. } => reply(Plain::write_file(words, bytes)),
             Call::Read { .. } => reply(Plain::read_file(given, words)),
+            _ => unreachable!("the plain version keeps no grants"),
         }
     }
 }

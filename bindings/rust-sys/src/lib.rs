@@ -106,6 +106,52 @@ pub struct Kinds {
     pub count: usize,
 }
 
+/// `vk_grant`: a record of the lent list of grants. It may hold any words.
+#[repr(C)]
+#[derive(Clone, Copy, PartialEq, Eq, Hash, Debug, Default)]
+pub struct Grant {
+    /// The party, 1 to 65,535.
+    pub party: u32,
+    /// The number of the section's begin tag.
+    pub section: u32,
+    /// 1 read, 2 write, 4 insert, added up.
+    pub rights: u32,
+}
+
+/// `vk_granted`. Where the refusal is not 0, the count is 0.
+#[repr(C)]
+#[derive(Clone, Copy, PartialEq, Eq, Debug)]
+pub struct Granted {
+    /// The number of the refusal, 0 where the call is accepted.
+    pub refusal: u32,
+    /// The new count.
+    pub count: usize,
+}
+
+/// `vk_revoked`. Where the refusal is not 0, the number is 0.
+#[repr(C)]
+#[derive(Clone, Copy, PartialEq, Eq, Debug)]
+pub struct Revoked {
+    /// The number of the refusal, 0 where the call is accepted.
+    pub refusal: u32,
+    /// How many grants were taken out.
+    pub revoked: usize,
+}
+
+reply!(
+    /// `vk_party`.
+    Party {
+        /// 1 yes, 2 stale, 3 inserted.
+        answer,
+        /// These three as in [`Inserted`], 0 where nothing was inserted.
+        first,
+        /// How many unmarked tags that were there before have another label now.
+        moved,
+        /// The height of the node that was split, 0 where none was.
+        split
+    } 5
+);
+
 extern "C" {
     pub fn vk_load(
         s: u32,
@@ -146,5 +192,54 @@ extern "C" {
     ) -> Listed;
     pub fn vk_write_file(words: *const u32, words_len: usize, bytes: *mut u8, bytes_len: usize) -> Written;
     pub fn vk_read_file(bytes: *const u8, bytes_len: usize, words: *mut u32, words_len: usize) -> Loaded;
+    pub fn vk_load_with_grants(
+        s: u32,
+        r: u32,
+        book: u32,
+        kinds: *const u8,
+        kinds_len: usize,
+        words: *mut u32,
+        words_len: usize,
+        count: *mut usize,
+    ) -> Loaded;
+    pub fn vk_read_file_with_grants(
+        bytes: *const u8,
+        bytes_len: usize,
+        words: *mut u32,
+        words_len: usize,
+        count: *mut usize,
+    ) -> Loaded;
+    pub fn vk_grant_add(
+        party: u32,
+        section: u32,
+        rights: u32,
+        grants: *mut Grant,
+        grants_len: usize,
+        count: *mut usize,
+        words: *const u32,
+        words_len: usize,
+    ) -> Granted;
+    pub fn vk_grant_revoke(
+        party: u32,
+        section: u32,
+        grants: *mut Grant,
+        grants_len: usize,
+        count: *mut usize,
+    ) -> Revoked;
+    pub fn vk_party_call(
+        party: u32,
+        book: u32,
+        tag: u32,
+        start: u32,
+        end: u32,
+        d: u32,
+        right: u32,
+        kind: u8,
+        grants: *const Grant,
+        grants_len: usize,
+        count: usize,
+        words: *mut u32,
+        words_len: usize,
+    ) -> Party;
     pub fn vk_xml_kinds(text: *const u8, text_len: usize, kinds: *mut u8, kinds_len: usize) -> Kinds;
 }

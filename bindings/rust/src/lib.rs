@@ -24,15 +24,18 @@
 //! ```
 //!
 //! [`Store::write_to`] keeps a book as the bytes of a file, and [`Store::read_from`] brings it back. [`kinds_of_xml`] reads
-//! a sheet of XML as the kinds that a book is loaded from, or that [`Store::insert_sheet`] puts into one.
+//! a sheet of XML as the kinds that a book is loaded from, or that [`Store::insert_sheet`] puts into one. [`Grants`] keeps
+//! what parties may do on which sections, and acts for them.
 
 #![warn(missing_docs)]
 
+mod grants;
 mod refusal;
 mod sheet;
 mod store;
 mod types;
 
+pub use grants::{Access, Ask, Grant, Grants, Rights};
 pub use refusal::Refusal;
 pub use sheet::kinds_of_xml;
 pub use store::{Store, bytes_for, words_for};

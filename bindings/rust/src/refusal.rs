@@ -25,7 +25,7 @@ pub enum Refusal {
     NoSuchTag,
     /// 9: the tag is marked.
     TagMarked,
-    /// 10: an end tag where an element or a text is asked for; on question and list, also a text.
+    /// 10: an end tag where an element or a text is asked for; on question, list and a grant, also a text.
     NotASection,
     /// 11: a lent list is shorter than the count, of the tags listed or of the kinds of a sheet.
     ListTooShort,
@@ -39,12 +39,18 @@ pub enum Refusal {
     NotAFile,
     /// 16: under 44 + 34n bytes are lent for the file of n tags.
     TooFewBytes,
+    /// 17: a party outside 1 to 65,535, rights outside 1 to 7, or a count above the length of the list of grants.
+    OutOfRange,
+    /// 18: a party's call that no grant allows, or that goes outside the section.
+    NotAllowed,
+    /// 19: the list of grants is full.
+    GrantsFull,
     /// A number that this crate does not know: the library is newer.
     Other(u32),
 }
 
 /// The refusals by their numbers, from 1 on.
-const KNOWN: [Refusal; 16] = [
+const KNOWN: [Refusal; 19] = [
     Refusal::TooFewWords,
     Refusal::NotSound,
     Refusal::Degree,
@@ -61,6 +67,9 @@ const KNOWN: [Refusal; 16] = [
     Refusal::NotRead,
     Refusal::NotAFile,
     Refusal::TooFewBytes,
+    Refusal::OutOfRange,
+    Refusal::NotAllowed,
+    Refusal::GrantsFull,
 ];
 
 impl Refusal {
@@ -116,6 +125,11 @@ impl fmt::Display for Refusal {
                 "the bytes are no file: give the whole file and nothing behind it, as many bytes as writing replied"
             }
             Refusal::TooFewBytes => "too few bytes are lent: the file of n tags has bytes_for(n) of them",
+            Refusal::OutOfRange => {
+                "a party is from 1 to 65,535, rights are from 1 to 7, and no more grants are live than the list has records"
+            }
+            Refusal::NotAllowed => "no grant allows this party's call there: ask for a grant, or for another tag",
+            Refusal::GrantsFull => "the list of grants is full: lend a longer one, or revoke a grant",
             Refusal::Other(number) => {
                 return write!(
                     f,
@@ -138,7 +152,7 @@ mod tests {
         for number in 1..=40 {
             let refusal = Refusal::check(number).expect_err("it is refused");
             assert_eq!(refusal.number(), number);
-            assert_eq!(matches!(refusal, Refusal::Other(_)), number > 16, "{refusal:?}");
+            assert_eq!(matches!(refusal, Refusal::Other(_)), number > 19, "{refusal:?}");
         }
         assert_eq!(Refusal::check(9), Err(Refusal::TagMarked));
         assert_eq!(Refusal::check(u32::MAX), Err(Refusal::Other(u32::MAX)));
@@ -146,9 +160,9 @@ mod tests {
 
     #[test]
     fn every_refusal_says_something_else() {
-        let mut said: Vec<String> = (1..=17).map(|it| Refusal::check(it).expect_err("refused").to_string()).collect();
+        let mut said: Vec<String> = (1..=20).map(|it| Refusal::check(it).expect_err("refused").to_string()).collect();
         said.sort();
         said.dedup();
-        assert_eq!(said.len(), 17);
+        assert_eq!(said.len(), 20);
     }
 }

@@ -58,12 +58,17 @@ impl<'a> Store<'a> {
         // SAFETY: both pointers and lengths are those of slices, of which one is lent mutably and one is only read.
         let reply =
             unsafe { vekhturop_sys::vk_read_file(bytes.as_ptr(), bytes.len(), words.as_mut_ptr(), words.len()) };
-        Refusal::check(reply.refusal)?;
-        Ok((Store { words }, Loaded { tags: reply.tags, height: reply.height }))
+        let loaded = Loaded::of(reply)?;
+        Ok((Store { words }, loaded))
     }
 
     /// The words as they stand.
     pub fn words(&self) -> &[u32] {
+        self.words
+    }
+
+    /// The words, for a call that may write them.
+    pub(crate) fn words_mut(&mut self) -> &mut [u32] {
         self.words
     }
 
@@ -82,8 +87,7 @@ impl<'a> Store<'a> {
                 self.words.len(),
             )
         };
-        Refusal::check(reply.refusal)?;
-        Ok(Loaded { tags: reply.tags, height: reply.height })
+        Loaded::of(reply)
     }
 
     /// Inserts a text.

@@ -121,6 +121,14 @@ pub struct Loaded {
     pub height: u32,
 }
 
+impl Loaded {
+    /// Of a reply to a load, or to the reading of a file.
+    pub(crate) fn of(reply: vekhturop_sys::Loaded) -> Result<Loaded, Refusal> {
+        Refusal::check(reply.refusal)?;
+        Ok(Loaded { tags: reply.tags, height: reply.height })
+    }
+}
+
 /// The reply of an insertion.
 #[derive(Clone, Copy, PartialEq, Eq, Hash, Debug)]
 #[non_exhaustive]

@@ -1,4 +1,5 @@
--- Lists of calls: on stores by definition, and on words by replies (document 01, "The bare list"; document 02, CR 5, for sheets).
+-- Lists of calls: on stores by definition, and on words by replies (document 01, "The bare list"; document 02, CR 5, for sheets, and
+-- CR 6 for parties).
 -- Assumes nothing: these are definitions.
 use mathlib.Core.Path.{_≡_}
 use mathlib.Core.Bool.{Bool, true, false, cond}
@@ -17,12 +18,17 @@ use Rattle.store_types.specs.declared.HoldReply.{HoldReply}
 use Rattle.store_types.specs.declared.QuestionReply.{QuestionReply}
 use Rattle.store_types.specs.declared.ListReply.{ListReply}
 use Rattle.store_types.specs.declared.WriteReply.{WriteReply}
+use Rattle.store_types.specs.declared.Act.{Act}
+use Rattle.store_types.specs.declared.Grant.{Grant}
+use Rattle.store_types.specs.declared.PartyReply.{PartyReply}
+use Rattle.store_types.specs.declared.PartyReply.the-variants as party-said
 use Rattle.calls.specs.Kind.{kind-of}
 use Rattle.calls.specs.Store.{Store}
 use Rattle.calls.specs.Load.{load-refusal, load-store}
 use Rattle.calls.specs.Insert.{insert-kinds, insert-refusal, insert-store, insert-moved, insert-sheet-refusal, insert-sheet-store}
 use Rattle.calls.specs.Mark.{section-refusal, mark-store}
 use Rattle.calls.specs.Replies.{load-reply, load-words, insert-reply, insert-words, insert-sheet-reply, insert-sheet-words, mark-reply, mark-words, hold-reply, question-reply, list-reply, list-tags, list-labels, write-reply, write-bytes}
+use Rattle.calls.specs.Rights.{party-reply, party-words}
 
 -- the calls that may change a store; their arguments are words, and kinds are bytes. A sheet is a whole row of kinds at one place
 pub data Call : Type 0 where
@@ -67,7 +73,8 @@ All-fit [] = Unit {0}
 All-fit (c ∷ cs) = Fits c × All-fit cs
 
 -- ON WORDS: a call with its reply; of a list, and of writing a file, also what the lent lists and bytes held before it and hold
--- now. Hold, question, list and writing a file may come in between; they write no word of the store
+-- now; of a party's call also the grants that are lent and their count. Hold, question, list, writing a file and a party's call that
+-- inserts nothing may come in between; they write no word of the store
 pub data Event : Type 0 where
   loads : (s r number : ℕ) → (kinds : List ℕ) → LoadReply → Event
   inserts : (kind place : ℕ) → InsertReply → Event
@@ -77,6 +84,7 @@ pub data Event : Type 0 where
   asks : HeldPair → (d : ℕ) → QuestionReply → Event
   lists : (section : ℕ) → (tags labels tags-now labels-now : List ℕ) → ListReply → Event
   writes : (bytes bytes-now : List ℕ) → WriteReply → Event
+  acts : (party : ℕ) → Act → (count : ℕ) → List Grant → PartyReply → Event
 
 -- the entries' contracts: what the reply is, and what the words then hold
 unfoldable pub Happens : Event → (before after : List ℕ) → Type 0
@@ -89,6 +97,7 @@ Happens (asks p d q) ws vs = (q ≡ question-reply p d ws) × (vs ≡ ws)
 Happens (lists x ts ls us ms q) ws vs =
     (q ≡ list-reply x ws ts ls) × (us ≡ list-tags x ws ts ls) × (ms ≡ list-labels x ws ts ls) × (vs ≡ ws)
 Happens (writes bs cs q) ws vs = (q ≡ write-reply ws bs) × (cs ≡ write-bytes ws bs) × (vs ≡ ws)
+Happens (acts p a c gs q) ws vs = (q ≡ party-reply p a c gs ws) × (vs ≡ party-words p a c gs ws)
 
 -- events one after the other, from words to words
 unfoldable pub Run : (before : List ℕ) → List Event → (after : List ℕ) → Type 0
@@ -112,7 +121,7 @@ unfoldable pub mark-accepted : MarkReply → Bool
 mark-accepted (mark-said.Marked n) = true
 mark-accepted (mark-said.Refused k) = false
 
--- load, insert, the insertion of a sheet and mark of a list of events, in order
+-- load, insert, the insertion of a sheet and mark of a list of events, in order; a party's call counts where it inserted
 unfoldable pub told : List Event → List Told
 told [] = []
 told (loads s r b cs q ∷ es) = record { call = load s r b cs; accepted = load-accepted q } ∷ told es
@@ -123,22 +132,33 @@ told (holds x q ∷ es) = told es
 told (asks p d q ∷ es) = told es
 told (lists x ts ls us ms q ∷ es) = told es
 told (writes bs cs q ∷ es) = told es
+told (acts p a c gs (party-said.Inserted x m h) ∷ es) = record { call = insert (a .kind) (a .tag .0); accepted = true } ∷ told es
+told (acts p a c gs (party-said.Refused k) ∷ es) = told es
+told (acts p a c gs party-said.Yes ∷ es) = told es
+told (acts p a c gs party-said.Stale ∷ es) = told es
 
 unfoldable pub calls-of : List Event → List Call
 calls-of es = map (λ t. t .call) (told es)
 
--- T: the moved numbers that accepted insertions, of sheets too, replied since the last accepted load
-unfoldable pub total-after-load : LoadReply → (total : ℕ) → ℕ
-total-after-load (load-said.Loaded n h) t = 0
-total-after-load (load-said.Refused k) t = t
+-- what an accepted load, or file read, sets to 0: the total of moved numbers, and the count of grants
+unfoldable pub emptied-by : LoadReply → (total : ℕ) → ℕ
+emptied-by (load-said.Loaded n h) t = 0
+emptied-by (load-said.Refused k) t = t
 
+-- T: the moved numbers that accepted insertions, of sheets and by parties too, replied since the last accepted load
 unfoldable pub total-after-insert : InsertReply → (total : ℕ) → ℕ
 total-after-insert (insert-said.Inserted x m h) t = t + m
 total-after-insert (insert-said.Refused k) t = t
 
+unfoldable pub total-after-act : PartyReply → (total : ℕ) → ℕ
+total-after-act (party-said.Inserted x m h) t = t + m
+total-after-act (party-said.Refused k) t = t
+total-after-act party-said.Yes t = t
+total-after-act party-said.Stale t = t
+
 unfoldable pub total-moved : (total : ℕ) → List Event → ℕ
 total-moved t [] = t
-total-moved t (loads s r b cs q ∷ es) = total-moved (total-after-load q t) es
+total-moved t (loads s r b cs q ∷ es) = total-moved (emptied-by q t) es
 total-moved t (inserts c y q ∷ es) = total-moved (total-after-insert q t) es
 total-moved t (sheets cs y q ∷ es) = total-moved (total-after-insert q t) es
 total-moved t (marks x q ∷ es) = total-moved t es
@@ -146,6 +166,7 @@ total-moved t (holds x q ∷ es) = total-moved t es
 total-moved t (asks p d q ∷ es) = total-moved t es
 total-moved t (lists x ts ls us ms q ∷ es) = total-moved t es
 total-moved t (writes bs cs q ∷ es) = total-moved t es
+total-moved t (acts p a c gs q ∷ es) = total-moved (total-after-act q t) es
 
 -- the same by the definitions, from a store on
 unfoldable pub moved-by : Call → Store → (total : ℕ) → ℕ

@@ -10,6 +10,7 @@ pub mod Listing
 pub mod Words
 pub mod File
 pub mod Replies
+pub mod Rights
 pub mod Calls
 pub mod Reference
 pub mod Promise

@@ -85,6 +85,6 @@ read-in-range true ws = let st = read-store ws in cond (sound st && starts-with 
 unfoldable pub read : List ℕ → Option Store
 read ws = read-in-range (header-in-range ws) ws
 
--- new words over the front of old ones, of which the rest stay
-unfoldable pub in-front : (new old : List ℕ) → List ℕ
+-- new words over the front of old ones, of which the rest stay; and so of any list that is lent
+unfoldable pub in-front : {A : Type 0} → (new old : List A) → List A
 in-front new old = new ++ drop (length new) old

@@ -20,4 +20,6 @@ pub mod Files
 pub mod Replies
 pub mod FileCalls
 pub mod ListsKeep
+pub mod Grants
+pub mod Acts
 pub mod RunsKeep

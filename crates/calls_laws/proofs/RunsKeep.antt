@@ -13,6 +13,7 @@ use Rattle.store_types.specs.declared.InsertReply.{InsertReply}
 use Rattle.store_types.specs.declared.InsertReply.the-variants as inserting
 use Rattle.store_types.specs.declared.MarkReply.{MarkReply}
 use Rattle.store_types.specs.declared.MarkReply.the-variants as marking
+use Rattle.store_types.specs.declared.PartyReply.the-variants as acting
 use Rattle.store_types.specs.declared.TagId.{TagId}
 use Rattle.store_types.specs.Layout.{header-words, words-for}
 use Rattle.tree.specs.Forest.{size}
@@ -27,7 +28,7 @@ use Rattle.calls.specs.Insert.{insert-kinds, position, book-after, insert-store
 use Rattle.calls.specs.Mark.{section-refusal, mark-store}
 use Rattle.calls.specs.Words.{words-of, Says, in-front}
 use Rattle.calls.specs.Replies.{refusal-over, said, written, replied, load-reply, load-words, insert-refused, insert-reply, insert-words, insert-sheet-refused, insert-sheet-reply, insert-sheet-words, mark-reply, mark-words}
-use Rattle.calls.specs.Calls.{Call, load, insert, sheet, mark, refusal, changed, accepts, after-one, after, Event, loads, inserts, sheets, marks, holds, asks, lists, writes, Happens, Run, Told, load-accepted, insert-accepted, mark-accepted, told, calls-of, total-after-load, total-after-insert, total-moved, moved-by, moved-after, judged}
+use Rattle.calls.specs.Calls.{Call, load, insert, sheet, mark, refusal, changed, accepts, after-one, after, Event, loads, inserts, sheets, marks, holds, asks, lists, writes, acts, Happens, Run, Told, load-accepted, insert-accepted, mark-accepted, told, calls-of, emptied-by, total-after-insert, total-after-act, total-moved, moved-by, moved-after, judged}
 use Rattle.calls.specs.Reference.{Reference}
 use Rattle.calls.specs.Promise.{Load-sound, Kept, Lists-keep, Words-kept, Runs-keep}
 use Rattle.calls_laws.proofs.Tests.{sane, facts-of}
@@ -37,6 +38,7 @@ use Rattle.lists.proofs.Tests.{either-way}
 use Rattle.calls_laws.proofs.Inserts.{accepted-row, position-fits}
 use Rattle.calls_laws.proofs.Steps.{accepted-load, insert-passed, accepted-sheet, load-sound, changed-sound}
 use Rattle.calls_laws.proofs.Replies.{replied-accepted, read-replied, replied-told}
+use Rattle.calls_laws.proofs.Acts.{Acted, act-happened}
 use Rattle.calls_laws.proofs.ListsKeep.{lists-keep}
 
 -- ROOM: the words of the store after an accepted call fit the lent words
@@ -79,9 +81,9 @@ pub load-told : (k n h : ℕ) → load-accepted (replied loading.Refused k (load
 unfolding load-accepted
 load-told k n h = replied-told loading.Refused load-accepted k (loading.Loaded n h) refl (λ i. refl)
 
-load-total : (k n h t : ℕ) → total-after-load (replied loading.Refused k (loading.Loaded n h)) t ≡ cond (eqb k 0) 0 t
-unfolding total-after-load
-load-total k n h t = read-replied loading.Refused (λ q. total-after-load q t) k (loading.Loaded n h)
+load-total : (k n h t : ℕ) → emptied-by (replied loading.Refused k (loading.Loaded n h)) t ≡ cond (eqb k 0) 0 t
+unfolding emptied-by
+load-total k n h t = read-replied loading.Refused (λ q. emptied-by q t) k (loading.Loaded n h)
 
 -- a reply that says so is that of an accepted load
 pub load-zero : (k a c n h : ℕ) → loading.Loaded n h ≡ replied loading.Refused k (loading.Loaded a c) → k ≡ 0
@@ -107,12 +109,12 @@ pub record Replied (w : ℕ) (c : Call) (st : Store) (accepted : Bool) (t u : �
   pub words : us ≡ written (refusal w c st) (words-of (changed c st)) ws
 
 pub load-replied : (s r b : ℕ) (cs ws us : List ℕ) (q : LoadReply) (st : Store) (t : ℕ) → Happens (loads s r b cs q) ws us →
-    Replied (length ws) (load s r b cs) st (load-accepted q) t (total-after-load q t) ws us
+    Replied (length ws) (load s r b cs) st (load-accepted q) t (emptied-by q t) ws us
 unfolding Happens accepts refusal changed moved-by load-reply load-words
 load-replied s r b cs ws us q st t h =
     record {
       right = ap load-accepted (h .0) ∙ load-told (load-refusal (length ws) s r cs) _ _;
-      total = ap (λ p. total-after-load p t) (h .0) ∙ load-total (load-refusal (length ws) s r cs) _ _ t;
+      total = ap (λ p. emptied-by p t) (h .0) ∙ load-total (load-refusal (length ws) s r cs) _ _ t;
       words = h .1;
     }
 
@@ -188,7 +190,7 @@ ran-on {w} {c} {st} {ts} l h one onward =
 -- every run
 ran : (w : ℕ) (es : List Event) (ws end : List ℕ) (st : Store) (t : ℕ) → length ws ≡ w → Says ws st → Run ws es end →
     Ran w st t (told es) (total-moved t es) end
-unfolding Happens Run told total-moved judged moved-after after
+unfolding Happens Run told total-moved total-after-act total-after-insert insert-accepted Acted judged moved-after after
 ran w [] ws end st t l h same = record { refused-right = refl; moved-right = refl; says = rw same h }
 ran w (loads s r b cs q ∷ es) ws end st t l h (us, here, rest) =
     ran-on l h (load-replied s r b cs ws us q st t here) (λ m g. ran w es us end _ _ m g rest)
@@ -202,6 +204,15 @@ ran w (holds x q ∷ es) ws end st t l h (us, here, rest) = ran w es ws end st t
 ran w (asks p d q ∷ es) ws end st t l h (us, here, rest) = ran w es ws end st t l h (rw (here .1) at rest)
 ran w (lists x ts ls ts′ ls′ q ∷ es) ws end st t l h (us, here, rest) = ran w es ws end st t l h (rw (here .3) at rest)
 ran w (writes bs cs q ∷ es) ws end st t l h (us, here, rest) = ran w es ws end st t l h (rw (here .2) at rest)
+ran w (acts p a c gs (acting.Inserted x m j) ∷ es) ws end st t l h (us, here, rest) =
+    let made = act-happened p a c gs (acting.Inserted x m j) ws us here in
+    ran-on l h (insert-replied ws us st h (a .kind) (a .tag .0) (inserting.Inserted x m j) t made) (λ m g. ran w es us end _ _ m g rest)
+ran w (acts p a c gs (acting.Refused k) ∷ es) ws end st t l h (us, here, rest) =
+    ran w es ws end st t l h (rw (act-happened p a c gs (acting.Refused k) ws us here) at rest)
+ran w (acts p a c gs acting.Yes ∷ es) ws end st t l h (us, here, rest) =
+    ran w es ws end st t l h (rw (act-happened p a c gs acting.Yes ws us here) at rest)
+ran w (acts p a c gs acting.Stale ∷ es) ws end st t l h (us, here, rest) =
+    ran w es ws end st t l h (rw (act-happened p a c gs acting.Stale ws us here) at rest)
 
 -- words that say a kept store hold what the reference list says
 words-kept : {ws : List ℕ} {st : Store} {a : Reference} {t : ℕ} → Says ws st → Kept st a t → Words-kept ws st a

@@ -1,17 +1,19 @@
 -- The row of a sound store around a tag, the tags from a begin to its mate, and where mates and ups lie.
 -- Assumes nothing.
 use mathlib.Core.Path.{_≡_, refl, ap, sym, _∙_}
-use mathlib.Core.Bool.{true, or-true}
+use mathlib.Core.Bool.{true, or-true, false≢true}
 use mathlib.Core.List.{List, [], _∷_, _++_, append-assoc}
 use mathlib.Core.Logic.{_⊎_, inl, inr}
 use Prim.Native.Nat.{ℕ, suc, _+_, _≤_, _<_}
 use native.Mathlib.Omega.{arith}
 use lib.ListN.{length, take, drop, length-append}
 use lib.Seq.{split-at, append-snoc, getD-append-seam}
+use Rattle.lists.specs.Lists.{numbers}
+use Rattle.lists.proofs.Tests.{fails}
 use Rattle.store_types.specs.Limits.{no-tag}
 use Rattle.tree.specs.Row.{member, place}
-use Rattle.tree_laws.proofs.Rows.{Distinct, member-first, member-later, member-append, member-of-take, place-append-in, place-append-out, place-of-member, place-getD, getD-place, distinct-right, distinct-apart, apart-sym, distinct-all-below, member-all-below, member-of-drop}
-use Rattle.calls.specs.Kind.{end}
+use Rattle.tree_laws.proofs.Rows.{Distinct, Apart, member-first, member-later, member-append, member-of-take, place-append-in, place-append-out, place-of-member, place-getD, getD-place, distinct-right, distinct-apart, apart-sym, distinct-all-below, member-all-below, member-of-drop, number-bounds}
+use Rattle.calls.specs.Kind.{end, is-begin}
 use Rattle.calls.specs.Store.{Store, Fact, fact-in, fact, count, row, place-of}
 use Rattle.calls_laws.proofs.Tests.{Sound}
 use Rattle.calls_laws.proofs.Nesting.{Begins, Ends, Stands, Step, begins, ends, stands, Pass, pass-of, pass-parts, Chain, bottom, above, chain-up, chain-pass, Tag, Marked, Alike, Closed, closed, pass-marked, pass-join}
@@ -51,6 +53,10 @@ module _ {st : Store} (h : Sound st) where
 
   pub in-row : (d : ℕ) → d < count st → member d (row st) ≡ true
   in-row d l = member-all-below (count st) d (row st) (h .each) l
+
+  -- and none of the numbers that new tags take
+  pub new-apart : (k : ℕ) → Apart (numbers (count st) k) (row st)
+  new-apart k d new = fails (member d (row st)) (λ old. omega (arith, row-below d old, number-bounds d (count st) k new .0))
 
   pub is-tag : (d : ℕ) → d < count st → Tag d
   is-tag d l e = omega (arith, h .few)
@@ -195,6 +201,19 @@ module _ {st : Store} (h : Sound st) (x : ℕ) (l : x < count st) where
   -- every begin and text has its section
   pub section : (fact st x .kind ≡ end → ⊥) → Section st x
   section = let a = pass-at h x l in by-step a (a .step)
+
+  -- a begin stands before its mate
+  before-mate : (a : At st x) → Step (st .facts) no-tag (a .before) x (a .behind) → is-begin (fact st x .kind) ≡ true → place-of st x < place-of st (fact st x .mate)
+  unfolding element-section is-begin
+  before-mate a (begins s) e =
+      let c = closed-at a s in
+      let whole = element-section a s c in
+      omega (arith, whole .starts, whole .stops, length-append (c .inside) (fact st x .mate ∷ []))
+  before-mate a (ends shut s) e = absurd (false≢true (rw (s .kind) at e))
+  before-mate a (stands s) e = absurd (false≢true (rw (s .kind) at e))
+
+  pub begin-first : is-begin (fact st x .kind) ≡ true → place-of st x < place-of st (fact st x .mate)
+  begin-first = let a = pass-at h x l in before-mate a (a .step)
 
   -- every up is no tag or a tag
   up-chain : (a : At st x) → Step (st .facts) no-tag (a .before) x (a .behind) → Chain (st .facts) (λ d. d < count st) no-tag (fact st x .up)

@@ -12,6 +12,7 @@ use Rattle.lists.specs.Lists.{first}
 use Rattle.store_types.specs.Limits.{no-tag}
 use Rattle.store_types.specs.declared.ListReply.the-variants.{Listed, Refused}
 use Rattle.store_types.specs.declared.WriteReply.the-variants as writing
+use Rattle.store_types.specs.declared.PartyReply.the-variants as acting
 use Rattle.lists.proofs.Tests.{or-left-false, or-right-false}
 use Rattle.calls.specs.Kind.{is-begin}
 use Rattle.calls.specs.Store.{Store, fact, count, label}
@@ -23,7 +24,7 @@ use Rattle.calls.specs.Words.{words-of, Says, in-front}
 use Rattle.tree.specs.Book.{height}
 use Rattle.calls.specs.File.{file-of, read-file}
 use Rattle.calls.specs.Replies.{said, refusal-over, replied, written, load-reply, load-words, insert-refused, insert-reply, insert-words, insert-sheet-refused, insert-sheet-reply, insert-sheet-words, mark-reply, mark-words, list-refused, list-reply, list-tags, list-labels, write-refused, write-reply, write-bytes, store-or, file-refusal, read-reply, read-words}
-use Rattle.calls.specs.Calls.{Call, Event, insert, sheet, mark, refusal, changed, loads, inserts, sheets, marks, holds, asks, lists, writes, Happens, load-accepted, insert-accepted, mark-accepted}
+use Rattle.calls.specs.Calls.{Call, Event, insert, sheet, mark, refusal, changed, loads, inserts, sheets, marks, holds, asks, lists, writes, acts, Happens, load-accepted, insert-accepted, mark-accepted}
 use Rattle.calls.specs.Promise.{Load-sound}
 use Rattle.calls_laws.proofs.Tests.{passes}
 use Rattle.calls_laws.proofs.Steps.{load-sound, changed-sound}
@@ -32,9 +33,10 @@ use Rattle.calls_laws.proofs.Replies.{replied-told}
 use Rattle.calls_laws.proofs.Files.{length-file}
 use Rattle.calls_laws.proofs.Fields.{length-words}
 use Rattle.calls_laws.proofs.FileCalls.{file-fits, Was-read, read-accepted}
+use Rattle.calls_laws.proofs.Acts.{Acted, act-happened}
 use Rattle.calls_laws.proofs.RunsKeep.{load-fits, changed-fits, load-told, insert-told, mark-told}
 use Rattle.demands.specs.Words.{Fronted}
-use Rattle.demands.specs.Promise.{listed, filed, accepted, changes, Lists-stay, Lists-hold, Call-right, Every-call, Every-reading}
+use Rattle.demands.specs.Promise.{listed, filed, acted, made, accepted, changes, Lists-stay, Lists-hold, Call-right, Every-call, Every-reading}
 
 -- A RESULT IN FRONT, where it fits
 fronted : (new old : List ℕ) → length new ≤ length old → Fronted new old (in-front new old)
@@ -121,9 +123,19 @@ write-fits : (ws bs : List ℕ) → write-refused ws bs ≡ 0 → length (file-o
 unfolding Says
 write-fits ws bs z = let (says, room) = file-fits ws bs z in omega (arith, length-file (said ws) (says .0))
 
+-- an event that only reads, and lends no list that it writes
+read-call : (e : Event) (ws vs : List ℕ) → vs ≡ ws → changes e ≡ false → Lists-stay e → Lists-hold e ws → Call-right e ws vs
+read-call e ws vs same quiet stay hold =
+    record {
+      refused = λ _. (same, stay);
+      changed = λ _ alters. absurd (true≢false (sym alters ∙ quiet));
+      reads = λ _. same;
+      writes-lists = λ _. hold;
+    }
+
 -- EVERY CALL
 pub every-call : Every-call
-unfolding Every-call Happens accepted changes Lists-stay Lists-hold load-reply load-words insert-reply insert-words insert-refused insert-sheet-reply insert-sheet-words insert-sheet-refused mark-reply mark-words list-reply list-tags list-labels list-refused listed-labels write-reply write-bytes refusal changed
+unfolding Every-call Happens accepted acted changes made Acted insert-accepted Lists-stay Lists-hold load-reply load-words insert-reply insert-words insert-refused insert-sheet-reply insert-sheet-words insert-sheet-refused mark-reply mark-words list-reply list-tags list-labels list-refused listed-labels write-reply write-bytes refusal changed
 every-call (loads s r b cs q) ws vs (reply, new) =
     let k = load-refusal (length ws) s r cs in
     let told = ap load-accepted reply ∙ load-told k _ _ in
@@ -141,10 +153,8 @@ every-call (sheets cs y q) ws vs (reply, new) =
     change-call (sheets cs y q) (sheet cs y) ws vs (ap insert-accepted reply ∙ insert-told (insert-sheet-refused cs y ws) _ _ _) new refl tt tt
 every-call (marks x q) ws vs (reply, new) =
     change-call (marks x q) (mark x) ws vs (ap mark-accepted reply ∙ mark-told (refusal-over ws (section-refusal x)) _) new refl tt tt
-every-call (holds x q) ws vs (reply, same) =
-    record { refused = λ _. (same, tt); changed = λ _ e. absurd (true≢false (sym e)); reads = λ _. same; writes-lists = λ _. tt }
-every-call (asks p d q) ws vs (reply, same) =
-    record { refused = λ _. (same, tt); changed = λ _ e. absurd (true≢false (sym e)); reads = λ _. same; writes-lists = λ _. tt }
+every-call (holds x q) ws vs (reply, same) = read-call (holds x q) ws vs same refl tt tt
+every-call (asks p d q) ws vs (reply, same) = read-call (asks p d q) ws vs same refl tt tt
 every-call (lists x ts ls us ms q) ws vs (reply, tags, labels, same) =
     let k = refusal-over ws (list-refusal (length ts) (length ls) x) in
     let told = ap listed reply ∙ list-told k _ in
@@ -170,6 +180,13 @@ every-call (writes bs cs q) ws vs (reply, bytes, same) =
       reads = λ _. same;
       writes-lists = λ e. rw bytes (written-fronted k (filed q) told new bs (write-fits ws bs) e);
     }
+every-call (acts p a c gs (acting.Inserted x m h)) ws vs here =
+    let (reply, new) = act-happened p a c gs (acting.Inserted x m h) ws vs here in
+    change-call (acts p a c gs (acting.Inserted x m h)) (insert (a .kind) (a .tag .0)) ws vs
+    (ap insert-accepted reply ∙ insert-told (insert-refused (a .kind) (a .tag .0) ws) _ _ _) new refl tt tt
+every-call (acts p a c gs (acting.Refused k)) ws vs here = read-call _ ws vs (act-happened p a c gs (acting.Refused k) ws vs here) refl tt tt
+every-call (acts p a c gs acting.Yes) ws vs here = read-call _ ws vs (act-happened p a c gs acting.Yes ws vs here) refl tt tt
+every-call (acts p a c gs acting.Stale) ws vs here = read-call _ ws vs (act-happened p a c gs acting.Stale ws vs here) refl tt tt
 
 -- READING A FILE
 read-zero-told : (bs ws : List ℕ) → file-refusal (length ws) bs ≡ 0 →

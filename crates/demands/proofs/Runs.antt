@@ -12,7 +12,8 @@ use Rattle.tree_laws.proofs.Rows.{length-insert}
 use Rattle.calls.specs.Insert.{insert-kinds}
 use Rattle.calls.specs.Load.{load-store}
 use Rattle.calls.specs.Replies.{load-reply, load-words, insert-reply, insert-words, insert-sheet-reply, insert-sheet-words, mark-reply, mark-words, hold-reply, question-reply, list-reply, list-tags, list-labels, write-reply, write-bytes}
-use Rattle.calls.specs.Calls.{Call, load, insert, sheet, mark, after, calls-of, Event, loads, inserts, sheets, marks, holds, asks, lists, writes, Happens, Run, Told, told}
+use Rattle.calls.specs.Rights.{party-reply, party-words}
+use Rattle.calls.specs.Calls.{Call, load, insert, sheet, mark, after, calls-of, Event, loads, inserts, sheets, marks, holds, asks, lists, writes, acts, Happens, Run, Told, told}
 use Rattle.calls.specs.Reference.{Reference, total, reference-load, reference-position, reference-insert, reference-call, reference-told, reference-after}
 use Rattle.calls.specs.Promise.{Runs-keep}
 use Rattle.calls_laws.proofs.RunsKeep.{runs-keep}
@@ -62,6 +63,7 @@ event ws (ask.hold x) = holds x (hold-reply x ws)
 event ws (ask.ask p d) = asks p d (question-reply p d ws)
 event ws (ask.list x ts ls) = lists x ts ls (list-tags x ws ts ls) (list-labels x ws ts ls) (list-reply x ws ts ls)
 event ws (ask.write bs) = writes bs (write-bytes ws bs) (write-reply ws bs)
+event ws (ask.act p a c gs) = acts p a c gs (party-reply p a c gs ws)
 
 then : List ℕ → Request → List ℕ
 then ws (ask.load s r b cs) = load-words s r b cs ws
@@ -72,6 +74,7 @@ then ws (ask.hold x) = ws
 then ws (ask.ask p d) = ws
 then ws (ask.list x ts ls) = ws
 then ws (ask.write bs) = ws
+then ws (ask.act p a c gs) = party-words p a c gs ws
 
 happens : (ws : List ℕ) (q : Request) → Happens (event ws q) ws (then ws q) × (request (event ws q) ≡ q)
 unfolding Happens request event then
@@ -83,6 +86,7 @@ happens ws (ask.hold x) = ((refl, refl), refl)
 happens ws (ask.ask p d) = ((refl, refl), refl)
 happens ws (ask.list x ts ls) = ((refl, refl, refl, refl), refl)
 happens ws (ask.write bs) = ((refl, refl, refl), refl)
+happens ws (ask.act p a c gs) = ((refl, refl), refl)
 
 pub runs-exist : Runs-exist
 unfolding Runs-exist Run

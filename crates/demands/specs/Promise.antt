@@ -18,6 +18,10 @@ use Rattle.store_types.specs.declared.ListReply.{ListReply}
 use Rattle.store_types.specs.declared.ListReply.the-variants as list-said
 use Rattle.store_types.specs.declared.WriteReply.{WriteReply}
 use Rattle.store_types.specs.declared.WriteReply.the-variants as write-said
+use Rattle.store_types.specs.declared.Act.{Act}
+use Rattle.store_types.specs.declared.Grant.{Grant}
+use Rattle.store_types.specs.declared.PartyReply.{PartyReply}
+use Rattle.store_types.specs.declared.PartyReply.the-variants as party-said
 use Rattle.store_types.specs.Layout.{at-count, at-book, header-words, at-mate, at-kind, word-at, field, label-at}
 use Rattle.calls.specs.Store.{Store}
 use Rattle.calls.specs.Sound.{sound}
@@ -25,7 +29,7 @@ use Rattle.calls.specs.Listing.{listed-tags, listed-labels}
 use Rattle.calls.specs.Words.{words-of, Says}
 use Rattle.calls.specs.File.{file-of}
 use Rattle.calls.specs.Replies.{said, refusal-over, insert-reply, insert-words, insert-sheet-reply, insert-sheet-words, mark-reply, mark-words, hold-reply, question-reply, list-reply, list-tags, list-labels, read-reply, read-words}
-use Rattle.calls.specs.Calls.{Event, loads, inserts, sheets, marks, holds, asks, lists, writes, Happens, Run, load-accepted, insert-accepted, mark-accepted, told}
+use Rattle.calls.specs.Calls.{Event, loads, inserts, sheets, marks, holds, asks, lists, writes, acts, Happens, Run, load-accepted, insert-accepted, mark-accepted, told}
 use Rattle.calls.specs.Reference.{Reference, total, reference-load, reference-after}
 use Rattle.demands.specs.Sound.{Sound-words}
 use Rattle.demands.specs.Words.{Book-row, Stand, is-marked, unmarked-of, Inside, Fronted, unmarked-changed, became-marked}
@@ -47,6 +51,19 @@ unfoldable pub filed : WriteReply → Bool
 filed (write-said.Written n) = true
 filed (write-said.Refused k) = false
 
+unfoldable pub acted : PartyReply → Bool
+acted party-said.Yes = true
+acted party-said.Stale = true
+acted (party-said.Inserted x m h) = true
+acted (party-said.Refused k) = false
+
+-- a party's call changes the store where it inserts
+unfoldable pub made : PartyReply → Bool
+made party-said.Yes = false
+made party-said.Stale = false
+made (party-said.Inserted x m h) = true
+made (party-said.Refused k) = false
+
 unfoldable pub accepted : Event → Bool
 accepted (loads s r b cs q) = load-accepted q
 accepted (inserts c y q) = insert-accepted q
@@ -56,6 +73,7 @@ accepted (holds x q) = held q
 accepted (asks p d q) = answered q
 accepted (lists x ts ls us ms q) = listed q
 accepted (writes bs cs q) = filed q
+accepted (acts p a c gs q) = acted q
 
 unfoldable pub changes : Event → Bool
 changes (loads s r b cs q) = true
@@ -66,6 +84,7 @@ changes (holds x q) = false
 changes (asks p d q) = false
 changes (lists x ts ls us ms q) = false
 changes (writes bs cs q) = false
+changes (acts p a c gs q) = made q
 
 -- the lent lists of a list and the lent bytes of a file: as they were, or with the result in front
 unfoldable pub Lists-stay : Event → Type 0
@@ -77,6 +96,7 @@ Lists-stay (holds x q) = Unit {0}
 Lists-stay (asks p d q) = Unit {0}
 Lists-stay (lists x ts ls us ms q) = (us ≡ ts) × (ms ≡ ls)
 Lists-stay (writes bs cs q) = cs ≡ bs
+Lists-stay (acts p a c gs q) = Unit {0}
 
 unfoldable pub Lists-hold : Event → (words : List ℕ) → Type 0
 Lists-hold (loads s r b cs q) ws = Unit {0}
@@ -87,6 +107,7 @@ Lists-hold (holds x q) ws = Unit {0}
 Lists-hold (asks p d q) ws = Unit {0}
 Lists-hold (lists x ts ls us ms q) ws = Fronted (listed-tags x (said ws)) ts us × Fronted (listed-labels x (said ws)) ls ms
 Lists-hold (writes bs cs q) ws = Fronted (file-of (said ws)) bs cs
+Lists-hold (acts p a c gs q) ws = Unit {0}
 
 pub record Call-right (e : Event) (ws vs : List ℕ) : Type 0 where
   pub refused : accepted e ≡ false → (vs ≡ ws) × Lists-stay e
@@ -139,6 +160,7 @@ pub data Request : Type 0 where
   ask : HeldPair → (d : ℕ) → Request
   list : (section : ℕ) → (tags labels : List ℕ) → Request
   write : (bytes : List ℕ) → Request
+  act : (party : ℕ) → Act → (count : ℕ) → List Grant → Request
 
 unfoldable pub request : Event → Request
 request (loads s r b cs q) = load s r b cs
@@ -149,6 +171,7 @@ request (holds x q) = hold x
 request (asks p d q) = ask p d
 request (lists x ts ls us ms q) = list x ts ls
 request (writes bs cs q) = write bs
+request (acts p a c gs q) = act p a c gs
 
 -- a run from words in which just these requests were made, in their order
 pub record Ran-so (ws : List ℕ) (qs : List Request) : Type 0 where

@@ -14,7 +14,7 @@ use lib.Seq.{getD-append-add}
 use Rattle.store_types.specs.Limits.{no-tag, most-tags}
 use Rattle.store_types.specs.Layout.{at-s, at-r, at-height, header-words, word-at, words-for}
 use Rattle.lists.specs.Lists.{numbers}
-use Rattle.lists.proofs.Tests.{by-test, fails}
+use Rattle.lists.proofs.Tests.{by-test}
 use Rattle.lists.proofs.Numbers.{length-numbers}
 use Rattle.shape.specs.Tables.{entry, widths-of}
 use Rattle.shape.proofs.TableLaws.{table-at}
@@ -35,7 +35,7 @@ use Rattle.calls.specs.Insert.{position, up-at, book-after, insert-store, inser
 use Rattle.calls.specs.Words.{words-of, Says, in-front}
 use Rattle.calls_laws.proofs.Tests.{Sound, sane}
 use Rattle.calls_laws.proofs.Fields.{length-words, Tag-says, tag-says, header-says}
-use Rattle.calls_laws.proofs.Sections.{in-row, distinct-row, row-below}
+use Rattle.calls_laws.proofs.Sections.{in-row, distinct-row, new-apart}
 use Rattle.calls_laws.proofs.NewFacts.{length-new-facts, new-unmarked}
 use Rattle.calls_laws.proofs.Inserts.{row-degrees, labels-kept, Row-accepted, position-fits}
 use Rattle.calls_laws.proofs.Moved.{moved-unmarked, moved-once}
@@ -292,7 +292,7 @@ module _ (ws : List ℕ) (st : Store) (says : Says ws st) (ks : List Kind) (y : 
       rw (rw behind at (getD-append-add (st .facts) ts (x - n) no-fact), free))
 
   apart : Apart ns (row st)
-  apart x new = fails (member x (row st)) (λ old. omega (arith, row-below own x old, number-bounds x n k new))
+  apart = new-apart own k
 
   moved-said : moved-unmarked st after + k ≡ differ (unmarked-row u) (u .labels) ls
   unfolding with-levels with-tags image-of insert-at

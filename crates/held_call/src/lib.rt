@@ -2,6 +2,7 @@
 ghost use mathlib.Core.Path.{_≡_};
 ghost use Rattle.calls.specs.Held.{current};
 ghost use Rattle.calls.specs.Store.{fact, label};
+ghost use Rattle.calls.specs.Words.{Says};
 ghost use Rattle.calls.specs.Replies.{said, hold-reply, question-reply};
 ghost use Rattle.store_refuse.specs.Needs.{Tag-said};
 ghost use Rattle.held_call.specs.Needs.{Pair-asked};
@@ -38,6 +39,14 @@ pub fn question(pair: HeldPair, tag: TagId, words: &[u32]) -> QuestionReply
     if first != 0 {
         return QuestionReply::Refused(first);
     }
+    asked(pair, tag, words)
+}
+
+// The question of words that say a store.
+pub fn asked(pair: HeldPair, tag: TagId, words: &[u32]) -> QuestionReply
+    requires { ⌜ Says (now words) (said (now words)) ⌝ }
+    ensures { λ q. ⌜ q ≡ question-reply pair (tag .0) (now (words .entry)) ⌝ }
+{
     let book = words[words::AT_BOOK];
     if pair.book != book {
         return QuestionReply::Answered(Answer::Stale);

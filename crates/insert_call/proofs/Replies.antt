@@ -5,26 +5,28 @@ use Prim.Native.Nat.{ℕ, suc, _+_, _≤_}
 use native.Mathlib.Numerals.{add-one}
 use native.Mathlib.Omega.{arith}
 use borrow.Author.Tests.{ne-eqb}
-use lib.ListN.{length, set, drop}
+use lib.ListN.{length, set, drop, replicate}
 use lib.Seq.{getD-set-same}
 use Rattle.store_types.specs.declared.InsertReply.{InsertReply}
 use Rattle.store_types.specs.declared.InsertReply.the-variants.{Inserted, Refused}
 use Rattle.store_types.specs.Layout.{at-count, at-stamp, header-words, word-at}
 use Rattle.lists.specs.Lists.{first}
+use Rattle.shape.specs.Tables.{table-length}
 use Rattle.calls.specs.Kind.{Kind, kind-of}
 use Rattle.calls.specs.Store.{Store}
-use Rattle.calls.specs.Insert.{insert-refusal, insert-store, insert-sheet-store}
+use Rattle.calls.specs.Insert.{insert-refusal, insert-store, insert-sheet-refusal, insert-sheet-store}
 use Rattle.calls.specs.Words.{words-of, Says, in-front}
 use Rattle.calls.specs.Promise.{Empty-sheet, Singles-are-sheets}
 use Rattle.calls.specs.Replies.{said, replied, written, refusal-over, insert-refused, insert-reply, insert-words, insert-sheet-refused, insert-sheet-reply, insert-sheet-words}
 use Rattle.calls_laws.proofs.Fields.{header-says}
 use Rattle.calls_laws.proofs.Marks.{marked-few}
-use Rattle.calls_laws.proofs.WordSteps.{header-said, refusal-same}
+use Rattle.calls_laws.proofs.WordSteps.{header-said}
 use Rattle.calls_laws.proofs.Replies.{replied-refused}
 use Rattle.calls_laws.proofs.Sheets.{empty-sheet, singles-are-sheets}
+use Rattle.walk_model.specs.Watch.{Tables-at, sizes-at}
 use Rattle.edit_model.specs.Insert.{row-edit, stamped}
 use Rattle.edit_model.proofs.Row.{Edit-right, row-right}
-use Rattle.store_refuse.proofs.Laws.{sound-said, accepted-says, accepted-store}
+use Rattle.store_refuse.proofs.Laws.{sound-said, words-first, refused-said, accepted-says}
 use Rattle.insert_call.specs.Needs.{Edits, Accepted}
 use Rattle.insert_call.proofs.Accepted.{says, some-kinds, accepted}
 
@@ -33,8 +35,19 @@ pub refused-all : (ws cs : List ℕ) (y : ℕ) {k : ℕ} → k ≡ insert-sheet-
 unfolding insert-sheet-reply insert-sheet-words written
 refused-all ws cs y {k} e n = rw (← e) (replied-refused Refused k _ n, replied-refused (λ _. ws) k _ n)
 
+-- the words alone refuse
+pub words-all : (ws cs : List ℕ) (y : ℕ) {k : ℕ} → k ≡ refusal-over ws (λ st. 0) → (k ≡ 0 → ⊥) → (Refused k ≡ insert-sheet-reply cs y ws) × (ws ≡ insert-sheet-words cs y ws)
+unfolding insert-sheet-refused
+words-all ws cs y {k} e n = refused-all ws cs y (words-first ws (insert-sheet-refusal (length ws) cs y) k e n) n
+
+-- or the walk leaves what the rest of the call asks for
+pub walked : (ws : List ℕ) (y : ℕ) {k : ℕ} {t sz : List ℕ} →
+    (k ≡ refusal-over ws (λ st. 0)) × ((k ≡ 0 → Tables-at ws y t) × (k ≡ 0 → sz ≡ sizes-at ws y (replicate table-length 0))) → k ≡ 0 →
+    Says ws (said ws) × Tables-at ws y t × (sz ≡ sizes-at ws y (replicate table-length 0))
+walked ws y walk z = (accepted-says ws (λ st. 0) (sym (walk .0) ∙ z), walk .1 .0 z, walk .1 .1 z)
+
 -- words that are not refused say a store
-pub says-sheet : (ws cs : List ℕ) (y : ℕ) → insert-sheet-refused cs y ws ≡ 0 → Says ws (said ws)
+says-sheet : (ws cs : List ℕ) (y : ℕ) → insert-sheet-refused cs y ws ≡ 0 → Says ws (said ws)
 unfolding insert-sheet-refused
 says-sheet ws cs y z = accepted-says ws _ z
 
@@ -92,9 +105,15 @@ module _ (ws : List ℕ) (c y : ℕ) where
   unfolding Singles-are-sheets
   text-all three done = let same = singles-are-sheets y ws .0 in rw three (done .0 ∙ sym (same .reply), done .1 ∙ sym (same .words))
 
-  pub other-all : {k : ℕ} → (c ≡ 1 → ⊥) → (c ≡ 3 → ⊥) → k ≡ refusal-over ws (λ st. 4) → (Refused k ≡ insert-reply c y ws) × (ws ≡ insert-words c y ws)
-  unfolding insert-refused insert-reply insert-words written insert-refusal first
-  other-all {k} one three e =
-      let refused : k ≡ insert-refused c y ws = e ∙ refusal-same ws (λ st. 4) (insert-refusal (length ws) c y) (λ st m. rw (ne-eqb c 1 one, ne-eqb c 3 three)) in
-      let never : k ≡ 0 → ⊥ = λ z. omega (arith, accepted-store ws (λ st. 4) (sym e ∙ z)) in
-      rw (← refused) (replied-refused Refused k _ never, replied-refused (λ _. ws) k _ never)
+  refused-kind : {k : ℕ} → k ≡ insert-refused c y ws → (k ≡ 0 → ⊥) → (Refused k ≡ insert-reply c y ws) × (ws ≡ insert-words c y ws)
+  unfolding insert-reply insert-words written
+  refused-kind {k} e n = rw (← e) (replied-refused Refused k _ n, replied-refused (λ _. ws) k _ n)
+
+  pub other-all : Says ws (said ws) → (c ≡ 1 → ⊥) → (c ≡ 3 → ⊥) → (Refused 4 ≡ insert-reply c y ws) × (ws ≡ insert-words c y ws)
+  unfolding insert-refused insert-refusal first
+  other-all said-there one three =
+      refused-kind (sym (refused-said ws (insert-refusal (length ws) c y) said-there ∙ rw (ne-eqb c 1 one, ne-eqb c 3 three))) (λ z. omega arith)
+
+  pub kind-words-all : {k : ℕ} → k ≡ refusal-over ws (λ st. 0) → (k ≡ 0 → ⊥) → (Refused k ≡ insert-reply c y ws) × (ws ≡ insert-words c y ws)
+  unfolding insert-refused
+  kind-words-all {k} e n = refused-kind (words-first ws (insert-refusal (length ws) c y) k e n) n

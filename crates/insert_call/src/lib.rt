@@ -6,7 +6,8 @@ ghost use Prim.Native.Nat.{_-_};
 ghost use lib.ListN.{replicate};
 ghost use Rattle.shape.specs.Tables.{table-length};
 ghost use Rattle.calls.specs.Kind.{kind-of};
-ghost use Rattle.calls.specs.Replies.{insert-reply, insert-words, insert-sheet-reply, insert-sheet-words};
+ghost use Rattle.calls.specs.Words.{Says};
+ghost use Rattle.calls.specs.Replies.{said, insert-reply, insert-words, insert-sheet-reply, insert-sheet-words};
 ghost use Rattle.walk_model.specs.Watch.{Tables-at, sizes-at};
 ghost use Rattle.edit_model.specs.Insert.{row-edit};
 ghost use Rattle.insert_plan.specs.Parts.{plan-record};
@@ -120,13 +121,19 @@ fn insert_tags(
     }
 }
 
-pub fn insert_sheet(kinds: &[u8], place: TagId, words: &mut [u32]) -> InsertReply
+// A sheet on words that say a store; `tables` and `sizes` are those of its place.
+fn sheet_said(
+    kinds: &[u8],
+    place: TagId,
+    words: &mut [u32],
+    tables: &[u64; PACKED_LENGTH],
+    sizes: &[u32; TABLE_LENGTH],
+) -> InsertReply
+    requires { ⌜ Says (now words) (said (now words)) × Tables-at (now words) (place .0) (now tables) × (now sizes ≡ sizes-at (now words) (place .0) (replicate table-length 0)) ⌝ }
     ensures reply { λ q. ⌜ q ≡ insert-sheet-reply (now (kinds .entry)) (place .0) (now (words .entry)) ⌝ }
     ensures words { λ _. ⌜ now (words .exit) ≡ insert-sheet-words (now (kinds .entry)) (place .0) (now (words .entry)) ⌝ }
 {
-    let mut tables = [0u64; PACKED_LENGTH];
-    let mut sizes = [0u32; TABLE_LENGTH];
-    let refusal = insert_refuse::sheet_refused(kinds, place, words, &mut tables, &mut sizes);
+    let refusal = insert_refuse::said_refused(kinds, place, words, tables);
     if refusal != 0 {
         return InsertReply::Refused(refusal);
     }
@@ -138,21 +145,54 @@ pub fn insert_sheet(kinds: &[u8], place: TagId, words: &mut [u32]) -> InsertRepl
             split: 0,
         };
     }
-    insert_tags(kinds, place, words, &tables, &sizes)
+    insert_tags(kinds, place, words, tables, sizes)
 }
 
-// A text is a sheet of one tag, an element one of two.
-pub fn insert(kind: u8, place: TagId, words: &mut [u32]) -> InsertReply
+// A text or an element there: a text is a sheet of one tag, an element one of two.
+pub fn insert_said(
+    kind: u8,
+    place: TagId,
+    words: &mut [u32],
+    tables: &[u64; PACKED_LENGTH],
+    sizes: &[u32; TABLE_LENGTH],
+) -> InsertReply
+    requires { ⌜ Says (now words) (said (now words)) × Tables-at (now words) (place .0) (now tables) × (now sizes ≡ sizes-at (now words) (place .0) (replicate table-length 0)) ⌝ }
     ensures reply { λ q. ⌜ q ≡ insert-reply kind (place .0) (now (words .entry)) ⌝ }
     ensures words { λ _. ⌜ now (words .exit) ≡ insert-words kind (place .0) (now (words .entry)) ⌝ }
 {
     if kind == BEGIN {
         let element = [BEGIN, END];
-        return insert_sheet(&element, place, words);
+        return sheet_said(&element, place, words, tables, sizes);
     }
     if kind == TEXT {
         let text = [TEXT];
-        return insert_sheet(&text, place, words);
+        return sheet_said(&text, place, words, tables, sizes);
     }
-    InsertReply::Refused(insert_refuse::kind_refused(words))
+    InsertReply::Refused(4)
+}
+
+pub fn insert_sheet(kinds: &[u8], place: TagId, words: &mut [u32]) -> InsertReply
+    ensures reply { λ q. ⌜ q ≡ insert-sheet-reply (now (kinds .entry)) (place .0) (now (words .entry)) ⌝ }
+    ensures words { λ _. ⌜ now (words .exit) ≡ insert-sheet-words (now (kinds .entry)) (place .0) (now (words .entry)) ⌝ }
+{
+    let mut tables = [0u64; PACKED_LENGTH];
+    let mut sizes = [0u32; TABLE_LENGTH];
+    let first = store_refuse::words_refused_at(words, place, &mut tables, &mut sizes);
+    if first != 0 {
+        return InsertReply::Refused(first);
+    }
+    sheet_said(kinds, place, words, &tables, &sizes)
+}
+
+pub fn insert(kind: u8, place: TagId, words: &mut [u32]) -> InsertReply
+    ensures reply { λ q. ⌜ q ≡ insert-reply kind (place .0) (now (words .entry)) ⌝ }
+    ensures words { λ _. ⌜ now (words .exit) ≡ insert-words kind (place .0) (now (words .entry)) ⌝ }
+{
+    let mut tables = [0u64; PACKED_LENGTH];
+    let mut sizes = [0u32; TABLE_LENGTH];
+    let first = store_refuse::words_refused_at(words, place, &mut tables, &mut sizes);
+    if first != 0 {
+        return InsertReply::Refused(first);
+    }
+    insert_said(kind, place, words, &tables, &sizes)
 }

@@ -22,13 +22,13 @@ use Rattle.calls.specs.Store.{count, power-fits}
 use Rattle.calls.specs.Load.{kinds-tests}
 use Rattle.calls.specs.Insert.{place-tests, room-tests, row-refusal, insert-sheet-refusal}
 use Rattle.calls.specs.Words.{Says}
-use Rattle.calls.specs.Replies.{said, refusal-over, insert-sheet-refused}
+use Rattle.calls.specs.Replies.{said, insert-sheet-refused}
 use Rattle.calls.specs.Promise.{Sheets-run-out, least-height}
 use Rattle.calls_laws.proofs.WordSteps.{header-said, refusal-said}
 use Rattle.calls_laws.proofs.Sheets.{sheets-run-out}
 use Rattle.load_refuse.specs.Refusals.{kinds-refusal}
 use Rattle.store_refuse.specs.Needs.{Tag-said}
-use Rattle.store_refuse.proofs.Laws.{words-first, accepted-says, kind-of-tag}
+use Rattle.store_refuse.proofs.Laws.{kind-of-tag}
 use Rattle.insert_refuse.specs.Parts.{row-room, place-refusal, room-refusal}
 use Rattle.insert_refuse.proofs.Headers.{Ranges, ranges}
 
@@ -109,19 +109,12 @@ module _ (ws : List ℕ) (h : Says ws (said ws)) (k : ℕ) where
             let raised : word-at ws at-height ≤ top = rw is-top (least .low) in
             by-labels true (rw (← e, p, lt-ltb (word-at ws at-height) top (omega (arith, higher))))
 
--- A SHEET: v are the refusals that the words alone give
-pub refused-words : (ws cs : List ℕ) (y : ℕ) {v : ℕ} → v ≡ refusal-over ws (λ st. 0) → (v ≡ 0 → ⊥) → v ≡ insert-sheet-refused cs y ws
-unfolding insert-sheet-refused
-refused-words ws cs y {v} e n = words-first ws (insert-sheet-refusal (length ws) cs y) v e n
-
-module _ (ws cs : List ℕ) (y : ℕ) {v : ℕ} (e : v ≡ refusal-over ws (λ st. 0)) (z : v ≡ 0) where
-  pub said-of : Says ws (said ws)
-  said-of = accepted-says ws (λ st. 0) (sym e ∙ z)
-
+-- A SHEET
+module _ (ws cs : List ℕ) (y : ℕ) (says : Says ws (said ws)) where
   -- the tests of the place and the room stand behind those of the kinds
   in-order : insert-sheet-refused cs y ws ≡ first (kinds-tests 0 cs) (first (place-tests y (said ws) ++ row-room (length ws) (length cs) (said ws)) 0)
   unfolding insert-sheet-refused insert-sheet-refusal row-refusal
-  in-order = refusal-said ws (said ws) said-of (insert-sheet-refusal (length ws) cs y) ∙ rw (length-map cs kind-of)
+  in-order = refusal-said ws (said ws) says (insert-sheet-refusal (length ws) cs y) ∙ rw (length-map cs kind-of)
 
   module _ {k : ℕ} (f : k ≡ kinds-refusal 0 cs) where
     pub refused-kinds : (k ≡ 0 → ⊥) → k ≡ insert-sheet-refused cs y ws
@@ -144,7 +137,3 @@ module _ (ws cs : List ℕ) (y : ℕ) {v : ℕ} (e : v ≡ refusal-over ws (λ s
       pub refused-room : {m : ℕ} → p ≡ 0 → m ≡ room-refusal (length ws) (length cs) (said ws) → m ≡ insert-sheet-refused cs y ws
       unfolding place-refusal room-refusal place-tests all-hold
       refused-room none q = q ∙ sym (behind-kinds ∙ refused-behind (place-tests y (said ws)) (row-room (length ws) (length cs) (said ws)) refl (sym g ∙ none))
-
--- A KIND THAT IS NONE
-pub refused-kind : (ws : List ℕ) {v : ℕ} → v ≡ refusal-over ws (λ st. 0) → v ≡ 0 → 4 ≡ refusal-over ws (λ st. 4)
-refused-kind ws e z = sym (refusal-said ws (said ws) (accepted-says ws (λ st. 0) (sym e ∙ z)) (λ st. 4))

@@ -1,4 +1,4 @@
-// The refusals of an insertion: 1, 2, 4, 5, 8, 9, 6, 7 in this order.
+// The refusals of an insertion that words do not give: 4, 5, 8, 9, 6, 7 in this order.
 ghost use mathlib.Core.Path.{_≡_};
 ghost use Prim.Native.Nat.{_-_, _≤_};
 ghost use lib.ListN.{length};
@@ -8,11 +8,9 @@ ghost use Rattle.shape.specs.Tables.{highs-of};
 ghost use Rattle.shape.specs.Packed.{highs-in};
 ghost use Rattle.tree.specs.Grown.{height-for};
 ghost use Rattle.calls.specs.Words.{Says};
-ghost use Rattle.calls.specs.Replies.{said, refusal-over, insert-sheet-refused};
-ghost use Rattle.walk_model.specs.Watch.{Tables-at, sizes-at};
+ghost use Rattle.calls.specs.Replies.{said, insert-sheet-refused};
 ghost use Rattle.insert_refuse.specs.Parts.{place-refusal, room-refusal};
 use shape::PACKED_LENGTH;
-use shape::TABLE_LENGTH;
 use store_types::MOST_TAGS;
 use store_types::TagId;
 
@@ -69,40 +67,18 @@ fn room_refused(k: usize, words: &[u32], tables: &[u64; PACKED_LENGTH]) -> u32
     7
 }
 
-// A kind that no insertion takes: 4, behind 1 and 2.
-pub fn kind_refused(words: &[u32]) -> u32
-    ensures { λ k. ⌜ k ≡ refusal-over (now (words .entry)) (λ st. 4) ⌝ }
+// Of a sheet, on words that say a store, by the tables of their header.
+pub fn said_refused(kinds: &[u8], place: TagId, words: &[u32], tables: &[u64; PACKED_LENGTH]) -> u32
+    requires { ⌜ Says (now words) (said (now words)) × (highs-in (now tables) ≡ highs-of (now words)) ⌝ }
+    ensures { λ k. ⌜ k ≡ insert-sheet-refused (now (kinds .entry)) (place .0) (now (words .entry)) ⌝ }
 {
-    let first = store_refuse::words_refused(words);
+    let first = load_refuse::kinds_refused(kinds);
     if first != 0 {
         return first;
     }
-    4
-}
-
-// Of a sheet. Where there is none, `tables` and `sizes` are those of the place.
-pub fn sheet_refused(
-    kinds: &[u8],
-    place: TagId,
-    words: &[u32],
-    tables: &mut [u64; PACKED_LENGTH],
-    sizes: &mut [u32; TABLE_LENGTH],
-) -> u32
-    ensures refusal { λ k. ⌜ k ≡ insert-sheet-refused (now (kinds .entry)) (place .0) (now (words .entry)) ⌝ }
-    ensures tables { λ k. ⌜ (k ≡ 0 → Tables-at (now (words .entry)) (place .0) (now (tables .exit))) ⌝ }
-    ensures sizes { λ k. ⌜ (k ≡ 0 → now (sizes .exit) ≡ sizes-at (now (words .entry)) (place .0) (now (sizes .entry))) ⌝ }
-{
-    let first = store_refuse::words_refused_at(words, place, tables, sizes);
-    if first != 0 {
-        return first;
-    }
-    let second = load_refuse::kinds_refused(kinds);
+    let second = place_refused(place, words);
     if second != 0 {
         return second;
-    }
-    let third = place_refused(place, words);
-    if third != 0 {
-        return third;
     }
     room_refused(kinds.len(), words, tables)
 }

@@ -5,3 +5,4 @@ pub mod Numbers
 pub mod First
 pub mod Same
 pub mod Sets
+pub mod Those

@@ -1,5 +1,5 @@
 -- Lists that definitions of several crates need. Assumes nothing: these are definitions.
-use mathlib.Core.Bool.{Bool, true, false, _&&_, cond}
+use mathlib.Core.Bool.{Bool, true, false, _&&_, _||_, cond}
 use mathlib.Core.List.{List, [], _∷_}
 use Prim.Native.Nat.{ℕ, zero, suc, _+_}
 use lib.Dec.{eqb}
@@ -23,6 +23,15 @@ all-hold h (e ∷ es) = h e && all-hold h es
 unfoldable pub how-many : {A : Type 0} → (holds : A → Bool) → List A → ℕ
 how-many h [] = 0
 how-many h (e ∷ es) = cond (h e) 1 0 + how-many h es
+
+-- whether an element passes a test, and those that do, in order
+unfoldable pub some-holds : {A : Type 0} → (holds : A → Bool) → List A → Bool
+some-holds h [] = false
+some-holds h (e ∷ es) = h e || some-holds h es
+
+unfoldable pub those : {A : Type 0} → (holds : A → Bool) → List A → List A
+those h [] = []
+those h (e ∷ es) = let rest = those h es in cond (h e) (e ∷ rest) rest
 
 -- a first element for the first of some lists, which is begun where there is none
 unfoldable pub with-first : (element : ℕ) → List (List ℕ) → List (List ℕ)

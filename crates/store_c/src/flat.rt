@@ -1,14 +1,17 @@
 // The replies as C structs: the refusal, 0 where the call is accepted, then the reply's values, 0 where it is refused.
 ghost use mathlib.Core.Path.{_≡_};
 ghost use Rattle.calls.specs.Replies.{answer-number};
-ghost use Rattle.store_c.specs.Flat.{c-loaded, c-inserted, c-marked, c-held, c-answered, c-listed, c-written, c-kinds};
+ghost use Rattle.store_c.specs.Flat.{c-loaded, c-inserted, c-marked, c-held, c-answered, c-listed, c-written, c-kinds, c-granted, c-revoked, c-party};
 use store_types::Answer;
+use store_types::GrantReply;
 use store_types::HoldReply;
 use store_types::InsertReply;
 use store_types::ListReply;
 use store_types::LoadReply;
 use store_types::MarkReply;
+use store_types::PartyReply;
 use store_types::QuestionReply;
+use store_types::RevokeReply;
 use store_types::WriteReply;
 use xml::SheetReply;
 
@@ -64,6 +67,27 @@ pub struct Written {
 pub struct Kinds {
     pub refusal: u32,
     pub count: usize,
+}
+
+#[repr(C)]
+pub struct Granted {
+    pub refusal: u32,
+    pub count: usize,
+}
+
+#[repr(C)]
+pub struct Revoked {
+    pub refusal: u32,
+    pub revoked: usize,
+}
+
+#[repr(C)]
+pub struct Party {
+    pub refusal: u32,
+    pub answer: u32,
+    pub first: u32,
+    pub moved: u32,
+    pub split: u32,
 }
 
 pub fn of_load(reply: LoadReply) -> Loaded
@@ -196,6 +220,72 @@ pub fn of_sheet(reply: SheetReply) -> Kinds
         SheetReply::Refused(k) => Kinds {
             refusal: k,
             count: 0,
+        },
+    }
+}
+
+pub fn of_grant(reply: GrantReply) -> Granted
+    ensures { λ c. ⌜ c ≡ c-granted reply ⌝ }
+{
+    match reply {
+        GrantReply::Granted(count) => Granted { refusal: 0, count },
+        GrantReply::Refused(k) => Granted {
+            refusal: k,
+            count: 0,
+        },
+    }
+}
+
+pub fn of_revoke(reply: RevokeReply) -> Revoked
+    ensures { λ c. ⌜ c ≡ c-revoked reply ⌝ }
+{
+    match reply {
+        RevokeReply::Revoked(revoked) => Revoked {
+            refusal: 0,
+            revoked,
+        },
+        RevokeReply::Refused(k) => Revoked {
+            refusal: k,
+            revoked: 0,
+        },
+    }
+}
+
+pub fn of_party(reply: PartyReply) -> Party
+    ensures { λ c. ⌜ c ≡ c-party reply ⌝ }
+{
+    match reply {
+        PartyReply::Yes => Party {
+            refusal: 0,
+            answer: 1,
+            first: 0,
+            moved: 0,
+            split: 0,
+        },
+        PartyReply::Stale => Party {
+            refusal: 0,
+            answer: 2,
+            first: 0,
+            moved: 0,
+            split: 0,
+        },
+        PartyReply::Inserted {
+            first,
+            moved,
+            split,
+        } => Party {
+            refusal: 0,
+            answer: 3,
+            first: first.0,
+            moved,
+            split,
+        },
+        PartyReply::Refused(k) => Party {
+            refusal: k,
+            answer: 0,
+            first: 0,
+            moved: 0,
+            split: 0,
         },
     }
 }

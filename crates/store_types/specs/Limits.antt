@@ -1,4 +1,4 @@
--- The numbers that document 01 fixes, each named once. Assumes nothing: these are definitions.
+-- The numbers that document 01, and document 02 of rights, fix, each named once. Assumes nothing: these are definitions.
 use Prim.Native.Nat.{ℕ}
 
 -- stands for no tag, and as a place for the front of the book ("The book in words")
@@ -21,3 +21,20 @@ most-tags = 200000
 -- (calls/specs/Promise.antt: Height-most)
 abbrev pub most-levels : ℕ
 most-levels = 17
+
+-- parties are numbered from 1 to this (document 02, CR 6)
+abbrev pub most-party : ℕ
+most-party = 65535
+
+-- the rights: read, write, insert, and all of them added up
+abbrev pub read-right : ℕ
+read-right = 1
+
+abbrev pub write-right : ℕ
+write-right = 2
+
+abbrev pub insert-right : ℕ
+insert-right = 4
+
+abbrev pub all-rights : ℕ
+all-rights = 7

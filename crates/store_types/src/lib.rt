@@ -58,6 +58,34 @@ pub struct HeldPair {
     pub end: Label,
 }
 
+// Document 02, CR 6: what a party may do on a section, which is named by its begin tag's number. The rights are added up. A record
+// is the caller's, and may hold any words.
+#[repr(C)]
+pub struct Grant {
+    pub party: u32,
+    pub section: u32,
+    pub rights: u32,
+}
+
+// Parties are numbered from 1 to this.
+pub const MOST_PARTY: u32 = 65535;
+
+pub const READ: u32 = 1;
+
+pub const WRITE: u32 = 2;
+
+pub const INSERT: u32 = 4;
+
+pub const ALL_RIGHTS: u32 = READ + WRITE + INSERT;
+
+// What a party asks for: the pair that it shows, a tag, one right, and a kind, which only the right to insert looks at.
+pub struct Act {
+    pub pair: HeldPair,
+    pub tag: TagId,
+    pub right: u32,
+    pub kind: u8,
+}
+
 pub enum LoadReply {
     Loaded { tags: u32, height: u32 },
     Refused(u32),
@@ -100,5 +128,26 @@ pub enum ListReply {
 
 pub enum WriteReply {
     Written(u32),
+    Refused(u32),
+}
+
+pub enum GrantReply {
+    Granted(usize),
+    Refused(u32),
+}
+
+pub enum RevokeReply {
+    Revoked(usize),
+    Refused(u32),
+}
+
+pub enum PartyReply {
+    Yes,
+    Stale,
+    Inserted {
+        first: TagId,
+        moved: u32,
+        split: u32,
+    },
     Refused(u32),
 }

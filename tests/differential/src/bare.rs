@@ -55,14 +55,14 @@ impl Bare {
 
     /// An accepted call after the load, or what is wrong with the numbers that it replied.
     pub fn accepted(&mut self, call: &Call, reply: &Reply) -> Result<(), String> {
-        match *call {
-            Call::Insert { place, .. } | Call::InsertSheet { place, .. } => {
-                if reply[1] as usize != self.list.len() {
-                    return Err(format!("bare list: first new tag {}, not {}", reply[1], self.list.len()));
-                }
-                self.insert(call.inserts().unwrap_or_default(), place);
-                self.moved += u64::from(reply[2]);
+        if let Some(it) = call.insertion(reply) {
+            if it.first as usize != self.list.len() {
+                return Err(format!("bare list: first new tag {}, not {}", it.first, self.list.len()));
             }
+            self.insert(it.kinds, it.place);
+            self.moved += u64::from(it.moved);
+        }
+        match *call {
             Call::Mark { tag } => {
                 let count = self.mark(tag);
                 if reply[1] != count {
@@ -187,11 +187,9 @@ fn differing<'a>(field: usize, before: &'a [u32], after: &'a [u32]) -> impl Iter
 /// there before and are unmarked in both, and their kinds.
 pub fn counts(call: &Call, reply: &Reply, before: &[u32], after: &[u32]) -> Result<(), String> {
     let unmarked = |tag: &usize| [before, after].iter().all(|words| words[HEADER + RECORD * tag + KIND] < MARK);
-    let (count, said) = match call {
-        Call::Insert { .. } | Call::InsertSheet { .. } => {
-            (differing(LABEL, before, after).filter(unmarked).count(), reply[2])
-        }
-        Call::Mark { .. } => (differing(KIND, before, after).count(), reply[1]),
+    let (count, said) = match (call, call.insertion(reply)) {
+        (_, Some(it)) => (differing(LABEL, before, after).filter(unmarked).count(), it.moved),
+        (Call::Mark { .. }, None) => (differing(KIND, before, after).count(), reply[1]),
         _ => return Ok(()),
     };
     if count == said as usize { Ok(()) } else { Err(format!("the words differ at {count} tags, not at {said}")) }

@@ -49,11 +49,13 @@ pub fn load_refusal(s: u32, r: u32, kinds: &[u8], words: usize) -> u32 {
 }
 
 impl Bare {
-    /// Of a call on a sound store of so many words. None for a question, whose answer is a matter of labels, and for a
-    /// reading, which is one of the file.
+    /// Of a call on a sound store of so many words. None for a question and a party's call, whose answer is a matter of
+    /// labels, for a reading, which is one of the file, and for what is one of grants.
     pub fn refusal(&self, call: &Call, words: usize) -> Option<u32> {
         match *call {
-            Call::Load { s, r, ref kinds, .. } => Some(load_refusal(s, r, kinds, words)),
+            Call::Load { s, r, ref kinds, .. } | Call::LoadWithGrants { s, r, ref kinds, .. } => {
+                Some(load_refusal(s, r, kinds, words))
+            }
             Call::Insert { kind, place } => {
                 let wrong = first(&[(kind != BEGIN && kind != TEXT, 4)]);
                 Some(self.insert_refusal(wrong, if kind == BEGIN { 2 } else { 1 }, place, words))
@@ -67,7 +69,9 @@ impl Bare {
             }
             Call::List { begin, tags, labels } => Some(self.list_refusal(begin, tags.min(labels))),
             Call::Write { bytes } => Some(first(&[(bytes < bytes_for(self.list.len()), 16)])),
-            Call::Question { .. } | Call::Read { .. } => None,
+            Call::Question { .. } | Call::Party { .. } => None,
+            Call::Read { .. } | Call::ReadWithGrants { .. } => None,
+            Call::Grant { .. } | Call::Revoke { .. } => None,
         }
     }
 

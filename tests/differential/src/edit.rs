@@ -1,7 +1,7 @@
 //! Edits of a script for the book program that leave the rest of it say what it said.
 
+use crate::case_edit::lowered;
 use crate::script;
-use crate::shrink::lowered;
 use reference::{Command, Fault, Program};
 
 /// The lines of a script with their line feeds, so that joined they are the script again.

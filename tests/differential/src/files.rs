@@ -13,7 +13,7 @@ use reference::{HEADER, NO_TAG, RECORD, bytes_for};
 
 /// A stop in a history: the book is written, the words are cleared, and the file is read back.
 pub fn stop(session: &mut Session, rng: &mut Rng) -> Result<(), Failure> {
-    let n = session.words.get(4).map_or(0, |n| (*n as usize).min(session.words.len() / RECORD));
+    let n = session.system.words.get(4).map_or(0, |n| (*n as usize).min(session.system.words.len() / RECORD));
     let room = bytes_for(n);
     session.step(Call::Write { bytes: room - 1 - rng.below(room) })?;
     let written = session.step(Call::Write { bytes: room + rng.below(9) })?;
@@ -130,7 +130,7 @@ pub fn nested(subject: &dyn Subject, tally: &mut Tally, deep: usize, texts: usiz
     let kinds = [vec![BEGIN; deep], vec![TEXT; texts], vec![END; deep]].concat();
     session.step(Call::Load { s: 2, r: 2, book: 7, kinds })?;
     stop(&mut session, &mut Rng::new(n as u64))?;
-    let words = session.words.clone();
+    let words = session.system.words.clone();
     let file = |change: &dyn Fn(&mut [u32])| {
         let mut words = words.clone();
         change(&mut words);
@@ -169,7 +169,7 @@ pub fn great(subject: &dyn Subject, tally: &mut Tally, rng: &mut Rng) -> Result<
     let mut session = Session::new(subject, tally, vec![0; HEADER + RECORD * most]);
     session.step(Call::Load { s: 2, r: 2, book: 7, kinds: vec![TEXT; most] })?;
     stop(&mut session, rng)?;
-    let more = one_more(&session.words);
+    let more = one_more(&session.system.words);
     let enough = HEADER + RECORD * (most + 1);
     [enough - 1, enough].into_iter().try_for_each(|len| read(subject, tally, vec![0; len], more.clone()))
 }

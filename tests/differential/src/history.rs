@@ -4,8 +4,9 @@ use crate::call::Call;
 use crate::insert_sheets;
 use crate::kinds::{self, BEGIN, END, TEXT};
 use crate::session::{Failure, Session};
+use crate::view::{Pair, View};
 use draw::Rng;
-use reference::{Fault, HEADER, Kind, NO_TAG, RECORD, Tag};
+use reference::{HEADER, Kind, NO_TAG, RECORD};
 
 /// Where the insertions of a walk go.
 #[derive(Clone, Copy, Debug)]
@@ -23,43 +24,6 @@ enum Pattern {
     /// After one tag, marking each new one: full nodes of marked tags.
     MarkEach(u32),
     Anywhere,
-}
-
-/// What a walk knows of the store, read afresh from the words before each call.
-struct View {
-    order: Vec<usize>,
-    tags: Vec<Tag>,
-    book: u32,
-}
-
-impl View {
-    fn of(words: &[u32]) -> Option<View> {
-        let book = reference::read(words, Fault::None)?;
-        Some(View { order: book.order(), tags: book.tags, book: book.number })
-    }
-
-    fn any(&self, rng: &mut Rng) -> u32 {
-        rng.below(self.tags.len()) as u32
-    }
-
-    fn last(&self) -> u32 {
-        self.order.last().map_or(NO_TAG, |&tag| tag as u32)
-    }
-
-    /// An unmarked tag of the kind, if a few draws find one.
-    fn unmarked(&self, rng: &mut Rng, kind: Option<Kind>) -> Option<u32> {
-        (0..8).map(|_| self.any(rng)).find(|&tag| {
-            self.tags.get(tag as usize).is_some_and(|it| !it.marked && kind.is_none_or(|kind| it.kind == kind))
-        })
-    }
-
-    /// A tag of the element but its end: mostly one inside, where there is one.
-    fn inside(&self, rng: &mut Rng, begin: u32) -> u32 {
-        let Some(tag) = self.tags.get(begin as usize) else { return NO_TAG };
-        let at = |x: usize| self.order.iter().position(|&it| it == x).unwrap_or(0);
-        let (from, to) = (at(begin as usize), at(tag.mate));
-        self.order[from + rng.below(to.saturating_sub(from).max(1))] as u32
-    }
 }
 
 fn pattern(rng: &mut Rng, view: &View) -> Pattern {
@@ -103,33 +67,19 @@ fn place(rng: &mut Rng, pattern: Pattern, view: &View, step: usize) -> u32 {
     }
 }
 
-/// A tag that is often there, sometimes just past the last, sometimes far out.
-fn odd_tag(rng: &mut Rng, view: &View) -> u32 {
-    let n = view.tags.len() as u32;
-    let (any, far) = (view.any(rng), rng.word());
-    rng.pick(&[any, any, n, n.wrapping_sub(1), n + 1, 1 << 31, NO_TAG, NO_TAG - 1, far])
-}
-
 /// A call that is not the pattern's insertion.
-fn other(rng: &mut Rng, view: &View, held: &[[u32; 4]]) -> Call {
+pub(crate) fn other(rng: &mut Rng, view: &View, held: &[Pair]) -> Call {
     let n = view.tags.len();
     match rng.below(7) {
-        0 => Call::Insert { kind: rng.pick(&[0, END, 4, 17, 19, 255, BEGIN, TEXT]), place: odd_tag(rng, view) },
-        6 => Call::InsertSheet { kinds: insert_sheets::any(rng), place: odd_tag(rng, view) },
-        1 => Call::Mark { tag: odd_tag(rng, view) },
-        2 => Call::Hold { tag: odd_tag(rng, view) },
+        0 => Call::Insert { kind: rng.pick(&[0, END, 4, 17, 19, 255, BEGIN, TEXT]), place: view.odd(rng) },
+        6 => Call::InsertSheet { kinds: insert_sheets::any(rng), place: view.odd(rng) },
+        1 => Call::Mark { tag: view.odd(rng) },
+        2 => Call::Hold { tag: view.odd(rng) },
         3 | 4 if !held.is_empty() => {
-            let [mut book, mut tag, mut start, mut end] = held[rng.below(held.len())];
-            // Mostly the pair as held; sometimes one word of it is another.
-            match rng.below(12) {
-                0 => book = book.wrapping_add(1),
-                1 => tag = odd_tag(rng, view),
-                2 => start = start.wrapping_add(1),
-                3 => end = end.wrapping_sub(1),
-                _ => {}
-            }
+            let pair = rng.pick(held);
+            let [book, tag, start, end] = view.nearly(rng, pair);
             let d = match rng.below(5) {
-                0 => odd_tag(rng, view),
+                0 => view.odd(rng),
                 1 => view.any(rng),
                 _ => view.inside(rng, tag),
             };
@@ -137,7 +87,7 @@ fn other(rng: &mut Rng, view: &View, held: &[[u32; 4]]) -> Call {
         }
         3 => Call::Question { book: view.book, tag: view.any(rng), start: 0, end: 0, d: view.any(rng) },
         _ => {
-            let begin = if rng.percent(40) { NO_TAG } else { odd_tag(rng, view) };
+            let begin = if rng.percent(40) { NO_TAG } else { view.odd(rng) };
             let short = rng.below(n + 1);
             let lens = [n, n, n + 2, short];
             Call::List { begin, tags: rng.pick(&lens), labels: rng.pick(&lens) }
@@ -147,16 +97,16 @@ fn other(rng: &mut Rng, view: &View, held: &[[u32; 4]]) -> Call {
 
 /// So many calls on a sound store.
 pub fn walk(session: &mut Session, rng: &mut Rng, steps: usize) -> Result<(), Failure> {
-    let Some(view) = View::of(&session.words) else { return Ok(()) };
+    let Some(view) = View::of(&session.system.words) else { return Ok(()) };
     let mut pattern_now = pattern(rng, &view);
     let elements = rng.pick(&[0, 10, 50, 100]);
     // In half of the walks many tags are marked: they move, and do not count as moved.
     let marks = rng.pick(&[2, 2, 20, 50]);
     let sheets = rng.pick(&[0, 5, 25]);
-    let mut held: Vec<[u32; 4]> = Vec::new();
+    let mut held: Vec<Pair> = Vec::new();
     let mut full = 0;
     for step in 0..steps {
-        let Some(view) = View::of(&session.words) else { return Ok(()) };
+        let Some(view) = View::of(&session.system.words) else { return Ok(()) };
         if rng.percent(15) {
             let call = other(rng, &view, &held);
             session.step(call)?;

@@ -34,8 +34,8 @@ pub fn check(
     }
     let (mut words, mut behind, mut split) = (before.to_vec(), place, 0);
     for _ in 0..tags {
-        let lent = Lent { given: &mut [], words: &mut words, tags: &mut [], labels: &mut [], bytes: &mut [] };
-        let [refusal, first, _, height, _] = subject.call(&Call::Insert { kind: TEXT, place: behind }, lent);
+        let call = Call::Insert { kind: TEXT, place: behind };
+        let [refusal, first, _, height, _] = subject.call(&call, Lent::only(&mut words, &mut 0));
         if refusal != 0 {
             return Err(format!("in turn: text {first} of a sheet that was accepted gives {refusal}"));
         }

@@ -22,7 +22,7 @@ pub fn any(rng: &mut Rng) -> Vec<u8> {
 }
 
 /// Over the words as they are and as many 9s as so many tags more take.
-fn with_room(words: &[u32], more: usize) -> Vec<u32> {
+pub(crate) fn with_room(words: &[u32], more: usize) -> Vec<u32> {
     [words, &vec![9; RECORD * more]].concat()
 }
 

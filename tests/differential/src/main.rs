@@ -1,6 +1,6 @@
-//! `cargo run --release -p differential -- SEED SIZE [calls|files|lines|sheets]`: compares the verified store with the
-//! reference, by calls of the C interface, by files, by lines of the book program and by sheets that are read, or only by
-//! one of them.
+//! `cargo run --release -p differential -- SEED SIZE [calls|files|rights|sheets|lines]`: compares the verified store with the
+//! reference, by calls of the C interface, by files, by rights of parties, by sheets that are read and by lines of the book
+//! program, or only by one of them.
 //!
 //! SIZE is the number of random histories of each, and of trees; 225 meet every s and r. A difference is printed as a short
 //! script or text and ends the run with status 1. The library is linked (vekhturop-sys); the program is the one that
@@ -21,7 +21,7 @@ use std::process::ExitCode;
 use std::time::Instant;
 
 /// What may be compared alone.
-const PARTS: [&str; 4] = ["calls", "files", "sheets", "lines"];
+const PARTS: [&str; 5] = ["calls", "files", "rights", "sheets", "lines"];
 
 struct Run {
     seed: u64,
@@ -56,7 +56,7 @@ fn alike(what: &str, since: Instant, tally: impl Iterator<Item = (&'static str, 
     let all: u64 = rows.iter().map(|(.., count)| count).sum();
     println!("{all} {what} alike in {} seconds", since.elapsed().as_secs());
     for (name, reply, count) in rows {
-        println!("{name:>9} {reply:>5} {count:>9}");
+        println!("{name:>11} {reply:>5} {count:>9}");
     }
 }
 
@@ -118,6 +118,9 @@ fn compare(verified: &dyn Verified, program: Option<&dyn LineProgram>, run: &Run
     }
     if run.has("files") {
         by_calls("calls about files", plan::files, verified, run)?;
+    }
+    if run.has("rights") {
+        by_calls("calls about rights", plan::rights, verified, run)?;
     }
     if run.has("sheets") {
         by_sheets(verified, run)?;

@@ -11,6 +11,7 @@ use crate::limits;
 use crate::pieces::Pieces;
 use crate::printed;
 use crate::program::{LineProgram, compare};
+use crate::rights;
 use crate::scripts;
 use crate::session::{Failure, Session, Tally};
 use crate::shape;
@@ -167,6 +168,46 @@ pub fn files(subject: &dyn Subject, tally: &mut Tally, seed: u64, size: usize) -
     flawed_files(subject, tally, rng, size / 2 + 4)?;
     files::deep(subject, tally)?;
     files::great(subject, tally, rng)
+}
+
+/// So many systems with a list of grants, over sound stores of random shape, and now and then over words that are none. Half
+/// of them have the smallest s and r.
+pub fn systems(subject: &dyn Subject, tally: &mut Tally, rng: &mut Rng, size: usize) -> Result<(), Failure> {
+    for &(s, r) in pairs(rng).iter().cycle().take(size) {
+        let (s, r) = if rng.percent(50) { (2 + rng.below(2) as u32, 2) } else { (s, r) };
+        let most = rng.pick(&[2, 6, 9, 12, 40, 100]);
+        let mut words = rights::any_store(rng, s, r, most);
+        let (room, fill) = (rng.pick(&[0, 9, 40, 150, 300]), rng.word());
+        words.resize(words.len() + room, fill);
+        if rng.percent(8) {
+            words = ground(rng, most);
+            words.truncate(rng.pick(&[7, usize::MAX, usize::MAX]));
+        }
+        let (start, steps) = (rights::any_system(rng, words), rng.pick(&[8, 25, 60]));
+        rights::walk(&mut Session::new(subject, tally, start), rng, steps)?;
+    }
+    Ok(())
+}
+
+/// So many small sound stores, with rights on all their sections.
+pub fn rights_everywhere(subject: &dyn Subject, tally: &mut Tally, rng: &mut Rng, size: usize) -> Result<(), Failure> {
+    small_stores(rng, size, &mut |rng, sound| rights::everywhere(subject, tally, rng, sound))
+}
+
+/// So many small sound stores, each damaged in all ways, with rights on them.
+pub fn damaged_rights(subject: &dyn Subject, tally: &mut Tally, rng: &mut Rng, size: usize) -> Result<(), Failure> {
+    small_stores(rng, size, &mut |rng, sound| rights::damage(subject, tally, rng, sound))
+}
+
+/// The comparison of rights.
+pub fn rights(subject: &dyn Subject, tally: &mut Tally, seed: u64, size: usize) -> Result<(), Failure> {
+    let mut rng = Rng::new(seed.rotate_left(48));
+    let rng = &mut rng;
+    systems(subject, tally, rng, 32 * size)?;
+    rights_everywhere(subject, tally, rng, size / 2 + 4)?;
+    damaged_rights(subject, tally, rng, size / 8 + 4)?;
+    rights::labels(subject, tally, rng, if size < 225 { 1_100 } else { 4_000 })?;
+    rights::tags_at_most(subject, tally)
 }
 
 /// Runs a script on the program, cut into pieces by chance.

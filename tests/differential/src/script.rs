@@ -3,6 +3,7 @@
 
 use crate::call::{Call, Case};
 use crate::kinds::{BEGIN, END, TEXT};
+use crate::system::System;
 use reference::{HEADER, LONGEST_LINE, NO_TAG, PROGRAM_TAGS, RECORD};
 
 const PROGRAM_WORDS: usize = HEADER + RECORD * PROGRAM_TAGS;
@@ -40,7 +41,7 @@ fn line(call: &Call) -> Option<String> {
 }
 
 fn starts_as_the_program(case: &Case) -> bool {
-    case.start.len() == PROGRAM_WORDS && case.start.iter().all(|word| *word == 0)
+    case.start == System::from(vec![0; PROGRAM_WORDS])
 }
 
 /// The case as an input of the book program, if it is one. Where the last call is no listing, one is added: it shows
@@ -53,17 +54,27 @@ pub fn input(case: &Case) -> Option<String> {
     starts_as_the_program(case).then(|| lines.join("\n") + "\n")
 }
 
+fn letters_or_bytes(kinds: &[u8]) -> String {
+    letters(kinds).unwrap_or_else(|| format!("{kinds:?}"))
+}
+
+fn digits(file: &[u8]) -> String {
+    file.iter().map(|byte| format!("{byte:02x}")).collect()
+}
+
 /// A call that no line says. A file's bytes stand as C and Rust write them in hexadecimal, without spaces, a sheet's kinds by
 /// their letters, where all have one.
 fn said(call: &Call) -> String {
     match call {
         Call::InsertSheet { kinds, place } => {
-            let kinds = letters(kinds).unwrap_or_else(|| format!("{kinds:?}"));
-            format!("# InsertSheet {{ kinds: {kinds}, place: {} }}", tag(*place))
+            format!("# InsertSheet {{ kinds: {}, place: {} }}", letters_or_bytes(kinds), tag(*place))
         }
-        Call::Read { file, cleared } => {
-            let file: String = file.iter().map(|byte| format!("{byte:02x}")).collect();
-            format!("# Read {{ file: {file}, cleared: {cleared:?} }}")
+        Call::LoadWithGrants { s, r, book, kinds } => {
+            format!("# LoadWithGrants {{ s: {s}, r: {r}, book: {book}, kinds: {} }}", letters_or_bytes(kinds))
+        }
+        Call::Read { file, cleared } => format!("# Read {{ file: {}, cleared: {cleared:?} }}", digits(file)),
+        Call::ReadWithGrants { file, cleared } => {
+            format!("# ReadWithGrants {{ file: {}, cleared: {cleared:?} }}", digits(file))
         }
         _ => format!("# {call:?}"),
     }
@@ -72,11 +83,15 @@ fn said(call: &Call) -> String {
 /// The case for a reader, whole.
 pub fn script(case: &Case) -> String {
     let mut lines = Vec::new();
-    if case.start.len() != PROGRAM_WORDS {
-        lines.push(format!("# over {} words; the program has {PROGRAM_WORDS}", case.start.len()));
+    let System { words, grants, count } = &case.start;
+    if words.len() != PROGRAM_WORDS {
+        lines.push(format!("# over {} words; the program has {PROGRAM_WORDS}", words.len()));
     }
-    if case.start.iter().any(|word| *word != 0) {
-        lines.push(format!("# over these words: {:?}", case.start));
+    if words.iter().any(|word| *word != 0) {
+        lines.push(format!("# over these words: {words:?}"));
+    }
+    if !grants.is_empty() || *count != 0 {
+        lines.push(format!("# with these grants (party, section, rights), count {count}: {grants:?}"));
     }
     lines.extend(case.calls.iter().map(|call| line(call).unwrap_or_else(|| said(call))));
     lines.join("\n")

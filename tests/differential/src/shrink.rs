@@ -1,46 +1,23 @@
-//! Makes a failing case short: plain words to start from, small s and r, fewer calls, fewer kinds, single texts, small files.
+//! Makes a failing case short: plain words to start from, few grants, small s and r, fewer calls, fewer kinds, single texts,
+//! small files.
 
 use crate::call::{Call, Case, Reply};
+use crate::case_edit::{forget, held_again, loaded, reference};
 use crate::kinds::TEXT;
 use crate::session::replay;
-use crate::subject::{Lent, Reference, Subject};
+use crate::subject::Subject;
+use crate::system::System;
 use reference::{HEADER, NO_TAG, PROGRAM_TAGS, RECORD, Store, bytes_for};
 
 /// Replays of one shrinking, so that a long case cannot take for ever.
 const PATIENCE: usize = 2_000;
 
-/// The number of a tag as if `many` tags from `first` on had never been: the tags after them have lower numbers, and
-/// what stood at one of them now stands at the place.
-pub(crate) fn lowered(tag: u32, first: u32, many: u32, place: u32) -> u32 {
-    match tag {
-        NO_TAG => tag,
-        _ if tag >= first + many => tag - many,
-        _ if tag >= first => place,
-        _ => tag,
-    }
-}
-
-/// Renames tags up to the next load.
-fn forget(calls: &mut [Call], first: u32, many: u32, place: u32) {
-    let lower = |tag: &mut u32| *tag = lowered(*tag, first, many, place);
-    for call in calls.iter_mut().take_while(|call| !matches!(call, Call::Load { .. })) {
-        match call {
-            Call::Insert { place, .. } | Call::InsertSheet { place, .. } => lower(place),
-            Call::Mark { tag } | Call::Hold { tag } => lower(tag),
-            Call::List { begin, .. } => lower(begin),
-            Call::Question { tag, d, .. } => {
-                lower(tag);
-                lower(d);
-            }
-            Call::Load { .. } | Call::Write { .. } | Call::Read { .. } => {}
-        }
-    }
-}
-
 /// The kinds of the call, if it is a load or a sheet.
 fn kinds_of(case: &mut Case, index: usize) -> Option<&mut Vec<u8>> {
     match case.calls.get_mut(index) {
-        Some(Call::Load { kinds, .. } | Call::InsertSheet { kinds, .. }) => Some(kinds),
+        Some(Call::Load { kinds, .. } | Call::LoadWithGrants { kinds, .. } | Call::InsertSheet { kinds, .. }) => {
+            Some(kinds)
+        }
         _ => None,
     }
 }
@@ -65,8 +42,14 @@ struct Shrinker<'a> {
 }
 
 impl Shrinker<'_> {
+    /// Takes the case over if it still fails, or does with pairs that are held again.
+    fn try_case(&mut self, case: Case) -> bool {
+        let again = || held_again(&case).filter(|again| *again != case);
+        self.take(case.clone()) || again().is_some_and(|again| self.take(again))
+    }
+
     /// Takes the case over if it still fails, and cuts off what comes after the failure.
-    fn try_case(&mut self, mut case: Case) -> bool {
+    fn take(&mut self, mut case: Case) -> bool {
         if self.replays >= PATIENCE {
             return false;
         }
@@ -88,7 +71,7 @@ impl Shrinker<'_> {
         for (small_s, small_r) in SMALL {
             let mut case = self.best.clone();
             for call in &mut case.calls {
-                if let Call::Load { s, r, .. } = call {
+                if let Call::Load { s, r, .. } | Call::LoadWithGrants { s, r, .. } = call {
                     (*s, *r) = (small_s, small_r);
                 }
             }
@@ -100,25 +83,17 @@ impl Shrinker<'_> {
 
     /// What the reference replies to a call.
     fn reply(&self, index: usize) -> Reply {
-        let mut words = self.best.start.clone();
-        let mut reply = [2; 5];
-        for call in &self.best.calls[..=index] {
-            let (tags, labels) = call.lists();
-            let (tags, labels, bytes) = (&mut vec![0; tags], &mut vec![0; labels], &mut vec![0; call.bytes()]);
-            words = call.over(&words);
-            let lent = Lent { given: &mut call.given().to_vec(), words: &mut words, tags, labels, bytes };
-            reply = Reference::right().call(call, lent);
-        }
-        reply
+        let before = self.best.calls[..index].iter();
+        let system = before.fold(self.best.start.clone(), |system, call| reference(call, &system).system);
+        reference(&self.best.calls[index], &system).reply
     }
 
     /// Leaves out one call. Where it was an accepted insertion, the calls after it are told so.
     fn without(&self, index: usize) -> Case {
         let mut case = self.best.clone();
         let (reply, call) = (self.reply(index), case.calls.remove(index));
-        if let (Call::Insert { place, .. } | Call::InsertSheet { place, .. }, 0) = (&call, reply[0]) {
-            let tags = call.inserts().unwrap_or_default().len();
-            forget(&mut case.calls[index..], reply[1], tags as u32, *place);
+        if let Some(it) = call.insertion(&reply) {
+            forget(&mut case, index, it.first, it.kinds.len() as u32, it.place);
         }
         case
     }
@@ -142,6 +117,7 @@ impl Shrinker<'_> {
                 match case.calls.get_mut(index) {
                     Some(Call::Insert { kind, place }) => (*kind, *place) = (plain, plain_place.unwrap_or(*place)),
                     Some(Call::InsertSheet { place, .. }) => *place = plain_place.unwrap_or(*place),
+                    Some(Call::Party { kind, .. }) => *kind = plain,
                     _ => {}
                 }
                 if case != self.best {
@@ -211,7 +187,7 @@ impl Shrinker<'_> {
             kinds.drain(at.min(len)..(at + many).min(len));
         }
         let place = at.checked_sub(1).map_or(front, |before| first + before as u32);
-        forget(&mut case.calls[index + 1..], first + at as u32, many as u32, place);
+        forget(&mut case, index + 1, first + at as u32, many as u32, place);
         case
     }
 
@@ -219,7 +195,7 @@ impl Shrinker<'_> {
     fn plainer_loads(&mut self) {
         let mut case = self.best.clone();
         for call in &mut case.calls {
-            if let Call::Load { book, .. } = call {
+            if let Call::Load { book, .. } | Call::LoadWithGrants { book, .. } = call {
                 *book = 7;
             }
         }
@@ -232,14 +208,18 @@ impl Shrinker<'_> {
         self.try_case(case);
     }
 
-    /// The files of small books in place of others.
+    /// No bytes, and the files of small books, in place of others.
     fn plainer_files(&mut self) {
         let files = [&[][..], &[TEXT], &[TEXT; 4]].map(file_of);
         for index in 0..self.best.calls.len() {
-            for file in &files {
+            for file in [&vec![]].into_iter().chain(&files) {
                 let mut case = self.best.clone();
                 match case.calls.get_mut(index) {
-                    Some(Call::Read { file: it, .. }) if it.len() > file.len() => it.clone_from(file),
+                    Some(Call::Read { file: it, .. } | Call::ReadWithGrants { file: it, .. })
+                        if it.len() > file.len() =>
+                    {
+                        it.clone_from(file)
+                    }
                     _ => break,
                 }
                 if self.try_case(case) {
@@ -249,12 +229,17 @@ impl Shrinker<'_> {
         }
     }
 
+    fn try_words(&mut self, words: Vec<u32>) -> bool {
+        let mut case = self.best.clone();
+        case.start.words = words;
+        self.try_case(case)
+    }
+
     /// Starts from the words of the book program and lends lists as long as it does, where the failure allows it.
     fn plainer_start(&mut self) {
         let program = vec![0; HEADER + RECORD * PROGRAM_TAGS];
-        if !self.try_case(Case { start: program, ..self.best.clone() }) {
-            let zeros = vec![0; self.best.start.len()];
-            self.try_case(Case { start: zeros, ..self.best.clone() });
+        if !self.try_words(program) {
+            self.try_words(vec![0; self.best.start.words.len()]);
         }
         let mut case = self.best.clone();
         for call in &mut case.calls {
@@ -265,15 +250,41 @@ impl Shrinker<'_> {
         self.try_case(case);
     }
 
+    /// Loads in place of a store that is found in words or in a file.
+    fn loads(&mut self) {
+        for index in (0..=self.best.calls.len()).rev() {
+            if let Some(case) = loaded(&self.best, index) {
+                self.try_case(case);
+            }
+        }
+    }
+
     /// Fewer words behind a store that is found in them. Where they are all 0, as the program's are, their number is as good
     /// as any.
     fn fewer_words(&mut self) {
-        let mut run = self.best.start.len() / 2;
-        while run > 0 && self.best.start.iter().any(|word| *word != 0) {
-            let mut case = self.best.clone();
-            case.start.truncate(case.start.len().saturating_sub(run));
-            if !self.try_case(case) {
+        let mut run = self.best.start.words.len() / 2;
+        while run > 0 && self.best.start.words.iter().any(|word| *word != 0) {
+            let left = self.best.start.words.len().saturating_sub(run);
+            if !self.try_words(self.best.start.words[..left].to_vec()) {
                 run /= 2;
+            }
+        }
+    }
+
+    /// No list of grants, or a shorter one.
+    fn fewer_grants(&mut self) {
+        let start = System::from(self.best.start.words.clone());
+        if self.best.start == start || self.try_case(Case { start, ..self.best.clone() }) {
+            return;
+        }
+        let mut at = 0;
+        while at < self.best.start.grants.len() {
+            let mut case = self.best.clone();
+            let live = case.start.live().len();
+            case.start.grants.remove(at);
+            case.start.count -= usize::from(at < live);
+            if !self.try_case(case) {
+                at += 1;
             }
         }
     }
@@ -284,11 +295,13 @@ pub fn shrink(subject: &dyn Subject, case: Case, what: String) -> (Case, String)
     let mut it = Shrinker { subject, best: case.clone(), what, replays: 0 };
     it.try_case(case);
     it.plainer_start();
+    it.loads();
     it.fewer_words();
     loop {
         let before = it.best.clone();
         it.smaller_trees();
         it.plainer_loads();
+        it.fewer_grants();
         it.fewer_calls();
         it.single_calls();
         it.fewer_kinds();

@@ -11,7 +11,7 @@ use differential::report;
 use differential::script::{input, script};
 use differential::session::{Failure, Tally, replay};
 use differential::shrink::shrink;
-use differential::subject::{Lent, Reference, Subject};
+use differential::subject::{Lent, Reference, Spoiled, Subject};
 use draw::Rng;
 use reference::{Blunder, Clause, Fault, HEADER, NO_TAG, Program, RECORD, Store};
 
@@ -145,7 +145,7 @@ fn a_sheet_is_set_beside_single_texts() {
 fn a_report_can_be_replayed() {
     let load = Call::Load { s: 2, r: 2, book: 7, kinds: vec![3] };
     let insert = Call::Insert { kind: 3, place: NO_TAG };
-    let case = Case { start: vec![0; HEADER + RECORD * 2_000], calls: vec![load, insert] };
+    let case = Case { start: vec![0; HEADER + RECORD * 2_000].into(), calls: vec![load, insert] };
     let printed = report::of_calls(&case, "a difference", "test-calls");
     let (lines, rest) = printed.split_once("# replay: ./book ").expect("it names a file");
     assert_eq!(lines, "load 2 2 7 T\ntext front\nlist\n# call 2 differs: a difference (test-calls)\n");
@@ -154,26 +154,15 @@ fn a_report_can_be_replayed() {
     assert_eq!(std::fs::read_to_string(path).expect("the file is there"), "load 2 2 7 T\ntext front\nlist\n");
     std::fs::remove_file(path).expect("it can be removed");
 
-    let case = Case { start: vec![1; 8], calls: vec![Call::Hold { tag: 0 }] };
+    let case = Case { start: vec![1; 8].into(), calls: vec![Call::Hold { tag: 0 }] };
     let printed = report::of_calls(&case, "a difference", "test-calls");
     assert!(printed.contains("# over these words: [1, 1, 1, 1, 1, 1, 1, 1]\n# Hold { tag: 0 }\n"), "{printed}");
     assert!(!printed.contains("replay"), "{printed}");
 }
 
-/// The reference with something done to the lent slices after each call.
-struct Spoiled(fn(&Reply, Lent));
-
-impl Subject for Spoiled {
-    fn call(&self, call: &Call, mut lent: Lent) -> Reply {
-        let reply = Reference::right().call(call, lent.again());
-        (self.0)(&reply, lent);
-        reply
-    }
-}
-
 #[test]
 fn writing_where_a_call_must_not_is_caught() {
-    let after_refusal = Spoiled(|reply, lent| {
+    let after_refusal = Spoiled(|reply, _, lent| {
         if let (8, Some(last)) = (reply[0], lent.words.last_mut()) {
             *last ^= 1;
         }
@@ -181,14 +170,14 @@ fn writing_where_a_call_must_not_is_caught() {
     let failure = histories(&after_refusal, 5).expect_err("a refused call wrote");
     assert_eq!(failure.what, "refusal 8 changed words");
 
-    let past_the_store = Spoiled(|reply, lent| {
+    let past_the_store = Spoiled(|reply, _, lent| {
         if let (0, Some(last)) = (reply[0], lent.words.last_mut()) {
             *last ^= 1;
         }
     });
     histories(&past_the_store, 5).expect_err("words past the store were written");
 
-    let past_the_list = Spoiled(|_, lent| {
+    let past_the_list = Spoiled(|_, _, lent| {
         if let Some(last) = lent.tags.last_mut() {
             *last = 0;
         }
@@ -196,7 +185,7 @@ fn writing_where_a_call_must_not_is_caught() {
     let failure = histories(&past_the_list, 5).expect_err("a list was written past its count");
     assert!(failure.what.starts_with("tags["), "{}", failure.what);
 
-    let into_the_kinds = Spoiled(|_, lent| {
+    let into_the_kinds = Spoiled(|_, _, lent| {
         if let Some(first) = lent.given.first_mut() {
             *first += 16;
         }

@@ -7,7 +7,7 @@ use differential::plan;
 use differential::script::script;
 use differential::session::{Failure, Session, Tally, replay};
 use differential::shrink::shrink;
-use differential::subject::{Lent, Reference, Subject};
+use differential::subject::{Lent, Reference, Spoiled, Subject};
 use draw::Rng;
 use reference::{Clause, Fault, HEADER, Lapse, RECORD};
 
@@ -66,17 +66,6 @@ fn every_overlooked_clause_is_caught_in_words_and_in_files() {
             let what = caught(&Overlooks(clause, name)).what;
             assert!(what.ends_with("the reference says [2, 0, 0, 0, 0]"), "{clause:?}, {name}: {what}");
         }
-    }
-}
-
-/// The reference with something done to the lent slices after each call.
-struct Spoiled(fn(&Reply, &Call, Lent));
-
-impl Subject for Spoiled {
-    fn call(&self, call: &Call, mut lent: Lent) -> Reply {
-        let reply = Reference::right().call(call, lent.again());
-        (self.0)(&reply, call, lent);
-        reply
     }
 }
 

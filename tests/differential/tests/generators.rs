@@ -202,7 +202,7 @@ fn a_script_is_what_the_program_reads() {
         Call::List { begin: NO_TAG, tags: 2_000, labels: 2_000 },
         Call::Hold { tag: 1 },
     ];
-    let mut case = Case { start: vec![0; HEADER + RECORD * 2_000], calls };
+    let mut case = Case { start: vec![0; HEADER + RECORD * 2_000].into(), calls };
     let lines = "load 2 2 7 BBEBEE\nload 2 2 7\ntext 2\nelement front\nmark 0\nlist\n";
     assert_eq!(script(&case), format!("{lines}# Hold {{ tag: 1 }}"));
     assert_eq!(input(&case), None);
@@ -218,7 +218,7 @@ fn a_script_is_what_the_program_reads() {
     case.calls.pop();
     assert_eq!(input(&case).as_deref(), Some(lines));
     // No line says another start, a list with too little room or a kind that has no letter.
-    assert_eq!(input(&Case { start: vec![0; 8], ..case.clone() }), None);
+    assert_eq!(input(&Case { start: vec![0; 8].into(), ..case.clone() }), None);
     for call in [
         Call::List { begin: NO_TAG, tags: 2_000, labels: 8 },
         Call::List { begin: 0, tags: 2_000, labels: 2_000 },
@@ -240,7 +240,7 @@ fn a_script_does_what_its_calls_do() {
         let (reference, mut tally) = (Reference::right(), Tally::new());
         let mut session = Session::new(&reference, &mut tally, vec![0; HEADER + RECORD * 2_000]);
         history(&mut session, &mut rng, 2 + round % 4, 2 + round / 4 % 3, 40, 60).expect("no difference");
-        let (words, mut case) = (session.words.clone(), session.case().clone());
+        let (words, mut case) = (session.system.words.clone(), session.case().clone());
         // No line says a sheet: what comes of one could not be told.
         if case.calls.iter().any(|call| matches!(call, Call::InsertSheet { .. })) {
             continue;

@@ -164,12 +164,7 @@ impl Book {
 
     /// Refusals after 1 and 2: 8, 9, 10, 11.
     pub fn list(&self, begin: u32, tags: &mut [u32], labels: &mut [u32]) -> Result<u32, Refusal> {
-        let inside = match self.place(begin)? {
-            None => self.order(),
-            Some(x) if self.tags[x].marked => return Err(Refusal::Marked),
-            Some(x) if self.tags[x].kind != Kind::Begin => return Err(Refusal::WrongTag),
-            Some(x) => self.inside(x),
-        };
+        let inside = if begin == NO_TAG { self.order() } else { self.inside(self.element(begin)?) };
         let shown: Vec<usize> = inside.into_iter().filter(|&x| !self.tags[x].marked).collect();
         if tags.len() < shown.len() || labels.len() < shown.len() {
             return Err(Refusal::ShortList);
@@ -204,16 +199,22 @@ impl Book {
         }
     }
 
-    /// An unmarked begin or text.
-    fn section(&self, tag: u32) -> Result<usize, Refusal> {
+    /// An unmarked begin or text. Refusals: 8, 9, 10.
+    pub(crate) fn section(&self, tag: u32) -> Result<usize, Refusal> {
+        self.unmarked(tag, &[Kind::Begin, Kind::Text])
+    }
+
+    /// An unmarked begin. Refusals: 8, 9, 10.
+    pub(crate) fn element(&self, tag: u32) -> Result<usize, Refusal> {
+        self.unmarked(tag, &[Kind::Begin])
+    }
+
+    fn unmarked(&self, tag: u32, kinds: &[Kind]) -> Result<usize, Refusal> {
         let x = self.tag(tag)?;
         if self.tags[x].marked {
             return Err(Refusal::Marked);
         }
-        if self.tags[x].kind == Kind::End {
-            return Err(Refusal::WrongTag);
-        }
-        Ok(x)
+        if kinds.contains(&self.tags[x].kind) { Ok(x) } else { Err(Refusal::WrongTag) }
     }
 
     /// Start and end label of a section, as words.

@@ -1,8 +1,8 @@
 //! Faults that a test can switch on, to see that the comparison notices them.
 //!
 //! They are the mistakes that document 01 lists under "Plausible and false", two wrong moved counts, a soundness
-//! test that overlooks one clause, and mistakes in reading the book program's lines and sheets, in files and in inserting
-//! whole sheets. Everything outside tests uses `Fault::None`.
+//! test that overlooks one clause, and mistakes in reading the book program's lines and sheets, in files, in inserting
+//! whole sheets and in the rights of parties. Everything outside tests uses `Fault::None`.
 
 #[derive(Clone, Copy, PartialEq, Eq, Debug, Default)]
 pub enum Fault {
@@ -40,6 +40,8 @@ pub enum Fault {
     Misfiles(Lapse),
     /// Sheets are inserted with this blunder.
     Misputs(Blunder),
+    /// The rights of parties are kept with this breach.
+    Misgrants(Breach),
 }
 
 /// A clause of document 01's "Sound means". That labels have H digits is none of its own: a root with more children
@@ -239,6 +241,109 @@ impl Blunder {
     ];
 }
 
+/// A way to keep the rights of parties that looks right and is not.
+#[derive(Clone, Copy, PartialEq, Eq, Debug)]
+pub enum Breach {
+    /// Any grant on the section gives every right.
+    RightNotAsked,
+    /// A grant on any section counts.
+    SectionNotAsked,
+    /// Anybody's grant counts.
+    PartyNotAsked,
+    /// Of a record's party 16 bits are compared.
+    PartyCut,
+    /// A record with rights above 7 gives none.
+    OddRightsGiveNone,
+    /// A grant behind the count is found.
+    BehindCount,
+    /// The last live grant is not found.
+    LastNotFound,
+    /// An insertion may go right after the section's end.
+    EndAllowed,
+    /// No insertion goes right after the section's begin.
+    BeginRefused,
+    /// The section's begin may be read and written too.
+    BeginForAll,
+    /// A no counts as a yes.
+    NoIsYes,
+    /// A call's right may be a sum of rights.
+    RightsTogether,
+    /// The kind is looked at with every right.
+    KindForAll,
+    /// 18 comes after 4.
+    KindFirst,
+    /// Without a grant 18 comes before what the question replies.
+    GrantFirst,
+    /// 17 comes after 2.
+    RangeLate,
+    /// A count above the list counts as the list's length.
+    CountCut,
+    /// 19 comes before 10.
+    FullFirst,
+    /// A text is granted too.
+    TextGranted,
+    /// A grant that stands there is not written again.
+    DoublesDropped,
+    /// A grant raises the stamp.
+    GrantStamps,
+    /// Revoking compares the party alone.
+    RevokesParty,
+    /// Revoking compares the section alone.
+    RevokesSection,
+    /// Revoking takes out the first grant alone.
+    RevokesOne,
+    /// The gap is closed by the last grant.
+    GapByLast,
+    /// The records that a gap has left behind the count are cleared.
+    LastCleared,
+    /// Revoking does not lower the count.
+    CountStays,
+    /// A load leaves the count.
+    LoadKeeps,
+    /// A reading of a file leaves the count.
+    ReadKeeps,
+    /// A refused load or reading sets the count to 0.
+    RefusedEnds,
+    /// A call that is not allowed raises the stamp.
+    RefusedStamps,
+}
+
+impl Breach {
+    pub const ALL: [Breach; 31] = [
+        Breach::RightNotAsked,
+        Breach::SectionNotAsked,
+        Breach::PartyNotAsked,
+        Breach::PartyCut,
+        Breach::OddRightsGiveNone,
+        Breach::BehindCount,
+        Breach::LastNotFound,
+        Breach::EndAllowed,
+        Breach::BeginRefused,
+        Breach::BeginForAll,
+        Breach::NoIsYes,
+        Breach::RightsTogether,
+        Breach::KindForAll,
+        Breach::KindFirst,
+        Breach::GrantFirst,
+        Breach::RangeLate,
+        Breach::CountCut,
+        Breach::FullFirst,
+        Breach::TextGranted,
+        Breach::DoublesDropped,
+        Breach::GrantStamps,
+        Breach::RevokesParty,
+        Breach::RevokesSection,
+        Breach::RevokesOne,
+        Breach::GapByLast,
+        Breach::LastCleared,
+        Breach::CountStays,
+        Breach::LoadKeeps,
+        Breach::ReadKeeps,
+        Breach::RefusedEnds,
+        Breach::RefusedStamps,
+    ];
+}
+
 impl Fault {
     pub(crate) fn overlooks(self, clause: Clause) -> bool {
         self == Fault::Overlooks(clause)
@@ -254,5 +359,9 @@ impl Fault {
 
     pub(crate) fn misputs(self, blunder: Blunder) -> bool {
         self == Fault::Misputs(blunder)
+    }
+
+    pub(crate) fn misgrants(self, breach: Breach) -> bool {
+        self == Fault::Misgrants(breach)
     }
 }

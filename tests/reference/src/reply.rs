@@ -19,6 +19,9 @@ pub enum Refusal {
     NotRead = 14,
     NotAFile = 15,
     ShortBytes = 16,
+    OutOfRange = 17,
+    NotAllowed = 18,
+    ListFull = 19,
 }
 
 #[derive(Clone, Copy, PartialEq, Eq, Debug)]

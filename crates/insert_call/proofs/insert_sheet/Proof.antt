@@ -1,61 +1,34 @@
--- `insert_call::insert_sheet` meets its contract: what it leaves and replies is what document 02 says. Assumes nothing.
+-- `insert_call::insert_sheet` meets its contract. Assumes nothing.
 use borrow.Author.Needs.{needs}
-use mathlib.Core.Path.{_≡_, sym, _∙_}
-use native.Mathlib.Omega.{arith}
-use Rattle.calls.specs.Replies.{insert-sheet-refused}
-use Rattle.insert_refuse.proofs.Headers.{header-room}
-use Rattle.insert_call.proofs.Replies.{refused-all, empty-all, says-sheet}
+use Rattle.insert_call.proofs.Replies.{words-all, walked}
 use Rattle.insert_call.proofs.insert_sheet.Statement.{statement}
 use Rattle.insert_call.proofs.insert_sheet.Tie as tie
 
--- where the call is refused or not
-abbrev call : tie.After-sheet-refused → tie.Start
-call c = c .before .before .before .before .before .before
-
-accepted : (c : tie.Else1) → let args = call (c .before) .args in insert-sheet-refused (args .kinds .now) (args .place .0) (args .words .now) ≡ 0
-accepted c = sym (c .before .sheet-refused .ensures .0) ∙ c .if1 .left
-
-sheet-refused-requires : tie.Need-sheet-refused-requires
-sheet-refused-requires c κs = search needs
+words-refused-at-requires : tie.Need-words-refused-at-requires
+words-refused-at-requires c κs = search needs
 
 same-length : tie.Need-same-length
 same-length c = search needs
 
 returns : tie.Need-returns
-returns c = refused-all _ _ _ (c .before .sheet-refused .ensures .0) (c .if1 .taken)
+returns c = words-all _ _ _ (c .before .words-refused-at .ensures .0) (c .if1 .taken)
 
-count-of-requires : tie.Need-count-of-requires
-count-of-requires c κs = let test = c .before .before in header-room _ (says-sheet _ _ _ (accepted test))
+sheet-said-requires : tie.Need-sheet-said-requires
+sheet-said-requires c κs = let test = c .before .before .before in walked _ _ (test .before .words-refused-at .ensures) (test .if1 .left)
 
 same-length-2 : tie.Need-same-length-2
 same-length-2 c = search needs
 
 returns-2 : tie.Need-returns-2
-returns-2 c = let empty = c .before .before in empty-all _ _ _ (accepted (empty .before)) (empty .if2 .taken) (c .count-of .ensures)
-
-insert-tags-requires : tie.Need-insert-tags-requires
-insert-tags-requires c κs =
-    let some = c .before .before .before in
-    let test = some .before in
-    let found = test .before .sheet-refused .ensures .1 in
-    (record { refusal = accepted test; some = omega arith }, found .0 (test .if1 .left), found .1 (test .if1 .left))
-
-same-length-3 : tie.Need-same-length-3
-same-length-3 c = search needs
-
-returns-3 : tie.Need-returns-3
-returns-3 c = search needs
+returns-2 c = search needs
 
 pub insert-sheet-spec : {M : Type 1} → statement M
 insert-sheet-spec =
     tie.close
     (tie.spec
-    sheet-refused-requires
+    words-refused-at-requires
     same-length
     returns
-    count-of-requires
+    sheet-said-requires
     same-length-2
-    returns-2
-    insert-tags-requires
-    same-length-3
-    returns-3)
+    returns-2)

@@ -1,0 +1,1 @@
+// Rights for contractors as a system of words, grants and a count: definitions, statements and specimens.

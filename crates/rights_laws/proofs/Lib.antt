@@ -1,0 +1,4 @@
+pub mod Isolation
+pub mod Grants
+pub mod Allowed
+pub mod Inside

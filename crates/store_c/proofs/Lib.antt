@@ -1,0 +1,2 @@
+pub mod GrantLaws
+pub mod GrantWalks

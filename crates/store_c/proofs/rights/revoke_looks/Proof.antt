@@ -1,0 +1,18 @@
+-- `store_c::rights::revoke_looks` meets its contract, by those of the functions it calls. Assumes nothing.
+use mathlib.Core.Path.{ap, _∙_}
+use borrow.Author.Needs.{needs}
+use Rattle.calls.specs.Replies.{replied}
+use Rattle.store_c.proofs.rights.revoke_looks.Statement.{statement}
+use Rattle.store_c.proofs.rights.revoke_looks.Tie as tie
+
+revoke-refused-requires : tie.Need-revoke-refused-requires
+revoke-refused-requires c κs = search needs
+
+looked-at-requires : tie.Need-looked-at-requires
+looked-at-requires c κs = search needs
+
+returns : tie.Need-returns
+returns c = c .looked-at .ensures ∙ ap (λ k. replied (λ _. 0) k (c .before .before .args .count)) (c .before .revoke-refused .ensures)
+
+pub revoke-looks-spec : {M : Type 1} → statement M
+revoke-looks-spec = tie.close (tie.spec revoke-refused-requires looked-at-requires returns)

@@ -1,0 +1,4 @@
+pub mod Ranges
+pub mod Grants
+pub mod Replied
+pub mod Parties

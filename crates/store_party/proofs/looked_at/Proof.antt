@@ -1,0 +1,16 @@
+-- `store_party::looked_at` meets its contract. Assumes nothing.
+use borrow.Author.Needs.{needs}
+use Rattle.calls.specs.Replies.{replied}
+use Rattle.calls_laws.proofs.Replies.{replied-refused}
+use Rattle.store_party.proofs.looked_at.Statement.{statement}
+use Rattle.store_party.proofs.looked_at.Tie as tie
+
+returns : tie.Need-returns
+returns c = replied-refused (λ _. 0) _ _ (c .if1 .taken)
+
+returns-2 : tie.Need-returns-2
+unfolding replied
+returns-2 c = search needs
+
+pub looked-at-spec : {M : Type 1} → statement M
+looked-at-spec = tie.close (tie.spec returns returns-2)
