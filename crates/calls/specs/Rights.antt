@@ -25,7 +25,8 @@ use Rattle.calls.specs.Store.{Store, fact, count as issued}
 use Rattle.calls.specs.Words.{in-front}
 use Rattle.calls.specs.Replies.{refusal-over, replied, insert-reply, insert-words, question-reply}
 
--- whether a grant is a party's on a section; and whether it then gives one right: so many times that right its rights are is odd
+-- whether a grant is a party's on a section; and whether it gives one right there, which is 1, 2 or 4 of the rights added up: they are
+-- odd when divided by it
 unfoldable pub names : (party section : ℕ) → Grant → Bool
 names p x g = eqb (g .party) p && eqb (g .section) x
 
