@@ -1,11 +1,11 @@
 -- List (document 01, "Calls and their replies"): the unmarked tags strictly inside a section or, from the front, of the
 -- whole book. Assumes nothing: these are definitions.
-use mathlib.Core.Bool.{Bool, _&&_, _||_, not, cond}
+use mathlib.Core.Bool.{Bool, _&&_, _||_, not}
 use mathlib.Core.List.{List, [], _∷_, _++_, map}
 use Prim.Native.Nat.{ℕ}
 use lib.Dec.{leb, ltb, eqb}
 use lib.ListN.{length}
-use Rattle.lists.specs.Lists.{first}
+use Rattle.lists.specs.Lists.{first, those}
 use Rattle.store_types.specs.Limits.{no-tag}
 use Rattle.calls.specs.Kind.{is-begin}
 use Rattle.calls.specs.Store.{Store, fact, unmarked, count, row, label}
@@ -15,13 +15,8 @@ use Rattle.calls.specs.Held.{encloses}
 unfoldable pub is-listed : Store → (section tag : ℕ) → Bool
 is-listed st x d = (eqb x no-tag || encloses st x d) && unmarked st d
 
--- those of a row that are, in order
-unfoldable pub listed-of : Store → (section : ℕ) → (row : List ℕ) → List ℕ
-listed-of st x [] = []
-listed-of st x (d ∷ ds) = let rest = listed-of st x ds in cond (is-listed st x d) (d ∷ rest) rest
-
 unfoldable pub listed-tags : (section : ℕ) → Store → List ℕ
-listed-tags x st = listed-of st x (row st)
+listed-tags x st = those (is-listed st x) (row st)
 
 unfoldable pub listed-labels : (section : ℕ) → Store → List ℕ
 listed-labels x st = map (label st) (listed-tags x st)

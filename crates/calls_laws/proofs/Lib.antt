@@ -4,7 +4,6 @@ pub mod Nesting
 pub mod NewFacts
 pub mod Sections
 pub mod Marks
-pub mod Listings
 pub mod Heights
 pub mod Inserts
 pub mod Moved

@@ -9,17 +9,18 @@ use native.Mathlib.Omega.{arith}
 use borrow.Author.Tests.{lt-ltb, le-ltb, leb-false, not-false, eqb-true, eqb-false}
 use lib.Dec.{leb, eqb}
 use lib.ListN.{length, take, drop, length-append}
-use Rattle.lists.specs.Lists.{first}
+use Rattle.lists.specs.Lists.{first, those}
 use Rattle.store_types.specs.Limits.{no-tag}
 use Rattle.store_types.specs.declared.ListReply.the-variants.{Listed, Refused}
 use Rattle.lists.proofs.Tests.{by-test}
+use Rattle.lists.proofs.Those.{those-append}
 use Rattle.store_types.specs.Layout.{label-at}
 use Rattle.tree.specs.Row.{member, place}
 use Rattle.tree_laws.proofs.Rows.{member-first, member-later, member-append, member-of-drop}
 use Rattle.calls.specs.Kind.{is-begin}
 use Rattle.calls.specs.Store.{Store, fact, count, row, place-of, label}
 use Rattle.calls.specs.Held.{encloses}
-use Rattle.calls.specs.Listing.{is-listed, listed-of, listed-tags, listed-labels, inside-tests, list-refusal}
+use Rattle.calls.specs.Listing.{is-listed, listed-tags, listed-labels, inside-tests, list-refusal}
 use Rattle.calls.specs.Words.{Says}
 use Rattle.calls.specs.Replies.{said, refusal-over, replied, list-refused, list-reply, list-tags, list-labels}
 use Rattle.calls.specs.Calls.{lists, Happens}
@@ -27,7 +28,6 @@ use Rattle.calls_laws.proofs.Tests.{Sound, passes}
 use Rattle.calls_laws.proofs.Nesting.{Step, begins, ends, stands, Closed}
 use Rattle.calls_laws.proofs.Sections.{place-at, place-first-part, place-middle-part, place-last-part, distinct-row, row-below, row-at, At, pass-at, closed-at}
 use Rattle.calls_laws.proofs.WordSteps.{refusal-passed}
-use Rattle.calls_laws.proofs.Listings.{listed-append}
 use Rattle.calls_laws.proofs.Replies.{replied-accepted}
 use Rattle.demands.specs.Words.{is-marked, unmarked-of, Inside}
 use Rattle.demands.specs.Promise.{listed, accepted, Lists-hold, Every-call, List-right}
@@ -36,23 +36,23 @@ use Rattle.demands.proofs.EveryCall.{every-call}
 use Rattle.demands.proofs.Asked.{marked-said, label-said}
 
 -- THE LISTED TAGS of a row, part by part
-listed-none : (st : Store) (x : ℕ) (xs : List ℕ) → ((d : ℕ) → member d xs ≡ true → is-listed st x d ≡ false) → listed-of st x xs ≡ []
-unfolding listed-of
+listed-none : (st : Store) (x : ℕ) (xs : List ℕ) → ((d : ℕ) → member d xs ≡ true → is-listed st x d ≡ false) → those (is-listed st x) xs ≡ []
+unfolding those
 listed-none st x [] none = refl
 listed-none st x (d ∷ ds) none = rw (none d (member-first d ds)) (listed-none st x ds (λ v m. none v (member-later v d ds m)))
 
 listed-unmarked : (st : Store) (ws : List ℕ) (x : ℕ) (xs : List ℕ) → ((d : ℕ) → member d xs ≡ true → is-listed st x d ≡ not (is-marked ws d)) →
-    listed-of st x xs ≡ unmarked-of ws xs
-unfolding listed-of unmarked-of
-listed-unmarked st ws x [] those = refl
-listed-unmarked st ws x (d ∷ ds) those =
-    let rest = listed-unmarked st ws x ds (λ v m. those v (member-later v d ds m)) in
-    by-test (is-marked ws d) (λ e. rw (those d (member-first d ds), e) rest)
-    (λ e. rw (those d (member-first d ds), e) (ap (λ (v : List ℕ). d ∷ v) rest))
+    those (is-listed st x) xs ≡ unmarked-of ws xs
+unfolding those unmarked-of
+listed-unmarked st ws x [] told = refl
+listed-unmarked st ws x (d ∷ ds) told =
+    let rest = listed-unmarked st ws x ds (λ v m. told v (member-later v d ds m)) in
+    by-test (is-marked ws d) (λ e. rw (told d (member-first d ds), e) rest)
+    (λ e. rw (told d (member-first d ds), e) (ap (λ (v : List ℕ). d ∷ v) rest))
 
 -- labels of tags, by their words
 labels-same : (f g : ℕ → ℕ) (ws xs : List ℕ) → ((d : ℕ) → member d xs ≡ true → f d ≡ g d) → map f (unmarked-of ws xs) ≡ map g (unmarked-of ws xs)
-unfolding unmarked-of
+unfolding unmarked-of those
 labels-same f g ws [] same = refl
 labels-same f g ws (d ∷ ds) same =
     let rest = labels-same f g ws ds (λ v m. same v (member-later v d ds m)) in
@@ -136,15 +136,15 @@ module _ (ws : List ℕ) (st : Store) (h : Says ws st) where
     section-found : Found ws st x
     unfolding listed-tags Inside
     section-found =
-        let parted = listed-append st x front (c .inside ++ (mate ∷ c .behind)) in
-        let later = listed-append st x (c .inside) (mate ∷ c .behind) in
+        let parted = those-append (is-listed st x) front (c .inside ++ (mate ∷ c .behind)) in
+        let later = those-append (is-listed st x) (c .inside) (mate ∷ c .behind) in
         let met = rw (whole ∙ sym (append-assoc before (x ∷ c .inside) (mate ∷ c .behind))) at (book-row ws st h .next) in
         record {
           inside = c .inside;
           met = inr (eqb-false x no-tag other, (before, c .behind, rw (tag-said ws st h x l .mate-word) met));
           tags = below;
           listed =
-              ap (listed-of st x) in-parts
+              ap (those (is-listed st x)) in-parts
               ∙ (parted
               ∙ rw (
                 later,

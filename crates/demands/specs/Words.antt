@@ -1,13 +1,13 @@
 -- What the statements say of words: the tags met along next and prior, lists with a result in front, and how many tags a
 -- call moved or marked. Assumes nothing: these are definitions.
 use mathlib.Core.Path.{_≡_}
-use mathlib.Core.Bool.{Bool, _&&_, not, cond}
+use mathlib.Core.Bool.{Bool, _&&_, not}
 use mathlib.Core.List.{List, [], _∷_, _++_, headD, reverse}
 use mathlib.Core.Logic.{_⊎_}
 use Prim.Native.Nat.{ℕ}
 use lib.Dec.{leb, eqb}
 use lib.ListN.{length, take, drop}
-use Rattle.lists.specs.Lists.{numbers, how-many}
+use Rattle.lists.specs.Lists.{numbers, how-many, those}
 use Rattle.store_types.specs.Limits.{no-tag}
 use Rattle.store_types.specs.Layout.{at-count, at-first, at-next, at-prior, at-mate, at-kind, word-at, field, label-at}
 
@@ -32,8 +32,7 @@ unfoldable pub is-marked : List ℕ → (tag : ℕ) → Bool
 is-marked ws x = leb 16 (field ws x at-kind)
 
 unfoldable pub unmarked-of : List ℕ → (row : List ℕ) → List ℕ
-unmarked-of ws [] = []
-unmarked-of ws (x ∷ xs) = let rest = unmarked-of ws xs in cond (is-marked ws x) rest (x ∷ rest)
+unmarked-of ws = those (λ x. not (is-marked ws x))
 
 -- the tags met along next strictly inside a section: between its begin and the begin's mate; from the front all
 unfoldable pub Inside : List ℕ → (section : ℕ) → (row : List ℕ) → Type 0

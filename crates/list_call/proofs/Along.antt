@@ -1,5 +1,6 @@
 -- The tags between two along next: where they stand, and one step of a pass along them. Assumes nothing.
 use mathlib.Core.Path.{_≡_, refl, ap, sym, _∙_}
+use mathlib.Core.Bool.{not}
 use mathlib.Core.List.{List, [], _∷_, _++_}
 use Prim.Native.Nat.{ℕ, suc, _≤_, _<_}
 use native.Mathlib.Omega.{arith}
@@ -8,7 +9,9 @@ use lib.Dec.{ltb}
 use lib.ListN.{length, getD, List·getD-eq-default}
 use lib.Seq.{slice, slice-empty, slice-cons, length-slice}
 use Rattle.store_types.specs.Limits.{no-tag, most-tags}
+use Rattle.lists.specs.Lists.{those}
 use Rattle.lists.proofs.Tests.{by-test}
+use Rattle.lists.proofs.Those.{those-append}
 use Rattle.store_types.specs.Layout.{at-count, at-next, at-kind, word-at, field}
 use Rattle.tree_laws.proofs.Rows.{place-le, member-of-place, place-getD}
 use Rattle.calls.specs.Store.{Store, fact, row, place-of, next-in}
@@ -73,23 +76,19 @@ module _ {ws : List ℕ} {x y : ℕ} (h : Span-said ws x y) (on : x ≡ y → �
       }
 
 -- WHAT A PASS FINDS: the unmarked tags, at most as many as there are tags
-unmarked-cons : (st : Store) (d : ℕ) (ds : List ℕ) → unmarked st (d ∷ ds) ≡ unmarked st (d ∷ []) ++ unmarked st ds
-unfolding unmarked
-unmarked-cons st d ds = by-test (fact st d .marked) (λ m. rw m) (λ m. rw m)
-
 unmarked-fewer : (st : Store) (ds : List ℕ) → length (unmarked st ds) ≤ length ds
-unfolding unmarked
+unfolding those
 unmarked-fewer st [] = omega arith
 unmarked-fewer st (d ∷ ds) =
     by-test (fact st d .marked) (λ m. rw m (omega (arith, unmarked-fewer st ds))) (λ m. rw m (omega (arith, unmarked-fewer st ds)))
 
 -- of one tag, by its kind word
 pub one-marked : {ws : List ℕ} {x : ℕ} → Tag-said ws x → 16 ≤ field ws x at-kind → unmarked (said ws) (x ∷ []) ≡ []
-unfolding unmarked
+unfolding those
 one-marked {ws} {x} h m = rw (sym (kind-of-tag h .marks) ∙ le-leb 16 (field ws x at-kind) m)
 
 pub one-unmarked : {ws : List ℕ} {x : ℕ} → Tag-said ws x → field ws x at-kind < 16 → unmarked (said ws) (x ∷ []) ≡ x ∷ []
-unfolding unmarked
+unfolding those
 one-unmarked {ws} {x} h m = rw (sym (kind-of-tag h .marks) ∙ lt-leb 16 (field ws x at-kind) m)
 
 -- of all that the book has
@@ -110,7 +109,7 @@ pub between-few : (ws : List ℕ) (x y : ℕ) → Says ws (said ws) → length (
 between-few ws x y says = omega (arith, between-all ws x y says, header-said ws (said ws) says .issued, sound-said ws says .few)
 
 pub between-done : (st : Store) (x : ℕ) → unmarked-between st x x ≡ []
-unfolding unmarked-between unmarked
+unfolding unmarked-between those
 between-done st x = rw (slice-empty (place-of st x) (row st))
 
 pub between-next : {ws : List ℕ} {x y : ℕ} (h : Span-said ws x y) → (x ≡ y → ⊥) →
@@ -122,4 +121,4 @@ between-next {ws} {x} {y} h on =
     rw (place-next h on)
     (ap (unmarked st) (slice-cons (place-of st x) q (row st) no-tag (not-last h on) (place-le y (row st))
     ∙ rw (h .from))
-    ∙ unmarked-cons st x _)
+    ∙ those-append (λ d. not (fact st d .marked)) (x ∷ []) _)

@@ -9,20 +9,19 @@ use lib.Dec.{ltb, eqb}
 use lib.ListN.{length, take, drop, take-append-drop, List·getD-eq-default}
 use lib.Seq.{slice, take-length, take-take, length-take-le, length-slice}
 use Rattle.store_types.specs.Limits.{no-tag}
+use Rattle.lists.specs.Lists.{those}
 use Rattle.lists.proofs.Tests.{by-test}
+use Rattle.lists.proofs.Those.{those-append}
 use Rattle.store_types.specs.Layout.{at-first, at-next, at-mate, word-at, field}
 use Rattle.tree.specs.Row.{member}
-use Rattle.tree_laws.proofs.Rows.{member-first, member-later, member-append, place-le, place-of-member, getD-place}
-use Rattle.calls.specs.Kind.{is-begin}
+use Rattle.tree_laws.proofs.Rows.{member-first, member-later, place-le, place-of-member, getD-place}
 use Rattle.calls.specs.Store.{Store, fact, row, place-of, next-in}
 use Rattle.calls.specs.Held.{encloses}
-use Rattle.calls.specs.Listing.{is-listed, listed-of, listed-tags}
+use Rattle.calls.specs.Listing.{is-listed, listed-tags}
 use Rattle.calls.specs.Words.{Says}
 use Rattle.calls.specs.Replies.{refusal-over, said}
 use Rattle.calls_laws.proofs.Tests.{Sound}
-use Rattle.calls_laws.proofs.Nesting.{Step, begins, ends, stands}
-use Rattle.calls_laws.proofs.Sections.{place-first-part, place-middle-part, place-last-part, distinct-row, in-row, At, pass-at, closed-at, mate-fits}
-use Rattle.calls_laws.proofs.Listings.{listed-append}
+use Rattle.calls_laws.proofs.Sections.{place-first-part, place-middle-part, place-last-part, distinct-row, in-row, begin-first, mate-fits}
 use Rattle.calls_laws.proofs.WordSteps.{header-said}
 use Rattle.store_refuse.specs.Needs.{Tag-said}
 use Rattle.list_call.specs.Needs.{Span-said, unmarked, unmarked-between, inside-refusal, first-inside, stop-of}
@@ -32,8 +31,8 @@ use Rattle.list_call.proofs.ListRefusals.{Begin-accepted, accepted-insi
 
 -- a part with all its tags inside, or all outside
 listed-part : (st : Store) (x : ℕ) (t : Bool) (ds : List ℕ) → ((d : ℕ) → member d ds ≡ true → (eqb x no-tag || encloses st x d) ≡ t) →
-    listed-of st x ds ≡ cond t (unmarked st ds) []
-unfolding listed-of is-listed unmarked
+    those (is-listed st x) ds ≡ cond t (unmarked st ds) []
+unfolding those is-listed
 listed-part st x true [] all = refl
 listed-part st x false [] all = refl
 listed-part st x true (d ∷ ds) all =
@@ -55,21 +54,8 @@ parts p q l o =
 
 -- A BEGIN: its mate stands behind it, and what it encloses stands between them
 module _ {st : Store} (h : Sound st) (x : ℕ) (ok : Begin-accepted x st) where
-  by-step : (a : At st x) → Step (st .facts) no-tag (a .before) x (a .behind) → place-of st x < place-of st (fact st x .mate)
-  unfolding is-begin
-  by-step a (begins s) =
-      let m = fact st x .mate in
-      let c = closed-at h x (ok .tag) a s in
-      let j = suc (place-of st x) in
-      let there : member m (drop j (row st)) ≡ true =
-      rw (c .whole, member-append m (c .inside) (m ∷ c .behind), member-first m (c .behind)) (or-true (member m (c .inside))) in
-      let behind = place-last-part (row st) (take j (row st)) [] (drop j (row st)) (sym (take-append-drop j (row st))) (distinct-row h) m there in
-      omega (arith, behind, length-take-le j (row st) (place-of-member x (row st) (in-row h x (ok .tag))))
-  by-step a (ends shut s) = let z = rw (s .kind) at (ok .begins) in absurd (true≢false (sym z))
-  by-step a (stands s) = let z = rw (s .kind) at (ok .begins) in absurd (true≢false (sym z))
-
   pub mate-behind : place-of st x < place-of st (fact st x .mate)
-  mate-behind = let a = pass-at h x (ok .tag) in by-step a (a .step)
+  mate-behind = begin-first h x (ok .tag) (ok .begins)
 
   -- the row in three: up to the begin, between it and its mate, from the mate on
   pub listed-inside : listed-tags x st ≡ unmarked st (slice (suc (place-of st x)) (place-of st (fact st x .mate)) (row st))
@@ -84,10 +70,10 @@ module _ {st : Store} (h : Sound st) (x : ℕ) (ok : Begin-accepted x st) where
       let whole = parts p q all mate-behind in
       let to-first = length-take-le p all (place-of-member x all (in-row h x (ok .tag))) in
       let to-middle = length-slice p q all (place-le (fact st x .mate) all) in
-      ap (listed-of st x) whole
-      ∙ (listed-append st x first (middle ++ last)
+      ap (those (is-listed st x)) whole
+      ∙ (those-append (is-listed st x) first (middle ++ last)
       ∙ rw (
-        listed-append st x middle last,
+        those-append (is-listed st x) middle last,
         listed-part st x false first (λ d m. rw (ok .other, le-ltb (place-of st x) (place-of st d) (omega (arith, place-first-part all first middle last whole (distinct-row h) d m)))),
         listed-part st x true middle (λ d m. let at = place-middle-part all first middle last whole (distinct-row h) d m in
             rw (lt-ltb (place-of st x) (place-of st d) (omega (arith, at .0)), lt-ltb (place-of st d) q (omega (arith, at .1, mate-behind))) (or-true (eqb x no-tag))),

@@ -1,12 +1,12 @@
 -- What a listing needs of words, and what it finds there. Assumes nothing: these are definitions.
 use mathlib.Core.Path.{_≡_}
-use mathlib.Core.Bool.{Bool, _||_, cond}
-use mathlib.Core.List.{List, [], _∷_}
+use mathlib.Core.Bool.{Bool, _||_, not, cond}
+use mathlib.Core.List.{List}
 use Prim.Native.Nat.{ℕ, _≤_}
 use lib.Dec.{ltb, eqb}
 use lib.ListN.{getD}
 use lib.Seq.{slice}
-use Rattle.lists.specs.Lists.{first}
+use Rattle.lists.specs.Lists.{first, those}
 use Rattle.store_types.specs.Limits.{no-tag}
 use Rattle.calls.specs.Store.{Store, fact, row, place-of, next-in}
 use Rattle.calls.specs.Listing.{inside-tests}
@@ -25,9 +25,8 @@ pub record Span-said (ws : List ℕ) (x d : ℕ) : Type 0 where
   pub order : place-of (said ws) x ≤ place-of (said ws) d
 
 -- the unmarked tags of a row, and those from one tag up to another
-unfoldable pub unmarked : Store → List ℕ → List ℕ
-unmarked st [] = []
-unmarked st (d ∷ ds) = let rest = unmarked st ds in cond (fact st d .marked) rest (d ∷ rest)
+abbrev pub unmarked : Store → List ℕ → List ℕ
+unmarked st = those (λ d. not (fact st d .marked))
 
 unfoldable pub unmarked-between : Store → (x d : ℕ) → List ℕ
 unmarked-between st x d = unmarked st (slice (place-of st x) (place-of st d) (row st))

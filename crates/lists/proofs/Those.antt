@@ -1,7 +1,7 @@
 -- Whether an element passes a test, and those that do. Assumes nothing.
 use mathlib.Core.Path.{_≡_, refl, sym, _∙_}
 use mathlib.Core.Bool.{Bool, true, false, not, true≢false}
-use mathlib.Core.List.{List, [], _∷_}
+use mathlib.Core.List.{List, [], _∷_, _++_}
 use Prim.Native.Nat.{_+_}
 use native.Mathlib.Omega.{arith}
 use lib.ListN.{length}
@@ -9,6 +9,11 @@ use Rattle.lists.specs.Lists.{how-many, some-holds, those}
 use Rattle.lists.proofs.Tests.{by-test, fails, or-left-false, or-right-false}
 
 module _ {A : Type 0} (h : A → Bool) where
+  pub those-append : (xs ys : List A) → those h (xs ++ ys) ≡ those h xs ++ those h ys
+  unfolding those
+  those-append [] ys = refl
+  those-append (x ∷ xs) ys = by-test (h x) (λ t. rw (t, those-append xs ys)) (λ t. rw (t, those-append xs ys))
+
   -- where no element passes a test, none passes one that asks for more
   pub none-stronger : (f : A → Bool) → ((x : A) → f x ≡ true → h x ≡ true) → (xs : List A) → some-holds h xs ≡ false → some-holds f xs ≡ false
   unfolding some-holds
