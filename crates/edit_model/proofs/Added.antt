@@ -19,7 +19,6 @@ use Rattle.tree.specs.Row.{member, place, insert-at}
 use Rattle.tree_laws.proofs.Rows.{Apart, place-getD, getD-place, place-of-member, number-bounds, not-number-below, distinct-numbers, length-insert, getD-before, getD-new}
 use Rattle.calls.specs.Store.{Fact, no-fact, fact-in, next-in, prior-in}
 use Rattle.calls_laws.proofs.Inserts.{all-below-with}
-use Rattle.words.specs.Places.{behind}
 use Rattle.edit_model.specs.Image.{Image, image-header, image-record, image-words}
 use Rattle.edit_model.specs.Insert.{new-record, row-records, with-records, linked-place, linked-next, added-row}
 use Rattle.edit_model.proofs.Image.{Proper, distinct-tags, tag-below, tag-in, length-image, length-image-header, own-field, own-label, own-header, record-says, image-header-word}

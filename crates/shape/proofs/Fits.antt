@@ -1,8 +1,8 @@
 -- The tables of s, r and H fit where the widest number does. Assumes nothing.
 use mathlib.Core.Path.{_≡_}
 use mathlib.Core.Bool.{true}
-use Prim.Native.Nat.{ℕ, suc, _*_, _-_, _^_, _≤_}
-use native.Mathlib.Nat.{one-mul, mul-le-mul, mul-le-mul-left, mul-le-mul-right, pow-le-pow-left, pow-le-pow-right}
+use Prim.Native.Nat.{ℕ, _*_, _-_, _^_, _≤_}
+use native.Mathlib.Nat.{one-mul, mul-le-mul, mul-le-mul-right, pow-le-pow-left}
 use native.Mathlib.Omega.{arith}
 use borrow.Author.Tests.{leb-true}
 use Rattle.store_types.specs.Limits.{label-limit, most-levels}
@@ -47,12 +47,3 @@ module _ {s r h : ℕ} (f : Fits s r h) where
 
   pub highs-fit : Table-fits s r h
   highs-fit = record { height = omega (arith, f .high); grows = omega (arith, f .r-least); last = omega (arith, mul-le-mul (f .s-most) lows-below) }
-
--- a table one lower
-pub lower : {v b u : ℕ} → Table-fits v b (suc u) → Table-fits v b u
-lower {v} {b} {u} h =
-    record {
-      height = omega (arith, h .height);
-      grows = h .grows;
-      last = omega (arith, h .last, mul-le-mul-left v (pow-le-pow-right {n = b} (h .grows) {i = u} {j = suc u} (omega arith)));
-    }

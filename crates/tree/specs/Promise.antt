@@ -9,9 +9,9 @@ use Rattle.lists.specs.Lists.{numbers}
 use Rattle.tree.specs.Row.{member, place, insert-at, all-below}
 use Rattle.tree.specs.Forest.{leaves, size, trees, spread}
 use Rattle.tree.specs.Good.{Complete}
-use Rattle.tree.specs.Book.{Book, height, tags, labels-in-order, label-of, base, loaded, inserted, split-of, inserted-row, split-of-row, moved-among, moved, book-within}
+use Rattle.tree.specs.Book.{Book, height, tags, labels-in-order, label-of, base, loaded, inserted, split-of, inserted-row, split-of-row, moved, book-within}
 use Rattle.tree.specs.Families.{families-of, Joins}
-use Rattle.tree.specs.Reach.{left-of, border, split-book, reach-bound}
+use Rattle.tree.specs.Reach.{left-of, border, reach-bound}
 use Rattle.tree.specs.Grown.{grown, grown-split}
 
 -- widths that a tree of s and r may be numbered by; the powers of b are one choice
@@ -65,21 +65,6 @@ pub record Moves-within (w : ℕ → ℕ) (p x t : ℕ) (k : Book) : Type 0 wher
 
 unfoldable pub Reach-places : Type 0
 Reach-places = (w : ℕ → ℕ) (p x t : ℕ) (k : Book) → Step w p x k → member t (tags k) ≡ true → Moves-within w p x t k
-
--- THE SECOND TAG of an element, behind its first. Where it splits, the book afterwards is the one before both with that
--- node split over its leaves and both tags, whatever the first renumbered. Where it does not, it moves no old tag that
--- the first left in place, so that the tags moved by both are the first's.
-pub record Second-does (w : ℕ → ℕ) (p x y : ℕ) (k : Book) : Type 0 where
-  pub splits : (h : ℕ) → split-of (suc p) (inserted p x k) ≡ suc h → inserted (suc p) y (inserted p x k) ≡ split-book (suc h) p (x ∷ y ∷ []) k
-  pub moves-none :
-      split-of (suc p) (inserted p x k) ≡ 0 →
-      (t : ℕ) → member t (tags k) ≡ true → Moves w (suc p) y t (inserted p x k) → Moves w p x t k
-  pub moves-same :
-      split-of (suc p) (inserted p x k) ≡ 0 →
-      moved-among w (tags k) k (inserted (suc p) y (inserted p x k)) ≡ moved-among w (tags k) k (inserted p x k)
-
-unfoldable pub Second-tag : Type 0
-Second-tag = (w : ℕ → ℕ) (p x y : ℕ) (k : Book) → Step w p x k → Step w (suc p) y (inserted p x k) → Second-does w p x y k
 
 -- A WHOLE ROW (document 02, CR 5): what its single insertions leave is what is worked out directly, and so is the greatest height
 -- of their splits

@@ -1,12 +1,10 @@
--- The ancestors of a place, and a split at a given height: what the reach of an insertion is measured by (document 02,
--- CR 11, stated for any widths); how many tags one insertion moves at most, and all since a load.
+-- The ancestors of a place: what the reach of an insertion is measured by (document 02, CR 11, stated for any widths); how many
+-- tags one insertion moves at most, and all since a load.
 -- Assumes nothing: these are definitions.
 use mathlib.Core.Bool.{cond}
-use mathlib.Core.List.{List}
 use Prim.Native.Nat.{ℕ, zero, suc, pred, _+_, _*_, _-_, _^_}
 use lib.Dec.{ltb, eqb}
-use Rattle.tree.specs.Row.{insert-at}
-use Rattle.tree.specs.Forest.{Forest, nil, leaf, node, leaves, size, joined, spread}
+use Rattle.tree.specs.Forest.{Forest, nil, leaf, node, size}
 use Rattle.tree.specs.Book.{Book, height, split-of}
 
 -- Of the tree of height h that a tag behind the first p leaves goes into: how many leaves stand left of it (at h = 0:
@@ -38,23 +36,6 @@ size-of h p k = cond (ltb (k .under) h) (size (k .root)) (size-in (k .root) (k .
 -- no node is split
 unfoldable pub border : (p : ℕ) → Book → ℕ
 border p k = left-of (suc (split-of p k)) p k + size-of (suc (split-of p k)) p k
-
--- the forest in which the tree of height h that p goes into is replaced by complete trees over its leaves, with new
--- tags behind the first p
-unfoldable pub split-with : Forest → (r j h p : ℕ) → (new : List ℕ) → Forest
-split-with nil r j h p ns = nil
-split-with (leaf z f) r j h p ns = leaf z f
-split-with (node g f) r j h p ns =
-    let right = split-with f r j h (p - size g) ns in
-    let inside = split-with g r (pred j) h p ns in
-    let split = spread j r (insert-at p ns (leaves g)) in
-    cond (ltb (size g) p) (node g right) (cond (eqb j h) (joined split f) (node inside f))
-
-unfoldable pub split-book : (h p : ℕ) → (new : List ℕ) → Book → Book
-split-book h p ns k =
-    let raised : Book = record { s = k .s; r = k .r; under = height k; root = spread (height k) (k .r) (insert-at p ns (leaves (k .root))) } in
-    let inner : Book = record { s = k .s; r = k .r; under = k .under; root = split-with (k .root) (k .r) (k .under) h p ns } in
-    cond (eqb h (height k)) raised inner
 
 -- HOW MANY one insertion moves at most, by the height of the split: f − 2 where it is 0 and no node is split, s times
 -- r^(j + 1) − 2 with a split at j below the root, s times r^j − 1 with a split of the root, where j is H

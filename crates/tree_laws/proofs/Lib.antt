@@ -20,7 +20,6 @@ pub mod Border
 pub mod RowFlat
 pub mod Falls
 pub mod Reach
-pub mod Second
 pub mod Account
 pub mod Made
 pub mod Families

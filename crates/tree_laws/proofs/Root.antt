@@ -15,7 +15,7 @@ use Rattle.tree.specs.Promise.{Sane}
 use Rattle.tree_laws.proofs.Insertion.{put-split, put-below, height-split, height-below, inserted-split, inserted-inside, split-of-split, split-of-inside, root-at-limit, root-below-limit, rooted, empty-low}
 use Rattle.tree_laws.proofs.Labels.{length-labels, labels-joined}
 use Rattle.tree_laws.proofs.Ancestors.{at-here, at-inside}
-use Rattle.tree_laws.proofs.Flat.{Piece, Flat, flat, flat-split, flat-below}
+use Rattle.tree_laws.proofs.Flat.{Flat, flat, flat-split, flat-below}
 
 -- the tree
 abbrev pub whole : Book → Forest
@@ -79,12 +79,6 @@ module _ {w : ℕ → ℕ} {p x : ℕ} {k : Book} (fits : p ≤ size (k .root)) 
 
   pub left-flat : left-of (split-of p k) p k ≡ length (d .before)
   left-flat = rw split-flat (left-whole p k fits (d .height) (d .most) ∙ d .left-is)
-
-  pub left-unsplit : split-of p k ≡ 0 → left-of (split-of p k) p k ≡ p
-  left-unsplit e =
-      let none : d .height ≡ 0 = sym split-flat ∙ e in
-      let piece : Piece (k .s) (k .r) w x 0 (d .offset) (d .number) (d .old) (d .new) (d .shift) = rw none at (d .piece) in
-      omega (arith, left-flat, d .place-is, piece .0)
 
   pub border-flat : border p k ≡ length (d .before) + (length (d .old) + length (d .beside))
   border-flat =

@@ -290,9 +290,6 @@ insert-next zero x ns xs l = refl
 insert-next (suc p) x ns [] l = absurd (not-suc-le-zero l)
 insert-next (suc p) x ns (y ∷ xs) l = ap (λ (zs : List ℕ). y ∷ zs) (insert-next p x ns xs (le-of-suc-le-suc l))
 
-pub insert-two : (p x y : ℕ) (xs : List ℕ) → p ≤ length xs → insert-at (suc p) (y ∷ []) (insert-at p (x ∷ []) xs) ≡ insert-at p (x ∷ y ∷ []) xs
-insert-two p x y xs l = insert-next p x (y ∷ []) xs l
-
 -- EACH NUMBER ONCE
 
 -- a row without the first that is v

@@ -58,9 +58,6 @@ pub open-cases : {ws : List ℕ} {n o : ℕ} → Open ws n o → (o ≡ no-tag) 
 open-cases none = inl refl
 open-cases (begin l w r) = inr (l, w, r)
 
-pub open-below : {ws : List ℕ} {n o : ℕ} → Open ws n o → (o ≡ no-tag → ⊥) → o < n
-open-below a ne = ⊎-elim (λ e. absurd (ne e)) (λ q. q .0) (open-cases a)
-
 open-range : {ws : List ℕ} {n o : ℕ} → Open ws n o → (eqb o no-tag || ltb o n) ≡ true
 open-range {ws} {n} {o} a =
     ⊎-elim (λ e. rw (eq-eqb o no-tag e))

@@ -121,9 +121,6 @@ room-with-label ws x l y room = room-same room (length-with-label ws x l)
 pub records-kept : {ws vs : List ℕ} {n : ℕ} → Records ws n → length vs ≡ length ws → Records vs n
 records-kept h e = record { few = h .few; long = rw e (h .long) }
 
-pub records-fewer : {ws : List ℕ} {n m : ℕ} → Records ws n → m ≤ n → Records ws m
-records-fewer {ws} {n} {m} h l = record { few = omega (arith, h .few); long = omega (arith, h .long, words-up m n l) }
-
 -- fields and labels stay where a word of the header is written
 pub field-past-header : (ws : List ℕ) (i v x k : ℕ) → i < header-words → field (set ws i v) x k ≡ field ws x k
 unfolding field records-at

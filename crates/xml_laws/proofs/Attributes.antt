@@ -7,8 +7,8 @@ use Prim.Native.Nat.{ℕ, zero, suc, _+_}
 use native.Mathlib.Numerals.{add-one}
 use native.Mathlib.Omega.{arith}
 use lib.Dec.{eqb}
-use lib.ListN.{length, getD, take, drop, length-append}
-use lib.Seq.{drop-drop, drop-append-seam, take-append-seam}
+use lib.ListN.{length, getD, drop, length-append}
+use lib.Seq.{drop-drop, drop-append-seam}
 use Rattle.lists.proofs.Tests.{by-test, and-left, and-right}
 use Rattle.calls.specs.Words.{starts-with}
 use Rattle.xml.specs.Bytes.{is-space, is-name-start, is-name-char, equals}
@@ -237,11 +237,3 @@ attribute-written gap cs z g e =
 pub gap-written : {gap cs : List ℕ} {z : Sized} (t : Attribute-there gap cs z) → attribute-text (t .attribute) ++ t .more ≡ gap ++ cs
 unfolding attribute-text bare-text
 gap-written {gap} t = rw (t .behind, append-assoc gap (bare-text (t .attribute)) (t .more), t .written)
-
-pub gap-size : {gap cs : List ℕ} {z : Sized} (t : Attribute-there gap cs z) → length (attribute-text (t .attribute)) ≡ length gap + z .whole
-unfolding attribute-text bare-text
-gap-size {gap} t = rw (t .behind, length-append gap (bare-text (t .attribute)), ← (t .size))
-
--- the bytes of its name
-pub name-taken : {gap cs : List ℕ} {z : Sized} (t : Attribute-there gap cs z) → take (z .name) cs ≡ t .attribute .name
-name-taken t = rw (← (t .written), bare-parts (t .attribute) (t .more), ← (t .size)) (take-append-seam (t .attribute .name) _)

@@ -78,7 +78,3 @@ start-not-space c h = name-not-space c (start-is-name c h)
 pub quote-not-space : (c : ℕ) → is-quote c ≡ true → is-space c ≡ false
 unfolding is-space
 quote-not-space c = on-quotes is-space false c refl refl
-
-pub quote-not-name : (c : ℕ) → is-quote c ≡ true → is-name-char c ≡ false
-unfolding is-name-char is-name-start
-quote-not-name c = on-quotes is-name-char false c refl refl

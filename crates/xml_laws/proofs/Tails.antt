@@ -5,7 +5,7 @@ use mathlib.Core.Bool.{Bool, true, false, _&&_, not, cond, true≢false, false�
 use mathlib.Core.List.{List, [], _∷_, _++_, append-assoc}
 use mathlib.Core.Option.{Option, none, some, Option·none-ne-some, Option·some-injective}
 use Prim.Native.Nat.{ℕ, zero, suc, _+_, _≤_, _<_}
-use native.Mathlib.Nat.{zero-add, suc-add, add-assoc, not-suc-le-zero, le-refl}
+use native.Mathlib.Nat.{zero-add, suc-add, not-suc-le-zero, le-refl}
 use native.Mathlib.Numerals.{add-one, add-two}
 use native.Mathlib.Omega.{arith}
 use borrow.Author.Tests.{not-true}
@@ -38,11 +38,6 @@ ends-suc : (k : ℕ) (o : Option Ending) → ends-later (ends-by k o) ≡ ends-b
 unfolding ends-later ends-by
 ends-suc k none = refl
 ends-suc k (some e) = rw suc-add
-
-pub ends-twice : (j k : ℕ) (o : Option Ending) → ends-by j (ends-by k o) ≡ ends-by (j + k) o
-unfolding ends-by
-ends-twice j k none = refl
-ends-twice j k (some e) = rw (add-assoc j k (e .used))
 
 -- what is found so many bytes further is found
 ends-before : (k : ℕ) (o : Option Ending) (e : Ending) → ends-by k o ≡ some e → (f : Ending) × (o ≡ some f)

@@ -83,9 +83,6 @@ usual-not-forbidden b k l e none = rw (← usual-class b l, ← e, none)
 pub usual-by-else : (b k : ℕ) → b < 256 → k ≡ class-of b → (k ≡ 4 → ⊥) → not (eqb k 0) ≡ is-usual b
 usual-by-else b k l e n = rw (← usual-class b l, ← e, ne-eqb k 4 n)
 
-pub usual-else : (b k : ℕ) → b < 256 → k ≡ class-of b → (k ≡ 4 → ⊥) → (k ≡ 0 → ⊥) → is-usual b ≡ true
-usual-else b k l e n m = rw (← usual-class b l, ← e, ne-eqb k 4 n, ne-eqb k 0 m)
-
 -- and every number that passes the test is a byte
 usual-large : (c : ℕ) → 256 ≤ c → is-usual c ≡ false
 unfolding is-usual is-space is-name-char is-name-start

@@ -8,7 +8,7 @@ use crate::runs::words_end;
 use crate::strings::reference;
 use crate::strings::stands;
 ghost use mathlib.Core.Path.{_≡_};
-ghost use Prim.Native.Nat.{ℕ, _≤_, _<_};
+ghost use Prim.Native.Nat.{_≤_, _<_};
 ghost use lib.ListN.{length, drop};
 ghost use Rattle.xml_scan.specs.Classes.{Classes};
 ghost use Rattle.xml.specs.Scan.{body-length, value-length, data-length};

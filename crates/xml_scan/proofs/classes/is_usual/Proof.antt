@@ -1,5 +1,5 @@
 -- `xml_scan::is_usual` meets its contract, by the two classes that are not usual. Assumes nothing.
-use mathlib.Core.Path.{_≡_, sym, _∙_}
+use mathlib.Core.Path.{sym}
 use Prim.Native.Nat.{_<_}
 use native.Mathlib.Omega.{arith}
 use borrow.Author.Needs.{needs}

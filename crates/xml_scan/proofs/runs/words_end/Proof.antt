@@ -1,6 +1,6 @@
 -- `xml_scan::words_end` meets its contract. The loop's invariant: what is passed and what is left make up the run; a turn passes
 -- four bytes. The measure is what is left of the text. Assumes nothing.
-use mathlib.Core.Path.{sym, _∙_, refl}
+use mathlib.Core.Path.{sym, _∙_}
 use Prim.Native.Nat.{_+_, _-_}
 use native.Mathlib.Omega.{arith}
 use borrow.Author.Needs.{needs}
