@@ -3,6 +3,7 @@ use mathlib.Core.Path.{_≡_, refl}
 use mathlib.Core.Bool.{true}
 use mathlib.Core.List.{headD, flatMap}
 use Rattle.lists.specs.Lists.{how-many, first, same, all-hold, numbers}
+use Rattle.lists.specs.Fronts.{starts-with, in-front, written, replied}
 use Rattle.store_types.specs.Layout.{records-at, words-for, field, label-at}
 use Rattle.little_endian.specs.Numbers.{is-byte, low-first, number-in}
 use Rattle.tree.specs.Row.{member, place, insert-at, all-below}
@@ -15,9 +16,9 @@ use Rattle.calls.specs.Nesting.{nests, closing, new-facts, fits, opened,
 use Rattle.calls.specs.Sound.{degrees-fit, tree-sound, row-sound, stamp-sound, sound}
 use Rattle.calls.specs.Load.{all-kinds, kinds-tests, early-tests, load-refusal, load-store}
 use Rattle.calls.specs.Insert.{insert-kinds, position, up-at, book-after, insert-store, labels-end, place-tests, room-tests, insert-refusal}
-use Rattle.calls.specs.Words.{header, tag-record, words-of, follow, read-fact, header-width, read-book, read-store, starts-with, header-in-range, read-in-range, read, in-front}
+use Rattle.calls.specs.Words.{header, tag-record, words-of, follow, read-fact, header-width, read-book, read-store, header-in-range, read-in-range, read}
 use Rattle.calls.specs.File.{file-record, form, tag-row, file-of, words-in, header-in, count-in, begins, tags-formed, formed-at, formed, rows-from, rows-in, record-in, file-words, own-file, read-formed, read-file}
-use Rattle.calls.specs.Replies.{on-store, refusal-over, store-or, said, written, replied, load-words, insert-refused, insert-words, load-numbers, write-refusal, write-refused, write-reply, write-bytes, write-numbers, file-refusal, read-reply, read-words}
+use Rattle.calls.specs.Replies.{on-store, refusal-over, store-or, said, load-words, insert-refused, insert-words, load-numbers, write-refusal, write-refused, write-reply, write-bytes, write-numbers, file-refusal, read-reply, read-words}
 use Rattle.calls.specs.FileSpecimens.{filings-hold, file-specimen-holds, file-specimen-table}
 
 pub file-specimens : all-hold file-specimen-holds file-specimen-table ≡ true

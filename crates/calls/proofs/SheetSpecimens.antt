@@ -3,6 +3,7 @@ use mathlib.Core.Path.{_≡_, refl}
 use mathlib.Core.Bool.{true}
 use mathlib.Core.List.{headD, flatMap}
 use Rattle.lists.specs.Lists.{how-many, first, same, all-hold, numbers}
+use Rattle.lists.specs.Fronts.{starts-with, in-front, written, replied}
 use Rattle.store_types.specs.Layout.{records-at, words-for, field, label-at}
 use Rattle.tree.specs.Row.{member, place, insert-at, all-below}
 use Rattle.tree.specs.Forest.{leaves, labels, joined, leaf-row, parts, spread, put, split-height, within-limits}
@@ -15,8 +16,8 @@ use Rattle.calls.specs.Sound.{degrees-fit, tree-sound, row-sound, stamp-
 use Rattle.calls.specs.Load.{all-kinds, kinds-tests, early-tests, load-refusal, load-store}
 use Rattle.calls.specs.Insert.{position, up-at, book-after, insert-store, insert-moved, insert-split, raised, labels-run-out, place-tests, room-tests, row-refusal, insert-sheet-refusal, insert-sheet-store}
 use Rattle.calls.specs.Mark.{within, mark-facts, mark-store, section-tests, section-refusal}
-use Rattle.calls.specs.Words.{header, tag-record, words-of, follow, read-fact, header-width, read-book, read-store, starts-with, header-in-range, read-in-range, read, in-front}
-use Rattle.calls.specs.Replies.{on-store, refusal-over, store-or, said, written, replied, load-words, insert-sheet-refused, insert-sheet-reply, insert-sheet-words, mark-words, insert-numbers}
+use Rattle.calls.specs.Words.{header, tag-record, words-of, follow, read-fact, header-width, read-book, read-store, header-in-range, read-in-range, read}
+use Rattle.calls.specs.Replies.{on-store, refusal-over, store-or, said, load-words, insert-sheet-refused, insert-sheet-reply, insert-sheet-words, mark-words, insert-numbers}
 use Rattle.calls.specs.SheetSpecimens.{met, fields-hold, doings-hold, sheet-specimen-holds, sheet-specimen-table}
 
 pub sheet-specimens : all-hold sheet-specimen-holds sheet-specimen-table ≡ true

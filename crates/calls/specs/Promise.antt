@@ -18,6 +18,7 @@ use Rattle.store_types.specs.declared.WriteReply.the-variants.{Written}
 use Rattle.store_types.specs.Layout.{at-s, at-r, at-height, at-count, at-first, at-book, header-words, word-at, words-for, label-at}
 use Rattle.store_types.specs.FileLayout.{row-words}
 use Rattle.lists.specs.Lists.{first, all-hold}
+use Rattle.lists.specs.Fronts.{in-front}
 use Rattle.tree.specs.Row.{rises}
 use Rattle.tree.specs.Book.{height, labels-of}
 use Rattle.tree.specs.Reach.{account-bound}
@@ -30,7 +31,7 @@ use Rattle.calls.specs.Load.{load-refusal, load-store}
 use Rattle.calls.specs.Insert.{labels-end, labels-run-out, place-tests, row-refusal, insert-store, insert-sheet-refusal, insert-sheet-store}
 use Rattle.calls.specs.Mark.{section-refusal, mark-store}
 use Rattle.calls.specs.Held.{question}
-use Rattle.calls.specs.Words.{words-of, Says, follow, read, in-front}
+use Rattle.calls.specs.Words.{words-of, Says, follow, read}
 use Rattle.calls.specs.File.{form, file-of, formed, read-file}
 use Rattle.calls.specs.Replies.{said, refusal-over, insert-reply, insert-words, insert-sheet-refused, insert-sheet-reply, insert-sheet-words, write-reply, write-bytes, read-reply, read-words}
 use Rattle.calls.specs.Calls.{Call, load, sheet, after, All-fit, judged, moved-after, Event, loads, Happens, Run, told, calls-of, total-moved}

@@ -3,7 +3,7 @@
 use mathlib.Core.Bool.{not, cond}
 use mathlib.Core.List.{List, [], _∷_, map}
 use mathlib.Core.Option.{Option, none, some}
-use Prim.Native.Nat.{ℕ, zero, suc}
+use Prim.Native.Nat.{ℕ}
 use lib.Dec.{ltb}
 use lib.ListN.{length}
 use Rattle.store_types.specs.declared.HeldPair.{HeldPair}
@@ -26,6 +26,7 @@ use Rattle.store_types.specs.declared.WriteReply.the-variants as write
 use Rattle.store_types.specs.Layout.{header-words, words-for}
 use Rattle.store_types.specs.FileLayout.{file-bytes}
 use Rattle.lists.specs.Lists.{first}
+use Rattle.lists.specs.Fronts.{replied, written}
 use Rattle.tree.specs.Book.{height, loaded}
 use Rattle.calls.specs.Kind.{kind-of}
 use Rattle.calls.specs.Store.{Store, count}
@@ -34,7 +35,7 @@ use Rattle.calls.specs.Insert.{insert-kinds, insert-refusal, insert-stor
 use Rattle.calls.specs.Mark.{section-refusal, mark-store, mark-count}
 use Rattle.calls.specs.Held.{hold-pair, question}
 use Rattle.calls.specs.Listing.{list-refusal, listed-tags, listed-labels}
-use Rattle.calls.specs.Words.{words-of, read, in-front}
+use Rattle.calls.specs.Words.{words-of, read}
 use Rattle.calls.specs.File.{file-of, count-in, formed, read-file}
 
 -- 1 and 2 come first on every call but load and the reading of a file: under 8 words; no store is said. Then the refusal of the
@@ -53,15 +54,6 @@ store-or (some st) = st
 
 unfoldable pub said : (words : List ℕ) → Store
 said ws = store-or (read ws)
-
--- what a call gives: where its refusal is 0 what it says accepted, else the refusal
-unfoldable pub replied : {A : Type 0} → (refused : ℕ → A) → (refusal : ℕ) → (accepted : A) → A
-replied f zero a = a
-replied f (suc k) a = f (suc k)
-
--- the words after a call that writes: new words in front where it was accepted, all as they were where it was refused
-unfoldable pub written : (refusal : ℕ) → (new old : List ℕ) → List ℕ
-written k new old = replied (λ _. old) k (in-front new old)
 
 -- LOAD
 unfoldable pub load-reply : (s r number : ℕ) → (kinds words : List ℕ) → LoadReply

@@ -6,6 +6,7 @@ use Prim.Native.Nat.{ℕ, suc, _/_, _%_}
 use lib.Dec.{leb, eqb}
 use lib.ListN.{length, take, set}
 use Rattle.lists.specs.Lists.{first, how-many, some-holds, those}
+use Rattle.lists.specs.Fronts.{in-front, replied}
 use Rattle.store_types.specs.Limits.{most-party, read-right, write-right, insert-right, all-rights}
 use Rattle.store_types.specs.declared.Act.{Act}
 use Rattle.store_types.specs.declared.Answer.the-variants.{Yes, No, Stale}
@@ -22,8 +23,7 @@ use Rattle.store_types.specs.declared.RevokeReply.{RevokeReply}
 use Rattle.store_types.specs.declared.RevokeReply.the-variants as revoke
 use Rattle.calls.specs.Kind.{is-begin}
 use Rattle.calls.specs.Store.{Store, fact, count as issued}
-use Rattle.calls.specs.Words.{in-front}
-use Rattle.calls.specs.Replies.{refusal-over, replied, insert-reply, insert-words, question-reply}
+use Rattle.calls.specs.Replies.{refusal-over, insert-reply, insert-words, question-reply}
 
 -- whether a grant is a party's on a section; and whether it gives one right there, which is 1, 2 or 4 of the rights added up: they are
 -- odd when divided by it

@@ -5,11 +5,12 @@ use mathlib.Core.Bool.{Bool, true, false, _&&_, cond}
 use mathlib.Core.List.{List, [], _∷_, _++_, map, flatMap}
 use mathlib.Core.Option.{Option, none, some}
 use Prim.Native.Nat.{ℕ, zero, suc, pred, _+_, _-_}
-use lib.Dec.{leb, eqb}
-use lib.ListN.{length, getD, drop}
+use lib.Dec.{leb}
+use lib.ListN.{length, getD}
 use Rattle.store_types.specs.Limits.{no-tag, most-levels, most-tags}
 use Rattle.store_types.specs.Layout.{at-s, at-r, at-height, at-count, at-first, at-book, at-stamp, header-words, at-next, at-mate, at-up, at-kind, header-list, record-list, word-at, words-for, field, label-at}
 use Rattle.lists.specs.Lists.{numbers}
+use Rattle.lists.specs.Fronts.{starts-with}
 use Rattle.tree.specs.Book.{Book, height, power-width}
 use Rattle.tree.specs.Spelling.{spelled}
 use Rattle.calls.specs.Kind.{kind-of, kind-word}
@@ -64,11 +65,6 @@ unfoldable pub read-store : List ℕ → Store
 read-store ws =
     record { book = read-book ws; number = word-at ws at-book; stamp = word-at ws at-stamp; facts = map (read-fact ws) (numbers 0 (word-at ws at-count)) }
 
-unfoldable pub starts-with : (front words : List ℕ) → Bool
-starts-with [] ws = true
-starts-with (v ∷ vs) [] = false
-starts-with (v ∷ vs) (w ∷ ws) = eqb v w && starts-with vs ws
-
 -- the header's ranges and the room for n tags, which every sound store has; looked at first, so that no power, tag or
 -- record is computed of words that can say no store
 unfoldable pub header-in-range : List ℕ → Bool
@@ -84,7 +80,3 @@ read-in-range true ws = let st = read-store ws in cond (sound st && starts-with 
 -- a store is said where it is sound and these are its words; else none is
 unfoldable pub read : List ℕ → Option Store
 read ws = read-in-range (header-in-range ws) ws
-
--- new words over the front of old ones, of which the rest stay; and so of any list that is lent
-unfoldable pub in-front : {A : Type 0} → (new old : List A) → List A
-in-front new old = new ++ drop (length new) old

@@ -16,7 +16,8 @@ use Rattle.store_types.specs.declared.PartyReply.{PartyReply}
 use Rattle.store_types.specs.declared.PartyReply.the-variants as acting
 use Rattle.store_types.specs.declared.QuestionReply.{QuestionReply}
 use Rattle.store_types.specs.declared.QuestionReply.the-variants as asking
-use Rattle.calls.specs.Replies.{replied, written, insert-refused, insert-reply, insert-words, question-reply}
+use Rattle.lists.specs.Fronts.{replied, written}
+use Rattle.calls.specs.Replies.{insert-refused, insert-reply, insert-words, question-reply}
 use Rattle.calls.specs.Rights.{held, is-allowed, turned-away, inserted-reply, allowed-reply, allowed-words, act-reply, act-words, party-refused, party-reply, party-words}
 use Rattle.calls.specs.Calls.{inserts, acts, Happens, insert-accepted}
 

@@ -16,19 +16,20 @@ use Rattle.store_types.specs.FileLayout.{file-bytes}
 use Rattle.store_types.specs.declared.LoadReply.the-variants as loading
 use Rattle.store_types.specs.declared.WriteReply.the-variants as writing
 use Rattle.lists.specs.Lists.{first}
+use Rattle.lists.specs.Fronts.{in-front, replied, written}
+use Rattle.lists.proofs.Replied.{replied-accepted}
 use Rattle.tree.specs.Book.{height}
 use Rattle.calls.specs.Store.{Store, count, row}
 use Rattle.calls.specs.Sound.{sound}
-use Rattle.calls.specs.Words.{words-of, Says, in-front}
+use Rattle.calls.specs.Words.{words-of, Says}
 use Rattle.calls.specs.File.{file-of, count-in, formed, read-file}
-use Rattle.calls.specs.Replies.{on-store, store-or, said, replied, written, write-refusal, write-refused, write-reply, write-bytes, file-refusal, read-reply, read-words}
+use Rattle.calls.specs.Replies.{on-store, store-or, said, write-refusal, write-refused, write-reply, write-bytes, file-refusal, read-reply, read-words}
 use Rattle.calls.specs.Reference.{Reference}
 use Rattle.calls.specs.Promise.{Reads-back, File-reader-right, Words-kept, Files-read-back, Files-differ, Shutdowns-keep}
 use Rattle.calls_laws.proofs.Tests.{passes, facts-of}
 use Rattle.calls_laws.proofs.Fields.{length-words}
 use Rattle.calls_laws.proofs.Reader.{reads-back}
 use Rattle.calls_laws.proofs.WordSteps.{said-store, header-said, row-said, labels-said, refusal-passed, says-in-front}
-use Rattle.calls_laws.proofs.Replies.{replied-accepted}
 use Rattle.calls_laws.proofs.Files.{length-file, file-formed, count-file, file-read, file-reader-right}
 
 -- the words of a store in front of others

@@ -8,10 +8,11 @@ use borrow.Author.Tests.{leb-true, leb-false}
 use lib.Dec.{leb}
 use Rattle.lists.specs.Lists.{first}
 use Rattle.lists.proofs.Tests.{by-test, and-right}
+use Rattle.lists.specs.Fronts.{replied}
 use Rattle.store_types.specs.Limits.{most-party, all-rights}
 use Rattle.calls.specs.Kind.{is-begin}
 use Rattle.calls.specs.Store.{fact, count}
-use Rattle.calls.specs.Replies.{said, replied}
+use Rattle.calls.specs.Replies.{said}
 use Rattle.calls.specs.Rights.{range-refusal, grant-tests, grant-refused}
 use Rattle.calls_laws.proofs.Tests.{passes}
 use Rattle.calls_laws.proofs.WordSteps.{refusal-passed}

@@ -16,7 +16,6 @@ pub mod Reader
 pub mod WordSteps
 pub mod Sheets
 pub mod Files
-pub mod Replies
 pub mod FileCalls
 pub mod ListsKeep
 pub mod Grants

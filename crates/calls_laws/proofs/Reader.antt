@@ -1,14 +1,14 @@
 -- The reader: words are read as a store just where they say it, so they say at most one.
 -- Assumes nothing.
 use mathlib.Core.Path.{_≡_, refl, ap, sym, _∙_}
-use mathlib.Core.Bool.{Bool, true, false, _&&_, cond, true≢false}
+use mathlib.Core.Bool.{Bool, true, false, _&&_, cond}
 use mathlib.Core.List.{List, [], _∷_, _++_, map}
 use mathlib.Core.Option.{some}
 use Prim.Native.Nat.{ℕ, zero, suc, _+_, _-_, _≤_, _<_}
 use native.Mathlib.Nat.{zero-add, not-suc-le-zero, le-of-suc-le-suc}
 use native.Mathlib.Omega.{arith}
-use borrow.Author.Tests.{eq-eqb, eqb-true, le-leb}
-use lib.Dec.{leb, eqb}
+use borrow.Author.Tests.{le-leb}
+use lib.Dec.{leb}
 use lib.ListN.{length, getD, drop, length-map, length-append}
 use lib.Seq.{drop-cons, drop-length, ext-getD}
 use Rattle.store_types.specs.Limits.{no-tag}
@@ -16,6 +16,8 @@ use Rattle.lists.proofs.Tests.{and-left, and-right, and-both, by-test}
 use Rattle.store_types.specs.Layout.{header-words, words-for, label-at, field, at-next}
 use Rattle.lists.specs.Lists.{numbers}
 use Rattle.lists.proofs.Numbers.{length-numbers, getD-numbers}
+use Rattle.lists.specs.Fronts.{starts-with}
+use Rattle.lists.proofs.Fronts.{starts-front, rest-of}
 use Rattle.tree.specs.Book.{height, label-of, labels-of, root-within, book-within}
 use Rattle.tree.specs.Forest.{within-limits}
 use Rattle.tree_laws.proofs.Good.{good-of}
@@ -25,7 +27,7 @@ use Rattle.tree_laws.proofs.Spelled.{spelled-good}
 use Rattle.calls.specs.Kind.{Kind, begin, end, text, code, kind-of, kind-word}
 use Rattle.calls.specs.Store.{Store, no-fact, fact, count, row, width, next-in}
 use Rattle.calls.specs.Sound.{sound}
-use Rattle.calls.specs.Words.{words-of, Says, follow, read-fact, header-width, read-book, read-store, starts-with, header-in-range, read-in-range, read}
+use Rattle.calls.specs.Words.{words-of, Says, follow, read-fact, header-width, read-book, read-store, header-in-range, read-in-range, read}
 use Rattle.calls.specs.Promise.{Height-most, Reader-right, Says-one, Reads-back}
 use Rattle.calls_laws.proofs.Widths.{store-widths}
 use Rattle.calls_laws.proofs.Tests.{Sound, facts-of, degrees-test}
@@ -130,19 +132,6 @@ module _ (st : Store) (rest : List ℕ) (h : Sound st) where
   store-read =
       let head = header-says st rest in
       rw (head .issued, head .number, head .stamp, book-read, facts-read)
-
--- FRONTS: a list starts with its front, and what it starts with has a rest
-pub starts-front : (vs rest : List ℕ) → starts-with vs (vs ++ rest) ≡ true
-unfolding starts-with
-starts-front [] rest = refl
-starts-front (v ∷ vs) rest = and-both (eq-eqb v v refl) (starts-front vs rest)
-
-pub rest-of : (vs ws : List ℕ) → starts-with vs ws ≡ true → ws ≡ vs ++ drop (length vs) ws
-unfolding starts-with
-rest-of [] ws e = refl
-rest-of (v ∷ vs) [] e = absurd (true≢false (sym e))
-rest-of (v ∷ vs) (w ∷ ws) e =
-    rw (eqb-true v w (and-left (eqb v w) (starts-with vs ws) e)) (ap (λ l. w ∷ l) (rest-of vs ws (and-right (eqb v w) (starts-with vs ws) e)))
 
 -- THE HEADER of a sound store is in its ranges
 in-range : (st : Store) (rest : List ℕ) → sound st ≡ true → header-in-range (words-of st ++ rest) ≡ true

@@ -26,18 +26,20 @@ use Rattle.calls.specs.Sound.{sound}
 use Rattle.calls.specs.Load.{load-refusal, load-store}
 use Rattle.calls.specs.Insert.{insert-kinds, position, book-after, insert-store, row-refusal, insert-sheet-store}
 use Rattle.calls.specs.Mark.{section-refusal, mark-store}
-use Rattle.calls.specs.Words.{words-of, Says, in-front}
-use Rattle.calls.specs.Replies.{refusal-over, said, written, replied, load-reply, load-words, insert-refused, insert-reply, insert-words, insert-sheet-refused, insert-sheet-reply, insert-sheet-words, mark-reply, mark-words}
+use Rattle.calls.specs.Words.{words-of, Says}
+use Rattle.calls.specs.Replies.{refusal-over, said, load-reply, load-words, insert-refused, insert-reply, insert-words, insert-sheet-refused, insert-sheet-reply, insert-sheet-words, mark-reply, mark-words}
 use Rattle.calls.specs.Calls.{Call, load, insert, sheet, mark, refusal, changed, accepts, after-one, after, Event, loads, inserts, sheets, marks, holds, asks, lists, writes, acts, Happens, Run, Told, load-accepted, insert-accepted, mark-accepted, told, calls-of, emptied-by, total-after-insert, total-after-act, total-moved, moved-by, moved-after, judged}
 use Rattle.calls.specs.Reference.{Reference}
 use Rattle.calls.specs.Promise.{Load-sound, Kept, Lists-keep, Words-kept, Runs-keep}
 use Rattle.calls_laws.proofs.Tests.{sane, facts-of}
 use Rattle.calls_laws.proofs.Fields.{length-words}
-use Rattle.calls_laws.proofs.WordSteps.{said-store, words-fit, refusal-said, header-said, row-said, labels-said, says-in-front, length-in-front, written-says, length-written}
+use Rattle.calls_laws.proofs.WordSteps.{said-store, words-fit, refusal-said, header-said, row-said, labels-said, says-in-front, written-says}
 use Rattle.lists.proofs.Tests.{either-way}
+use Rattle.lists.specs.Fronts.{in-front, written, replied}
+use Rattle.lists.proofs.Fronts.{length-in-front}
+use Rattle.lists.proofs.Replied.{length-written, replied-accepted, read-replied, replied-told}
 use Rattle.calls_laws.proofs.Inserts.{accepted-row, position-fits}
 use Rattle.calls_laws.proofs.Steps.{accepted-load, insert-passed, accepted-sheet, load-sound, changed-sound}
-use Rattle.calls_laws.proofs.Replies.{replied-accepted, read-replied, replied-told}
 use Rattle.calls_laws.proofs.Acts.{Acted, act-happened}
 use Rattle.calls_laws.proofs.ListsKeep.{lists-keep}
 

@@ -12,6 +12,7 @@ use Rattle.store_types.specs.Limits.{most-tags}
 use Rattle.store_types.specs.Layout.{header-words, words-for}
 use Rattle.lists.specs.Lists.{first}
 use Rattle.lists.proofs.Tests.{by-test}
+use Rattle.lists.specs.Fronts.{written, replied}
 use Rattle.tree.specs.Book.{height, split-of-row}
 use Rattle.tree.specs.Grown.{height-for}
 use Rattle.tree_laws.proofs.RowHeight.{next-limit, search-least, least-one}
@@ -22,7 +23,7 @@ use Rattle.calls.specs.Sound.{sound}
 use Rattle.calls.specs.Load.{all-kinds, kinds-tests}
 use Rattle.calls.specs.Insert.{insert-kinds, insert-split, raised, labels-run-out, place-tests, room-tests, insert-refusal, row-refusal, insert-sheet-refusal, insert-sheet-store}
 use Rattle.calls.specs.Words.{words-of, Says}
-use Rattle.calls.specs.Replies.{said, written, replied, insert-refused, insert-reply, insert-words, insert-sheet-refused, insert-sheet-reply, insert-sheet-words}
+use Rattle.calls.specs.Replies.{said, insert-refused, insert-reply, insert-words, insert-sheet-refused, insert-sheet-reply, insert-sheet-words}
 use Rattle.calls.specs.Promise.{Rows-end, least-height, Sheets-run-out, Empty-sheet, Singles-are-sheets}
 use Rattle.calls_laws.proofs.Widths.{fits-below}
 use Rattle.calls_laws.proofs.Tests.{facts-of, root-limits}

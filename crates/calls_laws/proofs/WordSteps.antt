@@ -5,19 +5,19 @@ use mathlib.Core.List.{List, map}
 use mathlib.Core.Bool.{true, cond}
 use mathlib.Core.Option.{Option, none, some}
 use Prim.Native.Nat.{ℕ, zero, suc, _≤_}
-use native.Mathlib.Nat.{zero-add}
 use native.Mathlib.Omega.{arith}
 use borrow.Author.Tests.{le-ltb}
 use lib.Dec.{ltb, eqb, eqb·suc-zero}
-use lib.ListN.{length, drop, length-append, length-drop}
-use lib.Seq.{sets, sets-eq, drop-append-seam}
+use lib.ListN.{length, drop, length-append}
+use lib.Seq.{drop-append-seam}
 use Rattle.store_types.specs.Layout.{at-first, header-words, word-at, words-for, label-at}
+use Rattle.lists.specs.Fronts.{in-front, written, replied}
 use Rattle.tree.specs.Book.{labels-of}
 use Rattle.words.proofs.Fields.{header-fits}
 use Rattle.calls.specs.Store.{Store, count, row, width}
 use Rattle.calls.specs.Sound.{sound}
-use Rattle.calls.specs.Words.{words-of, Says, follow, header-width, read, in-front}
-use Rattle.calls.specs.Replies.{on-store, refusal-over, store-or, said, written, replied}
+use Rattle.calls.specs.Words.{words-of, Says, follow, header-width, read}
+use Rattle.calls.specs.Replies.{on-store, refusal-over, store-or, said}
 use Rattle.calls.specs.Promise.{Reader-right}
 use Rattle.calls_laws.proofs.Tests.{passes, facts-of}
 use Rattle.calls_laws.proofs.Fields.{length-words, Header-says, header-says}
@@ -85,19 +85,10 @@ pub front-same : (ws : List ℕ) (st : Store) → Says ws st → in-front (words
 unfolding Says in-front
 front-same ws st h = rw (h .1 .1, drop-append-seam)
 
--- NEW WORDS in front say their store, and where they fit there are as many words as before
+-- NEW WORDS in front say their store
 pub says-in-front : (ws : List ℕ) (su : Store) → sound su ≡ true → Says (in-front (words-of su) ws) su
 unfolding Says in-front
 says-in-front ws su e = (e, (drop (length (words-of su)) ws, refl))
-
-pub length-in-front : (new old : List ℕ) → length new ≤ length old → length (in-front new old) ≡ length old
-unfolding in-front
-length-in-front new old l = length-append new (drop (length new) old) ∙ omega (arith, length-drop (length new) old)
-
--- and so do words stored one after the other from the front
-pub sets-front : (new old : List ℕ) → length new ≤ length old → sets old 0 new ≡ in-front new old
-unfolding in-front
-sets-front new old l = sets-eq new old 0 (rw zero-add l) ∙ rw zero-add
 
 -- THE WORDS AFTER A CALL that writes where its refusal is 0: they say the new store, or still the old one
 pub written-says : (ws : List ℕ) (st su : Store) (refusal : ℕ) → Says ws st → (refusal ≡ 0 → sound su ≡ true) →
@@ -105,8 +96,3 @@ pub written-says : (ws : List ℕ) (st su : Store) (refusal : ℕ) → Says ws s
 unfolding written replied
 written-says ws st su zero h good = says-in-front ws su (good refl)
 written-says ws st su (suc k) h good = rw (eqb·suc-zero k) h
-
-pub length-written : (refusal : ℕ) (new old : List ℕ) → (refusal ≡ 0 → length new ≤ length old) → length (written refusal new old) ≡ length old
-unfolding written replied
-length-written zero new old fit = length-in-front new old (fit refl)
-length-written (suc k) new old fit = refl

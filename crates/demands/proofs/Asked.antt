@@ -12,19 +12,20 @@ use Rattle.store_types.specs.declared.Answer.the-variants.{Yes, No, Stale}
 use Rattle.store_types.specs.declared.QuestionReply.the-variants.{Answered, Refused}
 use Rattle.store_types.specs.declared.HoldReply.the-variants as held
 use Rattle.store_types.specs.Layout.{at-book, at-mate, word-at, field, label-at}
+use Rattle.lists.specs.Fronts.{replied}
+use Rattle.lists.proofs.Replied.{replied-accepted}
 use Rattle.calls.specs.Kind.{Kind, begin, end, text, code, kind-word, is-begin}
 use Rattle.calls.specs.Store.{Store, fact, count, row, label}
 use Rattle.calls.specs.Mark.{section-refusal}
 use Rattle.calls.specs.Held.{hold-pair, question}
 use Rattle.calls.specs.Words.{Says}
-use Rattle.calls.specs.Replies.{said, refusal-over, replied, question-reply, hold-reply}
+use Rattle.calls.specs.Replies.{said, refusal-over, question-reply, hold-reply}
 use Rattle.calls.specs.Promise.{Encloses, Current, Asked, Pairs-right, Yes-or-no}
 use Rattle.calls_laws.proofs.Reader.{kind-back}
 use Rattle.calls_laws.proofs.Sections.{distinct-row, in-row, mate-fits}
 use Rattle.calls_laws.proofs.Marks.{accepted-section}
 use Rattle.calls_laws.proofs.Pairs.{pairs-right}
 use Rattle.calls_laws.proofs.WordSteps.{said-store, refusal-said, refusal-passed, header-said}
-use Rattle.calls_laws.proofs.Replies.{replied-accepted}
 use Rattle.demands.specs.Words.{is-marked}
 use Rattle.demands.specs.Promise.{Asked-words, Current-words, Enclosed, Question-right, Hold-right, Yes-or-no-words}
 use Rattle.demands.proofs.Said.{sound-said, tag-said, book-row}

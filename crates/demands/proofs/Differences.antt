@@ -14,6 +14,8 @@ use Rattle.store_types.specs.declared.TagId.{TagId}
 use Rattle.lists.proofs.Tests.{by-test}
 use Rattle.lists.specs.Lists.{numbers, how-many}
 use Rattle.lists.proofs.Numbers.{length-numbers}
+use Rattle.lists.specs.Fronts.{replied, written}
+use Rattle.lists.proofs.Replied.{replied-accepted}
 use Rattle.tree.specs.Book.{Book, label-of, inserted-row, moved-among}
 use Rattle.tree_laws.proofs.Rows.{member-numbers}
 use Rattle.calls.specs.Kind.{Kind, kind-of}
@@ -22,7 +24,7 @@ use Rattle.calls.specs.Nesting.{new-facts}
 use Rattle.calls.specs.Insert.{insert-kinds, position, up-at, book-after, insert-store, insert-moved, insert-sheet-store}
 use Rattle.calls.specs.Mark.{within, mark-store, new-marks, mark-count, section-refusal}
 use Rattle.calls.specs.Words.{words-of, Says}
-use Rattle.calls.specs.Replies.{said, refusal-over, replied, written, insert-refused, insert-reply, insert-words, insert-sheet-refused, insert-sheet-reply, insert-sheet-words, mark-reply, mark-words}
+use Rattle.calls.specs.Replies.{said, refusal-over, insert-refused, insert-reply, insert-words, insert-sheet-refused, insert-sheet-reply, insert-sheet-words, mark-reply, mark-words}
 use Rattle.calls.specs.Calls.{Call, insert, sheet, mark, refusal, changed}
 use Rattle.calls.specs.Promise.{Marks-stay}
 use Rattle.calls_laws.proofs.Reader.{kind-back}
@@ -32,7 +34,6 @@ use Rattle.calls_laws.proofs.Moved.{marks-stay, moved-once}
 use Rattle.calls_laws.proofs.Marks.{length-marked, mark-of}
 use Rattle.calls_laws.proofs.Steps.{changed-sound}
 use Rattle.calls_laws.proofs.WordSteps.{refusal-passed, header-said, says-in-front}
-use Rattle.calls_laws.proofs.Replies.{replied-accepted}
 use Rattle.walk_model.proofs.Passes.{total}
 use Rattle.walk_model.proofs.Counts.{total-same}
 use Rattle.demands.specs.Words.{is-marked, count-below, unmarked-changed, became-marked}

@@ -14,22 +14,24 @@ use Rattle.store_types.specs.declared.ListReply.the-variants.{Listed, Refused}
 use Rattle.store_types.specs.declared.WriteReply.the-variants as writing
 use Rattle.store_types.specs.declared.PartyReply.the-variants as acting
 use Rattle.lists.proofs.Tests.{or-left-false, or-right-false}
+use Rattle.lists.specs.Fronts.{in-front, replied, written}
+use Rattle.lists.proofs.Fronts.{length-in-front}
+use Rattle.lists.proofs.Replied.{replied-told}
 use Rattle.calls.specs.Kind.{is-begin}
 use Rattle.calls.specs.Store.{Store, fact, count, label}
 use Rattle.calls.specs.Sound.{sound}
 use Rattle.calls.specs.Load.{load-refusal, load-store}
 use Rattle.calls.specs.Mark.{section-refusal}
 use Rattle.calls.specs.Listing.{listed-tags, listed-labels, inside-tests, list-refusal}
-use Rattle.calls.specs.Words.{words-of, Says, in-front}
+use Rattle.calls.specs.Words.{words-of, Says}
 use Rattle.tree.specs.Book.{height}
 use Rattle.calls.specs.File.{file-of, read-file}
-use Rattle.calls.specs.Replies.{said, refusal-over, replied, written, load-reply, load-words, insert-refused, insert-reply, insert-words, insert-sheet-refused, insert-sheet-reply, insert-sheet-words, mark-reply, mark-words, list-refused, list-reply, list-tags, list-labels, write-refused, write-reply, write-bytes, store-or, file-refusal, read-reply, read-words}
+use Rattle.calls.specs.Replies.{said, refusal-over, load-reply, load-words, insert-refused, insert-reply, insert-words, insert-sheet-refused, insert-sheet-reply, insert-sheet-words, mark-reply, mark-words, list-refused, list-reply, list-tags, list-labels, write-refused, write-reply, write-bytes, store-or, file-refusal, read-reply, read-words}
 use Rattle.calls.specs.Calls.{Call, Event, insert, sheet, mark, refusal, changed, loads, inserts, sheets, marks, holds, asks, lists, writes, acts, Happens, load-accepted, insert-accepted, mark-accepted}
 use Rattle.calls.specs.Promise.{Load-sound}
 use Rattle.calls_laws.proofs.Tests.{passes}
 use Rattle.calls_laws.proofs.Steps.{load-sound, changed-sound}
-use Rattle.calls_laws.proofs.WordSteps.{words-fit, refusal-passed, length-in-front}
-use Rattle.calls_laws.proofs.Replies.{replied-told}
+use Rattle.calls_laws.proofs.WordSteps.{words-fit, refusal-passed}
 use Rattle.calls_laws.proofs.Files.{length-file}
 use Rattle.calls_laws.proofs.Fields.{length-words}
 use Rattle.calls_laws.proofs.FileCalls.{file-fits, Was-read, read-accepted}

@@ -14,6 +14,8 @@ use Rattle.store_types.specs.Limits.{no-tag}
 use Rattle.store_types.specs.declared.ListReply.the-variants.{Listed, Refused}
 use Rattle.lists.proofs.Tests.{by-test}
 use Rattle.lists.proofs.Those.{those-append}
+use Rattle.lists.specs.Fronts.{replied}
+use Rattle.lists.proofs.Replied.{replied-accepted}
 use Rattle.store_types.specs.Layout.{label-at}
 use Rattle.tree.specs.Row.{member, place}
 use Rattle.tree_laws.proofs.Rows.{member-first, member-later, member-append, member-of-drop}
@@ -22,13 +24,12 @@ use Rattle.calls.specs.Store.{Store, fact, count, row, place-of, label}
 use Rattle.calls.specs.Held.{encloses}
 use Rattle.calls.specs.Listing.{is-listed, listed-tags, listed-labels, inside-tests, list-refusal}
 use Rattle.calls.specs.Words.{Says}
-use Rattle.calls.specs.Replies.{said, refusal-over, replied, list-refused, list-reply, list-tags, list-labels}
+use Rattle.calls.specs.Replies.{said, refusal-over, list-refused, list-reply, list-tags, list-labels}
 use Rattle.calls.specs.Calls.{lists, Happens}
 use Rattle.calls_laws.proofs.Tests.{Sound, passes}
 use Rattle.calls_laws.proofs.Nesting.{Step, begins, ends, stands, Closed}
 use Rattle.calls_laws.proofs.Sections.{place-at, place-first-part, place-middle-part, place-last-part, distinct-row, row-below, row-at, At, pass-at, closed-at}
 use Rattle.calls_laws.proofs.WordSteps.{refusal-passed}
-use Rattle.calls_laws.proofs.Replies.{replied-accepted}
 use Rattle.demands.specs.Words.{is-marked, unmarked-of, Inside}
 use Rattle.demands.specs.Promise.{listed, accepted, Lists-hold, Every-call, List-right}
 use Rattle.demands.proofs.Said.{sound-said, tag-said, book-row}

@@ -16,6 +16,7 @@ use Rattle.store_types.specs.Layout.{at-s, at-r, at-height, header-words, word-
 use Rattle.lists.specs.Lists.{numbers}
 use Rattle.lists.proofs.Tests.{by-test}
 use Rattle.lists.proofs.Numbers.{length-numbers}
+use Rattle.lists.specs.Fronts.{in-front}
 use Rattle.shape.specs.Tables.{entry, widths-of}
 use Rattle.shape.proofs.TableLaws.{table-at}
 use Rattle.words.specs.Places.{up-word}
@@ -32,7 +33,7 @@ use Rattle.calls.specs.Kind.{Kind, begin, end, text, code, kind-word, is-begin}
 use Rattle.calls.specs.Store.{Store, Fact, no-fact, fact, count, row, width, height-fits}
 use Rattle.calls.specs.Nesting.{new-facts}
 use Rattle.calls.specs.Insert.{position, up-at, book-after, insert-store, insert-moved, insert-split}
-use Rattle.calls.specs.Words.{words-of, Says, in-front}
+use Rattle.calls.specs.Words.{words-of, Says}
 use Rattle.calls_laws.proofs.Tests.{Sound, sane}
 use Rattle.calls_laws.proofs.Fields.{length-words, Tag-says, tag-says, header-says}
 use Rattle.calls_laws.proofs.Sections.{in-row, distinct-row, new-apart}

@@ -1,15 +1,16 @@
 -- Writing a read book row by row: each row writes the words of its tag's record and nothing else, so the rows of a sound store
 -- behind its header leave its words. Assumes nothing.
-use mathlib.Core.Path.{_≡_, refl, ap, sym, _∙_}
+use mathlib.Core.Path.{_≡_, refl, sym, _∙_}
 use mathlib.Core.Bool.{true, false, true≢false, false≢true}
-use mathlib.Core.List.{List, [], _∷_, _++_, map}
-use Prim.Native.Nat.{ℕ, suc, _+_, _-_, _≤_, _<_}
+use mathlib.Core.List.{List, [], _∷_, map}
+use Prim.Native.Nat.{ℕ, suc, _-_, _≤_, _<_}
 use native.Mathlib.Omega.{arith}
 use borrow.Author.Tests.{eqb-true, eqb-false}
 use lib.Dec.{eqb}
 use lib.ListN.{length, getD, drop}
-use lib.Seq.{drop-append-add, drop-drop}
 use Rattle.lists.proofs.Tests.{by-test, or-left-false, or-right-false}
+use Rattle.lists.specs.Fronts.{in-front}
+use Rattle.lists.proofs.Fronts.{length-in-front, drop-in-front}
 use Rattle.store_types.specs.Layout.{header-words, label-words, at-next, at-prior, at-mate, at-up, at-kind, tag-words, word-at, words-for, field, label-at, with-field, with-label, Room}
 use Rattle.store_types.specs.FileLayout.{at-label}
 use Rattle.words.proofs.Fields.{header-fits, record-room, room-same, field-same, field-other-tag, field-other-word, label-same, label-other-tag, field-past-label, label-past-field, header-kept, header-kept-label, length-with-field, length-with-label, rest-with-field, rest-with-label}
@@ -18,11 +19,10 @@ use Rattle.tree.specs.Row.{member}
 use Rattle.tree_laws.proofs.Rows.{member-nil, member-cases, member-first, member-later, member-all-below, distinct-all-below}
 use Rattle.calls.specs.Store.{Store, count, row}
 use Rattle.calls.specs.Sound.{sound}
-use Rattle.calls.specs.Words.{header, tag-record, words-of, in-front}
+use Rattle.calls.specs.Words.{header, tag-record, words-of}
 use Rattle.calls.specs.File.{tag-row, header-in, rows-in, row-number}
 use Rattle.calls_laws.proofs.Tests.{facts-of}
 use Rattle.calls_laws.proofs.Fields.{length-words}
-use Rattle.calls_laws.proofs.WordSteps.{length-in-front}
 use Rattle.file_model.specs.Judge.{with-row, with-rows}
 
 -- ONE ROW. Words with the first m words of a row's record written over others: all else is as it was
@@ -161,16 +161,6 @@ module _ (st : Store) where
   rest-written n ws (x ∷ xs) own =
       rest-written n (with-row ws (tag-row st x)) xs (λ z k. own z (member-later z x xs k))
       ∙ row-written ws (tag-row st x) .rest n (own x (member-first x xs))
-
--- what stands past words in front
-drop-in-front : (new old : List ℕ) (k : ℕ) → length new ≤ k → drop k (in-front new old) ≡ drop k old
-unfolding in-front
-drop-in-front new old k l =
-    let past : k ≡ length new + (k - length new) = omega arith in
-    ap (λ (j : ℕ). drop j (new ++ drop (length new) old)) past
-    ∙ drop-append-add new (drop (length new) old) (k - length new)
-    ∙ drop-drop (k - length new) (length new) old
-    ∙ ap (λ (j : ℕ). drop j old) (sym past)
 
 -- A SOUND STORE'S HEADER AND ROWS leave its words
 module _ (st : Store) (ws : List ℕ) (e : sound st ≡ true) (long : words-for header-words (count st) ≤ length ws) where

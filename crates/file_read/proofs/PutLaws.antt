@@ -9,10 +9,10 @@ use lib.ListN.{length, getD, set, drop, length-set}
 use lib.Seq.{drop-cons, drop-length, sets}
 use Rattle.store_types.specs.Layout.{at-next, at-prior, at-mate, at-up, at-kind, with-field, with-label, Room}
 use Rattle.store_types.specs.FileLayout.{at-number, at-label}
+use Rattle.lists.specs.Fronts.{in-front}
+use Rattle.lists.proofs.Fronts.{sets-front}
 use Rattle.words.proofs.Fields.{room-same}
-use Rattle.calls.specs.Words.{in-front}
 use Rattle.calls.specs.File.{rows-in, row-number}
-use Rattle.calls_laws.proofs.WordSteps.{sets-front}
 use Rattle.calls_laws.proofs.FileForm.{length-rows}
 use Rattle.file_form.specs.Needs.{Row-there}
 use Rattle.file_model.specs.Judge.{row-word, with-row, with-rows}

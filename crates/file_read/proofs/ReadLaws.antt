@@ -9,16 +9,17 @@ use borrow.Author.Tests.{lt-ltb, le-ltb}
 use lib.ListN.{length}
 use Rattle.lists.specs.Lists.{first}
 use Rattle.lists.proofs.Tests.{and-left}
+use Rattle.lists.specs.Fronts.{in-front, replied, written}
+use Rattle.lists.proofs.Fronts.{length-in-front}
+use Rattle.lists.proofs.Replied.{replied-refused}
 use Rattle.store_types.specs.Layout.{at-height, at-count, at-first, header-words, word-at, words-for}
 use Rattle.store_types.specs.FileLayout.{at-number}
 use Rattle.store_types.specs.declared.LoadReply.the-variants as load
 use Rattle.words.proofs.Fields.{header-fits, record-room}
 use Rattle.calls.specs.Store.{Store, count}
-use Rattle.calls.specs.Words.{header, in-front}
+use Rattle.calls.specs.Words.{header}
 use Rattle.calls.specs.File.{header-in, count-in, formed, rows-in, read-file}
-use Rattle.calls.specs.Replies.{store-or, replied, written, file-refusal, read-reply, read-words}
-use Rattle.calls_laws.proofs.WordSteps.{length-in-front}
-use Rattle.calls_laws.proofs.Replies.{replied-refused}
+use Rattle.calls.specs.Replies.{store-or, file-refusal, read-reply, read-words}
 use Rattle.calls_laws.proofs.FileForm.{parts-of, length-rows}
 use Rattle.file_model.specs.Judge.{row-word, in-order, judged, with-rows}
 use Rattle.file_model.proofs.Rows.{length-header-in}

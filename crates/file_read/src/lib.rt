@@ -5,7 +5,7 @@ ghost use Prim.Native.Nat.{_≤_};
 ghost use lib.ListN.{length, getD};
 ghost use Rattle.store_types.specs.Layout.{header-words, Room};
 ghost use Rattle.store_types.specs.FileLayout.{at-number};
-ghost use Rattle.calls.specs.Words.{in-front};
+ghost use Rattle.lists.specs.Fronts.{in-front};
 ghost use Rattle.calls.specs.File.{rows-in};
 ghost use Rattle.calls.specs.Replies.{read-reply, read-words};
 ghost use Rattle.file_form.specs.Needs.{Row-there};

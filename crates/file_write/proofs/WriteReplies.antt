@@ -12,15 +12,17 @@ use Rattle.store_types.specs.declared.WriteReply.the-variants.{Written, Refused
 use Rattle.store_types.specs.Limits.{word-limit}
 use Rattle.store_types.specs.Layout.{at-count, word-at}
 use Rattle.store_types.specs.FileLayout.{header-kind, end-kind, row-bytes, file-bytes, record-place}
+use Rattle.lists.specs.Fronts.{in-front, replied, written}
+use Rattle.lists.proofs.Replied.{replied-refused}
+use Rattle.lists.proofs.Fronts.{sets-front}
 use Rattle.little_endian.proofs.Stores.{stored-behind}
 use Rattle.calls.specs.Store.{Store, count, row}
 use Rattle.calls.specs.Sound.{sound}
-use Rattle.calls.specs.Words.{Says, header, in-front}
+use Rattle.calls.specs.Words.{Says, header}
 use Rattle.calls.specs.File.{file-record, form, tag-row, file-of}
-use Rattle.calls.specs.Replies.{refusal-over, said, replied, written, write-refused, write-reply, write-bytes, write-refusal}
+use Rattle.calls.specs.Replies.{refusal-over, said, write-refused, write-reply, write-bytes, write-refusal}
 use Rattle.calls_laws.proofs.Tests.{facts-of}
-use Rattle.calls_laws.proofs.Replies.{replied-refused}
-use Rattle.calls_laws.proofs.WordSteps.{header-said, sets-front}
+use Rattle.calls_laws.proofs.WordSteps.{header-said}
 use Rattle.store_refuse.proofs.Laws.{refused-said, accepted-says, sound-said}
 use Rattle.calls_laws.proofs.FileRecords.{length-record}
 use Rattle.calls_laws.proofs.Files.{length-file}

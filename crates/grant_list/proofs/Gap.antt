@@ -9,9 +9,9 @@ use lib.ListN.{length, getD, set, take, drop, take-append-drop, length-set}
 use lib.Seq.{drop-cons, drop-set-lt, set-getD, take-suc-set}
 use Rattle.lists.specs.Lists.{those}
 use Rattle.lists.proofs.Tests.{by-test}
+use Rattle.lists.specs.Fronts.{in-front}
 use Rattle.store_types.specs.declared.Grant.{Grant}
 use Rattle.calls.specs.Rights.{names, others}
-use Rattle.calls.specs.Words.{in-front}
 use Rattle.grant_list.specs.Gap.{Closed, closed, stays, next-place, no-grant}
 
 -- new grants from place k on

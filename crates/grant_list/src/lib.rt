@@ -4,8 +4,8 @@ ghost use mathlib.Core.Path.{_≡_};
 ghost use mathlib.Core.Bool.{_||_};
 ghost use Prim.Native.Nat.{_≤_, _<_};
 ghost use lib.ListN.{length, set};
+ghost use Rattle.lists.specs.Fronts.{in-front};
 ghost use Rattle.calls.specs.Rights.{names as is-named, gives as is-given, held, others};
-ghost use Rattle.calls.specs.Words.{in-front};
 ghost use Rattle.grant_list.specs.Gap.{stays as stays-of, next-place as place-behind};
 use store_types::Grant;
 

@@ -14,18 +14,19 @@ use Rattle.store_types.specs.declared.Answer.the-variants.{Yes, No, Stale}
 use Rattle.store_types.specs.declared.HoldReply.the-variants as hold
 use Rattle.store_types.specs.declared.QuestionReply.the-variants as asked
 use Rattle.lists.proofs.Tests.{and-left, and-right, by-test}
+use Rattle.lists.specs.Fronts.{replied}
+use Rattle.lists.proofs.Replied.{replied-refused}
 use Rattle.store_types.specs.Layout.{at-count, at-book, at-kind, word-at, field, label-at}
 use Rattle.calls.specs.Kind.{is-begin}
 use Rattle.calls.specs.Store.{fact, count, label}
 use Rattle.calls.specs.Mark.{section-refusal}
 use Rattle.calls.specs.Held.{hold-pair, encloses, current, question-tests, question}
 use Rattle.calls.specs.Words.{Says}
-use Rattle.calls.specs.Replies.{refusal-over, said, replied, hold-reply, question-reply}
+use Rattle.calls.specs.Replies.{refusal-over, said, hold-reply, question-reply}
 use Rattle.calls.specs.Promise.{Labels-tell}
 use Rattle.calls_laws.proofs.Marks.{accepted-section}
 use Rattle.calls_laws.proofs.Pairs.{labels-tell}
 use Rattle.calls_laws.proofs.WordSteps.{header-said}
-use Rattle.calls_laws.proofs.Replies.{replied-refused}
 use Rattle.store_refuse.specs.Needs.{Tag-said}
 use Rattle.held_call.specs.Needs.{Pair-asked}
 use Rattle.store_refuse.proofs.Laws.{refused-said, accepted-says, accepted-store, words-of-tag, kind-of-tag, mate-of-tag, no-tag-from}

@@ -11,17 +11,18 @@ use Rattle.store_types.specs.declared.InsertReply.{InsertReply}
 use Rattle.store_types.specs.declared.InsertReply.the-variants.{Inserted, Refused}
 use Rattle.store_types.specs.Layout.{at-count, at-stamp, header-words, word-at}
 use Rattle.lists.specs.Lists.{first}
+use Rattle.lists.specs.Fronts.{in-front, replied, written}
+use Rattle.lists.proofs.Replied.{replied-refused}
 use Rattle.shape.specs.Tables.{table-length}
 use Rattle.calls.specs.Kind.{Kind, kind-of}
 use Rattle.calls.specs.Store.{Store}
 use Rattle.calls.specs.Insert.{insert-refusal, insert-store, insert-sheet-refusal, insert-sheet-store}
-use Rattle.calls.specs.Words.{words-of, Says, in-front}
+use Rattle.calls.specs.Words.{words-of, Says}
 use Rattle.calls.specs.Promise.{Empty-sheet, Singles-are-sheets}
-use Rattle.calls.specs.Replies.{said, replied, written, refusal-over, insert-refused, insert-reply, insert-words, insert-sheet-refused, insert-sheet-reply, insert-sheet-words}
+use Rattle.calls.specs.Replies.{said, refusal-over, insert-refused, insert-reply, insert-words, insert-sheet-refused, insert-sheet-reply, insert-sheet-words}
 use Rattle.calls_laws.proofs.Fields.{header-says}
 use Rattle.calls_laws.proofs.Marks.{marked-few}
 use Rattle.calls_laws.proofs.WordSteps.{header-said}
-use Rattle.calls_laws.proofs.Replies.{replied-refused}
 use Rattle.calls_laws.proofs.Sheets.{empty-sheet, singles-are-sheets}
 use Rattle.walk_model.specs.Watch.{Tables-at, sizes-at}
 use Rattle.edit_model.specs.Insert.{row-edit, stamped}

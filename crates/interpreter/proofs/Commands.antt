@@ -14,10 +14,11 @@ use Rattle.store_types.specs.declared.ListReply.{ListReply}
 use Rattle.store_types.specs.declared.ListReply.the-variants.{Listed, Refused}
 use Rattle.store_types.specs.Layout.{header-words}
 use Rattle.lists.specs.Lists.{first, same}
+use Rattle.lists.specs.Fronts.{in-front, replied, written}
 use Rattle.calls.specs.Store.{Store, label}
 use Rattle.calls.specs.Listing.{inside-tests, list-refusal, listed-tags, listed-labels}
-use Rattle.calls.specs.Words.{read, in-front}
-use Rattle.calls.specs.Replies.{on-store, refusal-over, store-or, said, replied, written, load-words, list-refused, list-reply, list-tags, list-labels}
+use Rattle.calls.specs.Words.{read}
+use Rattle.calls.specs.Replies.{on-store, refusal-over, store-or, said, load-words, list-refused, list-reply, list-tags, list-labels}
 use Rattle.console.specs.Line.{Parsed, unknown, plain, parsed, fields, number-of, number-or-front, all-letters, letter-kind, load-of, insert-of, mark-of, command-of, line-limit, load-word, list-word, element-word, text-word, mark-word}
 use Rattle.reply_text.specs.Text.{reply-line, tag-lines, end-line}
 use Rattle.console.specs.Post.{Gives}

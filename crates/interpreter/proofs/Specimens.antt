@@ -2,6 +2,7 @@
 use mathlib.Core.Path.{_≡_, refl}
 use mathlib.Core.List.{map, headD, flatMap}
 use Rattle.lists.specs.Lists.{those, first, same, how-many, with-first, numbers}
+use Rattle.lists.specs.Fronts.{starts-with, in-front, written, replied}
 use Rattle.store_types.specs.Layout.{records-at, words-for, field, label-at}
 use Rattle.tree.specs.Row.{member, place, insert-at, all-below}
 use Rattle.tree.specs.Forest.{leaves, labels, joined, leaf-row, parts, spread, put, split-height, within-limits}
@@ -16,8 +17,8 @@ use Rattle.calls.specs.Insert.{insert-kinds, position, up-at, book-after, inser
 use Rattle.calls.specs.Mark.{within, mark-facts, mark-store, new-marks, mark-count, section-tests, section-refusal}
 use Rattle.calls.specs.Held.{encloses}
 use Rattle.calls.specs.Listing.{is-listed, listed-tags, listed-labels, inside-tests, list-refusal}
-use Rattle.calls.specs.Words.{header, tag-record, words-of, follow, read-fact, header-width, read-book, read-store, starts-with, header-in-range, read-in-range, read, in-front}
-use Rattle.calls.specs.Replies.{on-store, refusal-over, store-or, said, written, replied, load-reply, load-words, insert-refused, insert-reply, insert-words, mark-reply, mark-words, load-numbers, insert-numbers, mark-numbers}
+use Rattle.calls.specs.Words.{header, tag-record, words-of, follow, read-fact, header-width, read-book, read-store, header-in-range, read-in-range, read}
+use Rattle.calls.specs.Replies.{on-store, refusal-over, store-or, said, load-reply, load-words, insert-refused, insert-reply, insert-words, mark-reply, mark-words, load-numbers, insert-numbers, mark-numbers}
 use Rattle.console.specs.Line.{fields, is-digit, all-digits, value-from, well-begun, number-of, number-or-front, is-letter, all-letters, letter-kind, load-of, insert-of, mark-of, command-of, parsed}
 use Rattle.reply_text.specs.Text.{decimal-from, decimal, spaced, reply-line, tag-line, tag-lines, end-line, unknown-line}
 use Rattle.reply_text.specs.Specimens.{bytes}

@@ -9,12 +9,12 @@ use lib.Dec.{ltb}
 use lib.ListN.{length}
 use Rattle.store_types.specs.declared.ListReply.{ListReply}
 use Rattle.store_types.specs.declared.ListReply.the-variants.{Listed, Refused}
+use Rattle.lists.specs.Fronts.{in-front, replied, written}
+use Rattle.lists.proofs.Replied.{replied-refused}
 use Rattle.calls.specs.Store.{label}
 use Rattle.calls.specs.Listing.{listed-tags, listed-labels, list-refusal}
-use Rattle.calls.specs.Words.{in-front}
-use Rattle.calls.specs.Replies.{refusal-over, said, replied, written, list-refused, list-reply, list-tags, list-labels}
+use Rattle.calls.specs.Replies.{refusal-over, said, list-refused, list-reply, list-tags, list-labels}
 use Rattle.list_call.specs.Needs.{unmarked-between, inside-refusal, first-inside, stop-of, short}
-use Rattle.calls_laws.proofs.Replies.{replied-refused}
 use Rattle.store_refuse.proofs.Laws.{refused-first, refused-said, accepted-says, accepted-store}
 use Rattle.list_call.proofs.ListRefusals.{list-refused-first, list-refused-last}
 use Rattle.list_call.proofs.Listed.{listed-is}

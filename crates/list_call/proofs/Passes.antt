@@ -7,12 +7,12 @@ use native.Mathlib.Omega.{arith}
 use lib.ListN.{length, length-append, length-map}
 use lib.Seq.{sets, length-sets}
 use Rattle.lists.proofs.Sets.{sets-append}
+use Rattle.lists.specs.Fronts.{in-front}
+use Rattle.lists.proofs.Fronts.{sets-front}
 use Rattle.store_types.specs.Limits.{most-tags}
 use Rattle.store_types.specs.Layout.{at-next, field}
 use Rattle.calls.specs.Store.{place-of, label}
-use Rattle.calls.specs.Words.{in-front}
 use Rattle.calls.specs.Replies.{said}
-use Rattle.calls_laws.proofs.WordSteps.{sets-front}
 use Rattle.list_call.specs.Needs.{Span-said, unmarked, unmarked-between}
 use Rattle.list_call.proofs.Along.{not-last, place-next, span-next, between-few, between-next, between-done}
 

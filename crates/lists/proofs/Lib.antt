@@ -6,3 +6,5 @@ pub mod First
 pub mod Same
 pub mod Sets
 pub mod Those
+pub mod Fronts
+pub mod Replied

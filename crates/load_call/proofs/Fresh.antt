@@ -15,12 +15,12 @@ use Rattle.store_types.specs.Layout.{header-words, label-words, tag-words, word
 use Rattle.lists.proofs.Tests.{by-test}
 use Rattle.lists.specs.Lists.{numbers}
 use Rattle.lists.proofs.Numbers.{length-numbers, getD-numbers}
+use Rattle.lists.specs.Fronts.{in-front}
+use Rattle.lists.proofs.Fronts.{length-in-front}
 use Rattle.words.proofs.Fields.{header-fits, word-take, field-take, label-take, fields-tell, by-field}
 use Rattle.tree.specs.Row.{place}
 use Rattle.tree_laws.proofs.Rows.{distinct-numbers, place-getD}
 use Rattle.calls.specs.Store.{next-in, prior-in}
-use Rattle.calls.specs.Words.{in-front}
-use Rattle.calls_laws.proofs.WordSteps.{length-in-front}
 use Rattle.edit_model.specs.Image.{Image, image-header, image-record, image-words}
 use Rattle.edit_model.proofs.Image.{length-image, own-label, own-field, image-header-word}
 use Rattle.load_tags.specs.Tags.{next-number, prior-number, facts-new, Tags-written}

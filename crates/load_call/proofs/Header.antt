@@ -5,8 +5,8 @@ use Prim.Native.Nat.{ℕ, _≤_}
 use lib.ListN.{length}
 use lib.Seq.{sets}
 use Rattle.store_types.specs.Layout.{header-words, header-list}
-use Rattle.calls.specs.Words.{in-front}
-use Rattle.calls_laws.proofs.WordSteps.{sets-front}
+use Rattle.lists.specs.Fronts.{in-front}
+use Rattle.lists.proofs.Fronts.{sets-front}
 use Rattle.load_call.specs.Header.{first-number, header-new}
 
 pub header-written : (s r h n b first : ℕ) (ws : List ℕ) → header-words ≤ length ws → first ≡ first-number n →

@@ -15,18 +15,19 @@ use Rattle.words.proofs.Fields.{header-fits}
 use Rattle.tree.specs.Book.{load-under, loaded}
 use Rattle.lists.specs.Lists.{first}
 use Rattle.lists.proofs.First.{refused-before}
+use Rattle.lists.specs.Fronts.{in-front, replied, written}
+use Rattle.lists.proofs.Fronts.{length-in-front}
+use Rattle.lists.proofs.Replied.{replied-refused}
 use Rattle.calls.specs.Kind.{kind-of}
 use Rattle.calls.specs.Store.{power-fits}
 use Rattle.calls.specs.Nesting.{nests}
 use Rattle.calls.specs.Sound.{degrees-fit}
 use Rattle.calls.specs.Load.{all-kinds, kinds-tests, early-tests, load-refusal, load-store}
-use Rattle.calls.specs.Words.{words-of, in-front}
-use Rattle.calls.specs.Replies.{replied, written, load-reply, load-words}
+use Rattle.calls.specs.Words.{words-of}
+use Rattle.calls.specs.Replies.{load-reply, load-words}
 use Rattle.calls_laws.proofs.Tests.{passes, Degrees, degrees-of}
 use Rattle.calls_laws.proofs.Fields.{length-words}
 use Rattle.calls_laws.proofs.Steps.{Load-accepted, accepted-load}
-use Rattle.calls_laws.proofs.WordSteps.{length-in-front}
-use Rattle.calls_laws.proofs.Replies.{replied-refused}
 use Rattle.shape.specs.Tables.{table, widths-of}
 use Rattle.shape.specs.Needs.{Widths-fit}
 use Rattle.load_refuse.specs.Refusals.{refusal-before}

@@ -4,7 +4,7 @@ ghost use mathlib.Core.Path.{_≡_};
 ghost use Prim.Native.Nat.{_≤_};
 ghost use lib.ListN.{length};
 ghost use Rattle.store_types.specs.Layout.{header-words};
-ghost use Rattle.calls.specs.Words.{in-front};
+ghost use Rattle.lists.specs.Fronts.{in-front};
 ghost use Rattle.calls.specs.Replies.{load-reply, load-words};
 ghost use Rattle.load_call.specs.Header.{first-number, header-new};
 use store_types::LoadReply;

@@ -7,17 +7,18 @@ use lib.ListN.{length, set}
 use Rattle.store_types.specs.Limits.{most-tags}
 use Rattle.store_types.specs.declared.MarkReply.the-variants as reply
 use Rattle.store_types.specs.Layout.{at-count, at-stamp, header-words, word-at, Records}
+use Rattle.lists.specs.Fronts.{in-front, replied, written}
+use Rattle.lists.proofs.Replied.{replied-refused}
 use Rattle.words.proofs.Fields.{header-fits}
 use Rattle.calls.specs.Store.{Store, count}
 use Rattle.calls.specs.Mark.{section-refusal, mark-store, mark-count}
-use Rattle.calls.specs.Words.{words-of, Says, in-front}
-use Rattle.calls.specs.Replies.{refusal-over, said, replied, written, mark-reply, mark-words}
+use Rattle.calls.specs.Words.{words-of, Says}
+use Rattle.calls.specs.Replies.{refusal-over, said, mark-reply, mark-words}
 use Rattle.calls_laws.proofs.Tests.{Sound, facts-of}
 use Rattle.calls_laws.proofs.Fields.{header-says}
 use Rattle.calls_laws.proofs.Sections.{Section, section}
 use Rattle.calls_laws.proofs.Marks.{marked-few, accepted-section}
 use Rattle.calls_laws.proofs.WordSteps.{refusal-passed, words-fit, header-said}
-use Rattle.calls_laws.proofs.Replies.{replied-refused}
 use Rattle.mark_call.specs.Run.{mark-each, count-new, tags-of}
 use Rattle.mark_call.proofs.Each.{length-each, each-header}
 use Rattle.mark_call.proofs.Own.{own-tags}

@@ -13,11 +13,12 @@ use lib.Seq.{getD-set-same, getD-set-other, set-append-left, drop-at}
 use Rattle.store_types.specs.Layout.{at-stamp, header-words, at-kind, tag-words, label-in, word-at, words-for, field, label-at, Room}
 use Rattle.lists.proofs.Tests.{by-test}
 use Rattle.lists.specs.Lists.{numbers}
+use Rattle.lists.specs.Fronts.{in-front}
 use Rattle.words.proofs.Fields.{header-fits, record-room, field-front, label-front, field-past-header, label-past-header, fields-tell}
 use Rattle.calls.specs.Kind.{Kind, begin, end, text, code, kind-word}
 use Rattle.calls.specs.Store.{Store, fact, count}
 use Rattle.calls.specs.Mark.{within, mark-store}
-use Rattle.calls.specs.Words.{header, tag-record, words-of, in-front}
+use Rattle.calls.specs.Words.{header, tag-record, words-of}
 use Rattle.calls_laws.proofs.Tests.{Sound}
 use Rattle.calls_laws.proofs.Fields.{length-words, label-word, field-word, header-says}
 use Rattle.calls_laws.proofs.Sections.{Section}

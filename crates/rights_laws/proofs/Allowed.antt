@@ -10,6 +10,8 @@ use lib.Dec.{leb, eqb}
 use lib.ListN.{length}
 use Rattle.lists.specs.Lists.{first, some-holds}
 use Rattle.lists.proofs.Tests.{by-test, and-left, and-right}
+use Rattle.lists.specs.Fronts.{replied}
+use Rattle.lists.proofs.Replied.{replied-accepted}
 use Rattle.store_types.specs.Limits.{no-tag, insert-right}
 use Rattle.store_types.specs.declared.Act.{Act}
 use Rattle.store_types.specs.declared.Answer.{Answer}
@@ -24,13 +26,12 @@ use Rattle.calls.specs.Store.{Store, fact, count, place-of}
 use Rattle.calls.specs.Insert.{place-tests, insert-refusal}
 use Rattle.calls.specs.Held.{question}
 use Rattle.calls.specs.Words.{Says}
-use Rattle.calls.specs.Replies.{refusal-over, said, replied, insert-refused, insert-reply, question-reply}
+use Rattle.calls.specs.Replies.{refusal-over, said, insert-refused, insert-reply, question-reply}
 use Rattle.calls.specs.Rights.{gives, held, is-allowed, turned-away, inserted-reply, allowed-reply, act-reply, party-refused, party-reply}
 use Rattle.calls.specs.Promise.{Encloses, Current, Asked, Yes-or-no, Pairs-right}
 use Rattle.calls_laws.proofs.Pairs.{pairs-right}
 use Rattle.calls_laws.proofs.Tests.{passes}
 use Rattle.calls_laws.proofs.WordSteps.{said-store, refusal-said, refusal-passed}
-use Rattle.calls_laws.proofs.Replies.{replied-accepted}
 use Rattle.rights.specs.Promise.{accepted, Given, Insertable, Allowed, Allowed-exactly}
 
 -- A LIVE GRANT gives the right where a search finds one

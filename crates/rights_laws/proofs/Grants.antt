@@ -9,17 +9,17 @@ use lib.ListN.{length, take, drop, length-append}
 use lib.Seq.{length-take-le, take-suc-set, take-append-seam}
 use Rattle.lists.specs.Lists.{how-many, those}
 use Rattle.lists.proofs.Those.{none-among, those-many}
+use Rattle.lists.specs.Fronts.{in-front, replied}
+use Rattle.lists.proofs.Replied.{replied-accepted}
 use Rattle.store_types.specs.declared.Grant.{Grant}
 use Rattle.store_types.specs.declared.GrantReply.the-variants as granting
 use Rattle.store_types.specs.declared.LoadReply.{LoadReply}
 use Rattle.store_types.specs.declared.LoadReply.the-variants as loading
 use Rattle.store_types.specs.declared.RevokeReply.the-variants as revoking
-use Rattle.calls.specs.Words.{in-front}
 use Rattle.calls.specs.Calls.{emptied-by}
-use Rattle.calls.specs.Replies.{replied, load-reply, read-reply}
+use Rattle.calls.specs.Replies.{load-reply, read-reply}
 use Rattle.calls.specs.Rights.{names, others, grant-refused, grant-reply, grant-count, grant-list, revoke-refused, revoke-reply, revoke-count, revoke-list}
 use Rattle.calls_laws.proofs.Grants.{has-place}
-use Rattle.calls_laws.proofs.Replies.{replied-accepted}
 use Rattle.rights.specs.System.{live, load, insert, sheet, mark, hold, ask, list, write, read, grant, revoke, act, Reply, loaded, inserted, marked, held, answered, listed, written, granted, revoked, acted, reply, loaded-with, step}
 use Rattle.rights.specs.Promise.{Granted-adds, Revoked-ends, Loads-end}
 

@@ -10,6 +10,8 @@ use borrow.Author.Tests.{ne-eqb}
 use lib.ListN.{length, length-append, List·getD-append}
 use Rattle.lists.specs.Lists.{numbers}
 use Rattle.lists.proofs.Numbers.{length-numbers, getD-numbers}
+use Rattle.lists.specs.Fronts.{in-front, replied, written}
+use Rattle.lists.proofs.Replied.{replied-accepted}
 use Rattle.store_types.specs.Limits.{no-tag}
 use Rattle.store_types.specs.declared.InsertReply.the-variants as inserting
 use Rattle.store_types.specs.declared.TagId.{TagId}
@@ -21,8 +23,8 @@ use Rattle.calls.specs.Kind.{Kind, is-begin}
 use Rattle.calls.specs.Store.{Store, fact, count, row, place-of}
 use Rattle.calls.specs.Nesting.{new-facts}
 use Rattle.calls.specs.Insert.{insert-kinds, position, up-at, book-after, insert-store, insert-refusal, row-refusal}
-use Rattle.calls.specs.Words.{words-of, Says, in-front}
-use Rattle.calls.specs.Replies.{said, replied, written, insert-refused, insert-reply, insert-words}
+use Rattle.calls.specs.Words.{words-of, Says}
+use Rattle.calls.specs.Replies.{said, insert-refused, insert-reply, insert-words}
 use Rattle.calls.specs.Rights.{party-words}
 use Rattle.calls.specs.Calls.{insert, refusal, changed, Happens}
 use Rattle.calls.specs.Promise.{Encloses}
@@ -33,7 +35,6 @@ use Rattle.calls_laws.proofs.NewFacts.{length-new-facts}
 use Rattle.calls_laws.proofs.Inserts.{accepted-row, position-fits}
 use Rattle.calls_laws.proofs.Steps.{kinds-nest, insert-passed, changed-sound}
 use Rattle.calls_laws.proofs.WordSteps.{said-store, refusal-said, says-in-front}
-use Rattle.calls_laws.proofs.Replies.{replied-accepted}
 use Rattle.calls_laws.proofs.Acts.{Acted, act-happened}
 use Rattle.rights.specs.Promise.{accepted, Allowed-exactly, Inside-only}
 use Rattle.rights_laws.proofs.Allowed.{allowed-exactly}

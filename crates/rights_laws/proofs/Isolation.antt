@@ -8,11 +8,12 @@ use lib.ListN.{length}
 use Rattle.lists.specs.Lists.{some-holds}
 use Rattle.lists.proofs.Tests.{and-left}
 use Rattle.lists.proofs.Those.{none-stronger}
+use Rattle.lists.specs.Fronts.{replied}
 use Rattle.store_types.specs.declared.Act.{Act}
 use Rattle.store_types.specs.declared.Answer.the-variants.{Yes, No, Stale}
 use Rattle.store_types.specs.declared.QuestionReply.{QuestionReply}
 use Rattle.store_types.specs.declared.QuestionReply.the-variants as asking
-use Rattle.calls.specs.Replies.{replied, question-reply}
+use Rattle.calls.specs.Replies.{question-reply}
 use Rattle.calls.specs.Rights.{names, gives, held, is-allowed, act-words, party-refused, party-words}
 use Rattle.rights.specs.System.{System, live, Call, reply, with-words, step}
 use Rattle.rights.specs.Histories.{Entry, with-extras, without, after, replies, shared-replies, All-powerless}

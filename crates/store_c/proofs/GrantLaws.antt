@@ -11,14 +11,13 @@ use lib.Seq.{length-take-le, set-out}
 use borrow.Author.Tests.{ne-eqb}
 use Rattle.lists.specs.Lists.{how-many, those}
 use Rattle.lists.proofs.Those.{those-many}
+use Rattle.lists.specs.Fronts.{replied, in-front}
 use Rattle.store_types.specs.declared.Act.{Act}
 use Rattle.store_types.specs.declared.Grant.{Grant}
 use Rattle.store_types.specs.declared.GrantReply.the-variants as granting
 use Rattle.store_types.specs.declared.PartyReply.the-variants as acting
 use Rattle.store_types.specs.declared.RevokeReply.the-variants as revoking
-use Rattle.calls.specs.Replies.{replied}
 use Rattle.calls.specs.Rights.{names, held, others, is-right, range-refusal, grant-refused, grant-reply, grant-count, grant-list, grant-numbers, revoke-refused, revoke-reply, revoke-count, revoke-list, act-reply, act-words, party-refused, party-reply, party-words}
-use Rattle.calls.specs.Words.{in-front}
 use Rattle.calls_laws.proofs.Grants.{count-fits}
 use Rattle.store_c.specs.Flat.{c-granted, c-revoked, c-party, place-for}
 use Rattle.store_c.specs.declared.flat.Granted.{Granted}

@@ -1,7 +1,7 @@
 // What the entries on a lent list of grants hand on, in the flat form of the replies: an entry itself is a straight line over the list.
 ghost use mathlib.Core.Path.{_≡_};
 ghost use Prim.Native.Nat.{suc, _-_, _≤_};
-ghost use Rattle.calls.specs.Replies.{replied};
+ghost use Rattle.lists.specs.Fronts.{replied};
 ghost use Rattle.calls.specs.Rights.{is-right, range-refusal, grant-refused, revoke-refused, party-refused, act-reply, act-words};
 ghost use Rattle.store_types.specs.declared.GrantReply.the-variants as granting;
 ghost use Rattle.store_types.specs.declared.RevokeReply.the-variants as revoking;

@@ -10,13 +10,14 @@ use Rattle.store_types.specs.Limits.{all-rights}
 use Rattle.store_types.specs.Layout.{at-kind, field}
 use Rattle.lists.specs.Lists.{first}
 use Rattle.lists.proofs.Tests.{by-test}
+use Rattle.lists.specs.Fronts.{replied}
+use Rattle.lists.proofs.Replied.{replied-refused}
 use Rattle.calls.specs.Kind.{Kind, begin, end, text, is-begin, is-end}
 use Rattle.calls.specs.Store.{Store, fact, count}
 use Rattle.calls.specs.Mark.{section-tests, section-refusal}
-use Rattle.calls.specs.Replies.{refusal-over, said, replied}
+use Rattle.calls.specs.Replies.{refusal-over, said}
 use Rattle.calls.specs.Rights.{range-refusal, grant-tests, grant-refused}
 use Rattle.calls_laws.proofs.Marks.{accepted-section}
-use Rattle.calls_laws.proofs.Replies.{replied-refused}
 use Rattle.store_refuse.proofs.Laws.{refused-first, refused-said, accepted-store, kind-of-tag}
 use Rattle.held_call.proofs.Pairs.{section-tag}
 

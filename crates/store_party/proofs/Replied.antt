@@ -1,8 +1,8 @@
 -- A call's reply with what it writes: both by the refusal. Assumes nothing.
 use mathlib.Core.Path.{_≡_}
 use Prim.Native.Nat.{ℕ}
-use Rattle.calls.specs.Replies.{replied}
-use Rattle.calls_laws.proofs.Replies.{replied-refused}
+use Rattle.lists.specs.Fronts.{replied}
+use Rattle.lists.proofs.Replied.{replied-refused}
 
 module _ {A B : Type 0} (f : ℕ → A) (old : B) (a : A) (new : B) where
   -- k is the refusal

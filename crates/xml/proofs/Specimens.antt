@@ -2,8 +2,7 @@
 use mathlib.Core.Path.{_≡_, refl}
 use mathlib.Core.Bool.{true}
 use Rattle.lists.specs.Lists.{first, same, all-hold}
-use Rattle.calls.specs.Words.{starts-with, in-front}
-use Rattle.calls.specs.Replies.{replied, written}
+use Rattle.lists.specs.Fronts.{starts-with, in-front, replied, written}
 use Rattle.xml.specs.Bytes.{is-char, is-space, is-name-start, is-name-char}
 use Rattle.xml.specs.Grammar.{reference-text, is-quote, among, brackets-behind, tail-of}
 use Rattle.xml.specs.Scan.{run, name-length, reference-length, later, body-length, value-step, value-length, sized, attribute-at, ends-later, tail-on, tail-at, sized-tag, tag-at}

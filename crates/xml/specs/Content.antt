@@ -5,7 +5,7 @@ use mathlib.Core.List.{List, [], _∷_, _++_}
 use Prim.Native.Nat.{ℕ, zero, suc}
 use lib.Dec.{ltb, eqb}
 use Rattle.lists.specs.Lists.{all-hold}
-use Rattle.calls.specs.Words.{starts-with}
+use Rattle.lists.specs.Fronts.{starts-with}
 use Rattle.xml.specs.Bytes.{is-char, contains, less-than, ampersand, hyphen, two-hyphens, cdata-closes}
 use Rattle.xml.specs.Grammar.{Construct, datum, reference, cdata, comment, start, lone, stop, Tag, is-tag, is-blank, is-reference}
 

@@ -7,7 +7,7 @@ use Prim.Native.Nat.{ℕ, zero, suc, pred, _+_}
 use lib.Dec.{ltb, eqb}
 use lib.ListN.{length, take, drop}
 use Rattle.lists.specs.Lists.{first}
-use Rattle.calls.specs.Words.{starts-with}
+use Rattle.lists.specs.Fronts.{starts-with}
 use Rattle.xml.specs.Bytes.{is-char, is-space, less-than, greater-than, ampersand, comment-opens, comment-closes, two-hyphens, cdata-opens, cdata-closes, end-opens, tag-closes, instruction-opens, doctype-opens}
 use Rattle.xml.specs.Grammar.{Place, most-depth, brackets-behind, tail-of, at-place, top}
 use Rattle.xml.specs.Scan.{run, reference-length, body-length, Sized-tag, tag-at}

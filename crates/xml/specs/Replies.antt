@@ -5,7 +5,7 @@ use mathlib.Core.List.{List, [], _∷_}
 use Prim.Native.Nat.{ℕ}
 use lib.Dec.{ltb}
 use lib.ListN.{length}
-use Rattle.calls.specs.Replies.{replied, written}
+use Rattle.lists.specs.Fronts.{replied, written}
 use Rattle.xml.specs.declared.SheetReply.{SheetReply}
 use Rattle.xml.specs.declared.SheetReply.the-variants.{Kinds, Refused}
 use Rattle.xml.specs.Reader.{Reading, accepted, refused, read-sheet}

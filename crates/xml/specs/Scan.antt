@@ -8,7 +8,7 @@ use Prim.Native.Nat.{ℕ, zero, suc, pred, _+_}
 use lib.Dec.{eqb}
 use lib.ListN.{getD, take, drop}
 use Rattle.lists.specs.Lists.{same, first}
-use Rattle.calls.specs.Words.{starts-with}
+use Rattle.lists.specs.Fronts.{starts-with}
 use Rattle.xml.specs.Bytes.{is-char, is-space, is-name-start, is-name-char, less-than, ampersand, equals, cdata-closes, tag-closes, lone-closes, lt-name, gt-name, amp-name, apos-name, quot-name}
 use Rattle.xml.specs.Grammar.{reference-text, is-quote, among}
 

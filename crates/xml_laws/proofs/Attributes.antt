@@ -10,11 +10,11 @@ use lib.Dec.{eqb}
 use lib.ListN.{length, getD, drop, length-append}
 use lib.Seq.{drop-drop, drop-append-seam}
 use Rattle.lists.proofs.Tests.{by-test, and-left, and-right}
-use Rattle.calls.specs.Words.{starts-with}
+use Rattle.lists.specs.Fronts.{starts-with}
+use Rattle.lists.proofs.Fronts.{rest-of}
 use Rattle.xml.specs.Bytes.{is-space, is-name-start, is-name-char, equals}
 use Rattle.xml.specs.Grammar.{is-name, is-blank, is-gap, is-quote, Value, value-text, is-value, Attribute, bare-text, attribute-text, is-attribute}
 use Rattle.xml.specs.Scan.{run, name-length, value-length, Sized, sized, attribute-at}
-use Rattle.calls_laws.proofs.Reader.{rest-of}
 use Rattle.xml_laws.proofs.Strings.{quote-not-space, space-not-name}
 use Rattle.xml_laws.proofs.Runs.{stops, stops-behind, run-found, Run-there, run-written, name-found, name-written, name-not-empty, run-left, name-left}
 use Rattle.xml_laws.proofs.Found.{past-refusal, past-test}

@@ -1,41 +1,22 @@
 -- Bodies: what stands before the first closer, of a CDATA section or of a comment. The scanner finds just the bodies that the
 -- grammar writes. A closer is some bytes, `front`, and a last one. Assumes nothing.
 use mathlib.Core.Path.{_≡_, refl, ap, sym, _∙_}
-use mathlib.Core.Bool.{true, false, _&&_, cond, and-false, true≢false, false≢true}
+use mathlib.Core.Bool.{true, false, cond, and-false, true≢false}
 use mathlib.Core.List.{List, [], _∷_, _++_, append-assoc}
 use mathlib.Core.Option.{Option, none, some}
-use Prim.Native.Nat.{ℕ, suc, _≤_, _<_}
+use Prim.Native.Nat.{ℕ, suc, _<_}
 use native.Mathlib.Omega.{arith}
 use lib.Dec.{eqb}
 use lib.ListN.{length, drop, length-append}
 use Rattle.lists.specs.Lists.{all-hold}
 use Rattle.lists.proofs.Tests.{by-test, fails, and-left, and-right, and-both, or-left-false, or-right-false}
-use Rattle.calls.specs.Words.{starts-with}
+use Rattle.lists.specs.Fronts.{starts-with}
+use Rattle.lists.proofs.Fronts.{starts-front, rest-of, starts-short, starts-within, starts-longer}
 use Rattle.xml.specs.Bytes.{is-char, contains, bracket, cdata-closes}
 use Rattle.xml.specs.Scan.{later, body-length}
-use Rattle.calls_laws.proofs.Reader.{starts-front, rest-of}
 use Rattle.xml_laws.proofs.Found.{past-test}
 
--- STRINGS. What stands behind a list that is long enough does not matter
-pub starts-within : (xs ys zs : List ℕ) → length xs ≤ length ys → starts-with xs (ys ++ zs) ≡ starts-with xs ys
-unfolding starts-with
-starts-within [] ys zs l = refl
-starts-within (x ∷ xs) [] zs l = absurd (omega arith)
-starts-within (x ∷ xs) (y ∷ ys) zs l = ap (λ t. eqb x y && t) (starts-within xs ys zs (omega arith))
-
-pub starts-longer : (xs ys zs : List ℕ) → starts-with xs ys ≡ true → starts-with xs (ys ++ zs) ≡ true
-unfolding starts-with
-starts-longer [] ys zs e = refl
-starts-longer (x ∷ xs) [] zs e = absurd (false≢true e)
-starts-longer (x ∷ xs) (y ∷ ys) zs e =
-    and-both (and-left (eqb x y) _ e) (starts-longer xs ys zs (and-right (eqb x y) _ e))
-
-pub starts-short : (xs ys : List ℕ) → length ys < length xs → starts-with xs ys ≡ false
-unfolding starts-with
-starts-short [] ys l = absurd (omega arith)
-starts-short (x ∷ xs) [] l = refl
-starts-short (x ∷ xs) (y ∷ ys) l = rw (starts-short xs ys (omega arith)) (and-false (eqb x y))
-
+-- STRINGS in a text
 contains-short : (xs ys : List ℕ) → length ys < length xs → contains xs ys ≡ false
 unfolding contains
 contains-short xs [] l = starts-short xs [] l

@@ -7,7 +7,7 @@ use Prim.Native.Nat.{ℕ}
 use borrow.Author.Tests.{eqb-true, eqb-false, eq-eqb, ne-eqb}
 use lib.Dec.{eqb}
 use Rattle.lists.proofs.Tests.{by-test}
-use Rattle.calls.specs.Words.{starts-with}
+use Rattle.lists.specs.Fronts.{starts-with}
 use Rattle.xml.specs.Bytes.{bracket, greater-than}
 use Rattle.xml.specs.Grammar.{Construct, datum, reference, cdata, comment, start, lone, stop, brackets-behind}
 use Rattle.xml.specs.Content.{data-front, data-right}

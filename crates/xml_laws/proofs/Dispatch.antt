@@ -4,18 +4,16 @@ use mathlib.Core.Path.{_≡_, refl, sym, _∙_, ap}
 use mathlib.Core.Bool.{Bool, true, false, true≢false}
 use mathlib.Core.List.{List, [], _∷_, _++_}
 use Prim.Native.Nat.{ℕ, suc, pred}
-use lib.Dec.{eqb}
 use lib.ListN.{length, drop}
 use Rattle.lists.specs.Lists.{first}
-use Rattle.lists.proofs.Tests.{by-test}
-use Rattle.calls.specs.Words.{starts-with}
+use Rattle.lists.specs.Fronts.{starts-with}
+use Rattle.lists.proofs.Fronts.{rest-of, starts-no-longer}
 use Rattle.xml.specs.Bytes.{is-name-start, less-than, ampersand, two-hyphens, comment-opens, cdata-opens, cdata-closes, end-opens, declaration-opens, instruction-opens, doctype-opens}
 use Rattle.xml.specs.Grammar.{Place, at-place}
 use Rattle.xml.specs.Scan.{name-length, reference-length, body-length, tag-at}
 use Rattle.xml.specs.Reader.{Step, next, markup-step, comment-step, cdata-step, end-step, tag-step, reference-step, used, past, of-text, gives, Reading, refused, preceded, reading, read-from, refused-opener, not-a-sheet, not-read}
 use Rattle.xml.specs.Reader as reader
 use Rattle.xml_laws.specs.Steps.{is-stuck}
-use Rattle.calls_laws.proofs.Reader.{rest-of}
 use Rattle.xml_laws.proofs.Readings.{stepped}
 
 -- ONE STEP, of whatever begins the rest
@@ -90,14 +88,6 @@ module _ (p : Place) (cs : List ℕ) (e : starts-with comment-opens cs ≡ false
   pub markup-tag : refused-opener cs ≡ false → markup-step p cs ≡ tag-step (length (p .opened)) cs (tag-at cs)
   unfolding markup-step first
   markup-tag h = rw (e, f, g, h)
-
--- a string that does not begin a text begins no longer one
-pub starts-no-longer : (xs ys cs : List ℕ) → starts-with xs cs ≡ false → starts-with (xs ++ ys) cs ≡ false
-unfolding starts-with
-starts-no-longer [] ys cs e = absurd (true≢false e)
-starts-no-longer (x ∷ xs) ys [] e = refl
-starts-no-longer (x ∷ xs) ys (c ∷ cs) e =
-    by-test (eqb x c) (λ h. rw h (starts-no-longer xs ys cs (rw h at e))) (λ h. rw h)
 
 -- AN ELEMENT begins where < stands with no ! and no ? behind it
 pub next-tag : (p : Place) (cs : List ℕ) → starts-with declaration-opens (less-than ∷ cs) ≡ false → starts-with instruction-opens (less-than ∷ cs) ≡ false →

@@ -13,7 +13,6 @@ use lib.ListN.{length, take, drop, length-append}
 use lib.Seq.{take-append-seam, drop-append-seam, drop-append-add, drop-at}
 use Rattle.lists.specs.Lists.{all-hold, first}
 use Rattle.lists.proofs.Tests.{by-test, and-left, and-right, and-both}
-use Rattle.calls.specs.Words.{starts-with}
 use Rattle.xml.specs.Bytes.{is-char, is-space, is-name-start, less-than, greater-than, ampersand, hyphen, bracket, comment-opens, comment-closes, two-hyphens, cdata-opens, cdata-closes, end-opens, tag-closes, lone-closes, instruction-opens, doctype-opens}
 use Rattle.xml.specs.Grammar.{reference-text, Construct, datum, reference, cdata, comment, start, lone, stop, Tag, is-name, is-blank, is-tag, attributes-text, tag-text, text-of, Place, may-stand, closes, most-depth}
 use Rattle.xml.specs.Scan.{run, body-length, reference-length, Sized-tag, tag-at}
@@ -21,8 +20,9 @@ use Rattle.xml.specs.Reader.{Step, next, markup-step, comment-step, cdata-step,
 use Rattle.xml.specs.Reader as reader
 use Rattle.xml.specs.Promise.{Whole-tag}
 use Rattle.xml_laws.specs.Steps.{step-of, is-stuck, tag-construct, size-of, Tags-found, Tags-written, Tag-there, Constructs-found, Construct-there, Constructs-written, Number-right, Numbers-right}
-use Rattle.calls_laws.proofs.Reader.{starts-front, rest-of}
 use Rattle.lists.proofs.Same.{same-refl, same-equal}
+use Rattle.lists.specs.Fronts.{starts-with}
+use Rattle.lists.proofs.Fronts.{starts-front, rest-of}
 use Rattle.xml_laws.proofs.Runs.{stops, run-found, Run-there, run-written}
 use Rattle.xml_laws.proofs.References.{reference-found, reference-written}
 use Rattle.xml_laws.proofs.Tags.{tags-found, tags-written}

@@ -12,7 +12,7 @@ use lib.Dec.{ltb}
 use lib.ListN.{length, drop, length-append}
 use lib.Seq.{drop-append-seam}
 use Rattle.lists.proofs.Tests.{by-test, and-left, and-right, and-both}
-use Rattle.calls.specs.Words.{starts-with}
+use Rattle.lists.specs.Fronts.{starts-with}
 use Rattle.xml.specs.Grammar.{Construct, datum, reference, cdata, comment, start, lone, stop, text-of, texts, tag-text, reference-text, Place, may-stand, behind, tail-of, is-tag, all-stand, place-behind, kinds-from, most-depth}
 use Rattle.xml.specs.Reader.{Step, next, used, past, of-text, gives, Reading, accepted, refused, preceded, reading, at-end, read-from, refused-opener, not-a-sheet, too-deep, not-read}
 use Rattle.xml.specs.Reader as reader

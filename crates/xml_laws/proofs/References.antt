@@ -7,12 +7,12 @@ use lib.Dec.{eqb}
 use lib.ListN.{length, drop}
 use Rattle.lists.specs.Lists.{same, first}
 use Rattle.lists.proofs.Tests.{by-test}
-use Rattle.calls.specs.Words.{starts-with}
 use Rattle.xml.specs.Bytes.{lt-name, gt-name, amp-name, apos-name, quot-name}
 use Rattle.xml.specs.Grammar.{is-reference, reference-text}
 use Rattle.xml.specs.Scan.{reference-length}
-use Rattle.calls_laws.proofs.Reader.{rest-of}
 use Rattle.lists.proofs.Same.{same-equal}
+use Rattle.lists.specs.Fronts.{starts-with}
+use Rattle.lists.proofs.Fronts.{rest-of}
 
 -- what holds of the five names holds of every reference
 by-reference : (P : List ℕ → Type 0) (n : List ℕ) → P lt-name → P gt-name → P amp-name → P apos-name → P quot-name → is-reference n ≡ true → P n

@@ -1,22 +1,15 @@
--- Strings and bytes: what begins with a string, which strings are the same, and which bytes cannot be of two kinds.
--- Assumes nothing.
+-- Strings and bytes: which strings are the same, and which bytes cannot be of two kinds. Assumes nothing.
 use mathlib.Core.Path.{_≡_, refl, sym, _∙_}
 use mathlib.Core.Bool.{Bool, true, false, true≢false}
-use mathlib.Core.List.{List, _∷_}
+use mathlib.Core.List.{List}
 use Prim.Native.Nat.{ℕ}
 use borrow.Author.Tests.{eqb-true, ne-eqb}
 use lib.Dec.{eqb}
 use Rattle.lists.specs.Lists.{same}
 use Rattle.lists.proofs.Tests.{by-test, fails}
 use Rattle.lists.proofs.Same.{same-refl, same-equal}
-use Rattle.calls.specs.Words.{starts-with}
 use Rattle.xml.specs.Bytes.{is-space, is-name-start, is-name-char}
 use Rattle.xml.specs.Grammar.{is-quote}
-
--- a string does not begin a text whose first byte is another
-pub starts-other : (x y : ℕ) (xs ys : List ℕ) → eqb x y ≡ false → starts-with (x ∷ xs) (y ∷ ys) ≡ false
-unfolding starts-with
-starts-other x y xs ys e = rw e
 
 -- the test of equal strings
 pub equal-same : (xs ys : List ℕ) → xs ≡ ys → same xs ys ≡ true

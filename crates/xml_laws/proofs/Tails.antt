@@ -13,12 +13,12 @@ use lib.Dec.{eqb, eqb·suc-zero}
 use lib.ListN.{length, take, drop, length-append}
 use lib.Seq.{drop-append-seam, take-append-seam}
 use Rattle.lists.proofs.Tests.{by-test, and-left, and-right, and-both}
-use Rattle.calls.specs.Words.{starts-with}
+use Rattle.lists.specs.Fronts.{starts-with}
+use Rattle.lists.proofs.Fronts.{rest-of, starts-other}
 use Rattle.xml.specs.Bytes.{is-space, is-name-start, tag-closes, lone-closes}
 use Rattle.xml.specs.Grammar.{is-name, is-blank, is-gap, Attribute, bare-text, attribute-text, is-attribute, attributes-text, among, names-of, are-attributes}
 use Rattle.xml.specs.Scan.{Sized, attribute-at, Ending, ends-later, tail-on, tail-at}
-use Rattle.calls_laws.proofs.Reader.{rest-of}
-use Rattle.xml_laws.proofs.Strings.{bytes-apart, starts-other}
+use Rattle.xml_laws.proofs.Strings.{bytes-apart}
 use Rattle.xml_laws.proofs.Runs.{stops, run-over, run-found, Run-there, run-written, name-stops-spaces}
 use Rattle.xml_laws.proofs.Found.{past-refusal}
 use Rattle.xml_laws.proofs.Names.{all-new, all-new-one}

@@ -5,11 +5,10 @@ use mathlib.Core.List.{List, [], _∷_, _++_}
 use Prim.Native.Nat.{ℕ, suc, _+_, _≤_, _<_}
 use native.Mathlib.Omega.{arith}
 use borrow.Author.Tests.{not-false}
-use lib.Dec.{eqb}
 use lib.ListN.{length, drop, set, length-drop, length-set}
 use lib.Seq.{drop-drop, drop-cons, drop-length}
-use Rattle.lists.proofs.Tests.{by-test}
-use Rattle.calls.specs.Words.{starts-with}
+use Rattle.lists.specs.Fronts.{starts-with}
+use Rattle.lists.proofs.Fronts.{starts-both}
 use Rattle.xml.specs.Bytes.{is-space, end-opens, tag-closes}
 use Rattle.xml.specs.Grammar.{at-place, tail-of}
 use Rattle.xml.specs.Scan.{run}
@@ -26,13 +25,6 @@ use Rattle.xml_read.specs.Pieces.{goes-on, closing-found}
 use Rattle.xml_read.specs.Outcome.{in-text, finish, outcome, behind, In-text, Reached, Closes}
 use Rattle.xml_read.proofs.PieceLaws.{dropped, some-used}
 use Rattle.xml_read.proofs.Outcomes.{finish-kind}
-
--- one string behind another
-pub starts-both : (xs ys cs : List ℕ) → starts-with (xs ++ ys) cs ≡ (starts-with xs cs && starts-with ys (drop (length xs) cs))
-unfolding starts-with
-starts-both [] ys cs = refl
-starts-both (x ∷ xs) ys [] = refl
-starts-both (x ∷ xs) ys (c ∷ cs) = by-test (eqb x c) (λ e. rw e (starts-both xs ys cs)) (λ e. rw e)
 
 -- whether content goes on, at the end of the text and before it
 pub over : (bs : List ℕ) (i : ℕ) → i ≡ length bs → goes-on (drop i bs) ≡ false

@@ -10,14 +10,14 @@ use borrow.Author.Tests.{not-true, lt-ltb, le-ltb}
 use lib.ListN.{length, take, drop, set, length-drop, length-set}
 use lib.Seq.{drop-drop}
 use Rattle.lists.proofs.Tests.{and-left, and-right}
-use Rattle.calls.specs.Words.{starts-with}
+use Rattle.lists.specs.Fronts.{starts-with}
+use Rattle.lists.proofs.Fronts.{rest-of}
 use Rattle.xml.specs.Bytes.{less-than, declaration-opens, instruction-opens}
 use Rattle.xml.specs.Grammar.{at-place, most-depth}
 use Rattle.xml.specs.Scan.{Sized-tag, tag-at}
 use Rattle.xml.specs.Reader.{Step, next, tag-step, gives, past, of-text, used, Reading, refused, preceded, read-from, not-a-sheet, too-deep}
 use Rattle.xml.specs.Reader as reader
 use Rattle.xml_laws.specs.Steps.{is-stuck}
-use Rattle.calls_laws.proofs.Reader.{rest-of}
 use Rattle.xml_laws.proofs.Dispatch.{step-read, step-refused, next-tag}
 use Rattle.xml_laws.proofs.Within.{Tag-within, tag-within}
 use Rattle.xml_read.specs.declared.Cursor.{Cursor}

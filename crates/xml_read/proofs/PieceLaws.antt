@@ -11,7 +11,7 @@ use lib.Dec.{eqb}
 use lib.ListN.{length, getD, drop, length-drop, length-append}
 use lib.Seq.{drop-drop, drop-cons}
 use Rattle.lists.proofs.Tests.{by-test}
-use Rattle.calls.specs.Words.{starts-with}
+use Rattle.lists.specs.Fronts.{starts-with}
 use Rattle.xml.specs.Bytes.{is-char, less-than, ampersand, two-hyphens, comment-opens, comment-closes, cdata-opens, cdata-closes, declaration-opens, instruction-opens, doctype-opens, end-opens}
 use Rattle.xml.specs.Grammar.{at-place}
 use Rattle.xml.specs.Scan.{data-length, reference-length, body-length}

@@ -2,16 +2,17 @@
 use mathlib.Core.Path.{_≡_, refl, sym, _∙_, ap}
 use mathlib.Core.Bool.{Bool, false}
 use mathlib.Core.List.{List, [], _∷_, _++_}
-use Prim.Native.Nat.{ℕ, zero, suc, _+_, _≤_, _<_}
-use native.Mathlib.Nat.{add-zero, zero-add}
+use Prim.Native.Nat.{ℕ, _+_, _≤_, _<_}
+use native.Mathlib.Nat.{add-zero}
 use native.Mathlib.Omega.{arith}
 use borrow.Author.Tests.{ltb-true, ltb-false, not-false, lt-ltb, le-ltb}
 use lib.Dec.{ltb}
 use lib.ListN.{length, drop, length-drop}
-use lib.Seq.{sets, sets-eq, drop-length}
+use lib.Seq.{sets, drop-length}
 use Rattle.lists.proofs.Tests.{by-test}
-use Rattle.calls.specs.Words.{in-front}
-use Rattle.calls.specs.Replies.{replied, written}
+use Rattle.lists.specs.Fronts.{replied, written}
+use Rattle.lists.proofs.Replied.{replied-refused, written-refused}
+use Rattle.lists.proofs.Fronts.{sets-front}
 use Rattle.xml.specs.Grammar.{at-place, most-depth}
 use Rattle.xml.specs.Reader.{Reading, accepted, refused, read-from, read-sheet, at-end, not-a-sheet}
 use Rattle.xml.specs.Replies.{sheet-refusal, kinds-in, sheet-reply, sheet-list, list-short}
@@ -99,25 +100,13 @@ unfolding whole-reply
 accepted-reading (accepted ks) n e = (ks, refl, cc)
 accepted-reading (refused m) n e = let z : _≡_ {A = ℕ} 0 1 = cc in absurd (omega arith)
 
-refused-replied : (k : ℕ) (a : SheetReply) → (k ≡ 0 → ⊥) → answer.Refused k ≡ replied answer.Refused k a
-unfolding replied
-refused-replied zero a n = absurd (n refl)
-refused-replied (suc k) a n = refl
-
-refused-written : (k : ℕ) (new old : List ℕ) → (k ≡ 0 → ⊥) → old ≡ written k new old
-unfolding written replied
-refused-written zero new old n = absurd (n refl)
-refused-written (suc k) new old n = refl
-
 short-reply : (bs ls ks : List ℕ) → read-sheet bs ≡ accepted ks → length ls < length ks → (answer.Refused list-short ≡ sheet-reply bs ls) × (ls ≡ sheet-list bs ls)
 unfolding sheet-reply sheet-list sheet-refusal replied written
 short-reply bs ls ks is l = let short = lt-ltb (length ls) (length ks) l in (rw (is, short), rw (is, short))
 
 kinds-reply : (bs ls ks : List ℕ) → read-sheet bs ≡ accepted ks → length ks ≤ length ls → (answer.Kinds (length ks) ≡ sheet-reply bs ls) × (sets ls 0 ks ≡ sheet-list bs ls)
-unfolding sheet-reply sheet-list sheet-refusal kinds-in replied written in-front
-kinds-reply bs ls ks is l =
-    let fits = le-ltb (length ls) (length ks) l in
-    (rw (is, fits), rw (is, fits) (sets-eq ks ls 0 (omega arith) ∙ rw (zero-add (length ks))))
+unfolding sheet-reply sheet-list sheet-refusal kinds-in replied written
+kinds-reply bs ls ks is l = let fits = le-ltb (length ls) (length ks) l in (rw (is, fits), rw (is, fits) (sets-front ks ls l))
 
 module _ (bs ls ms : List ℕ) (q : SheetReply) (first : Read-whole bs [] ms q) where
   kept : ms ++ ls ≡ ls
@@ -128,7 +117,7 @@ module _ (bs ls ms : List ℕ) (q : SheetReply) (first : Read-whole bs [] ms q) 
   reply-refused k e =
       let is = refused-reading (read-sheet bs) k (sym e ∙ first .reply) in
       let some-number = refused-some bs k is in
-      (e ∙ rw is (refused-replied k _ some-number), kept ∙ rw is (refused-written k _ ls some-number))
+      (e ∙ rw is (replied-refused answer.Refused k _ some-number), kept ∙ rw is (written-refused k _ ls some-number))
 
   module _ (n : ℕ) (e : q ≡ answer.Kinds n) where
     pub reply-short : length (ms ++ ls) < n → (answer.Refused list-short ≡ sheet-reply bs ls) × (ms ++ ls ≡ sheet-list bs ls)

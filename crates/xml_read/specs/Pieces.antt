@@ -4,7 +4,7 @@ use mathlib.Core.Bool.{Bool, true, false, _&&_, not}
 use mathlib.Core.List.{List, [], _∷_}
 use Prim.Native.Nat.{ℕ, _+_, _≤_, _<_}
 use lib.ListN.{length, drop}
-use Rattle.calls.specs.Words.{starts-with}
+use Rattle.lists.specs.Fronts.{starts-with}
 use Rattle.xml.specs.Bytes.{less-than, end-opens, declaration-opens, instruction-opens}
 use Rattle.xml.specs.Grammar.{at-place}
 use Rattle.xml.specs.Reader.{Step, stuck, datum, piece, comment, opening, lone, closing, refused, preceded, text-kind, read-from}

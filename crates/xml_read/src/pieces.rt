@@ -10,7 +10,7 @@ ghost use mathlib.Core.Bool.{true, false};
 ghost use mathlib.Core.List.{[], _∷_};
 ghost use Prim.Native.Nat.{ℕ, suc, _+_, _≤_, _<_};
 ghost use lib.ListN.{length, drop};
-ghost use Rattle.calls.specs.Words.{starts-with};
+ghost use Rattle.lists.specs.Fronts.{starts-with};
 ghost use Rattle.xml.specs.Bytes.{less-than, comment-opens, cdata-opens};
 ghost use Rattle.xml_scan.specs.Classes.{Classes};
 ghost use Rattle.xml_read.specs.Outcome.{In-text, Reads-on};

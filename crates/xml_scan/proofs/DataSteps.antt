@@ -10,7 +10,7 @@ use borrow.Author.Tests.{ne-eqb}
 use lib.Dec.{eqb}
 use lib.ListN.{length, getD, drop, drop-of-length-le}
 use lib.Seq.{drop-cons}
-use Rattle.calls.specs.Words.{starts-with}
+use Rattle.lists.specs.Fronts.{starts-with}
 use Rattle.xml.specs.Bytes.{class-of, is-char, is-space, is-name-start, is-name-char, less-than, ampersand, bracket, cdata-closes}
 use Rattle.xml.specs.Scan.{later, data-length}
 use Rattle.xml_scan.specs.Post.{data-test, is-usual}

@@ -4,7 +4,7 @@ use mathlib.Core.Bool.{Bool, true, false}
 use mathlib.Core.List.{List}
 use Prim.Native.Nat.{ℕ}
 use Rattle.lists.specs.Lists.{first}
-use Rattle.calls.specs.Words.{starts-with}
+use Rattle.lists.specs.Fronts.{starts-with}
 use Rattle.xml.specs.Bytes.{lt-name, gt-name, amp-name, apos-name, quot-name}
 use Rattle.xml.specs.Grammar.{reference-text}
 use Rattle.xml.specs.Scan.{reference-length}

@@ -1,8 +1,7 @@
--- A string compared at a place of a text, byte by byte: what is left of it stands there where all of it does. A string that
--- stands there is within the text. Assumes nothing.
+-- A string compared at a place of a text, byte by byte: what is left of it stands there where all of it does. Assumes nothing.
 use mathlib.Core.Path.{_≡_, sym, _∙_}
-use mathlib.Core.Bool.{true, false, _&&_, false≢true}
-use mathlib.Core.List.{List, [], _∷_}
+use mathlib.Core.Bool.{true, false, _&&_}
+use mathlib.Core.List.{List}
 use Prim.Native.Nat.{ℕ, suc, _+_, _-_, _≤_, _<_}
 use native.Mathlib.Numerals.{add-one}
 use native.Mathlib.Omega.{arith}
@@ -10,8 +9,8 @@ use borrow.Author.Tests.{eq-eqb, ne-eqb}
 use lib.Dec.{eqb}
 use lib.ListN.{length, getD, drop, drop-of-length-le, length-drop}
 use lib.Seq.{drop-cons}
-use Rattle.lists.proofs.Tests.{and-right, fails}
-use Rattle.calls.specs.Words.{starts-with}
+use Rattle.lists.specs.Fronts.{starts-with}
+use Rattle.lists.proofs.Fronts.{starts-short}
 
 -- after k bytes of a string that is to stand at a place
 pub record Standing (text : List ℕ) (at : ℕ) (string : List ℕ) (k : ℕ) : Type 0 where
@@ -42,14 +41,6 @@ module _ {text : List ℕ} {at : ℕ} {string : List ℕ} {k : ℕ} (h : Standin
   pub standing-other : k < length string → at + k < length text → (getD text (at + k) 0 ≡ getD string k 0 → ⊥) → false ≡ starts-with string (drop at text)
   standing-other l m n = sym (step text at string k l m ∙ rw (ne-eqb _ _ (λ e. n (sym e)))) ∙ h .rest
 
--- what begins a text is within it
-pub starts-within : (xs cs : List ℕ) → starts-with xs cs ≡ true → length xs ≤ length cs
-unfolding starts-with
-starts-within [] cs e = omega arith
-starts-within (x ∷ xs) [] e = absurd (false≢true e)
-starts-within (x ∷ xs) (c ∷ cs) e = omega (arith, starts-within xs cs (and-right (eqb x c) (starts-with xs cs) e))
-
--- so what the text is too short for does not begin it
-pub starts-short : (string text : List ℕ) (at : ℕ) → length text - at < length string → false ≡ starts-with string (drop at text)
-starts-short string text at l =
-    sym (fails (starts-with string (drop at text)) (λ e. absurd (omega (arith, starts-within string (drop at text) e, length-drop at text))))
+-- what the text is too short for does not stand there
+pub standing-short : (string text : List ℕ) (at : ℕ) → length text - at < length string → false ≡ starts-with string (drop at text)
+standing-short string text at l = sym (starts-short string (drop at text) (omega (arith, length-drop at text)))

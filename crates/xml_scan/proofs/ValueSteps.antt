@@ -11,11 +11,11 @@ use lib.Dec.{eqb}
 use lib.ListN.{length, getD, drop, length-drop, drop-of-length-le}
 use lib.Seq.{drop-cons, drop-drop}
 use Rattle.lists.proofs.Tests.{by-test}
+use Rattle.lists.proofs.Fronts.{starts-fits}
 use Rattle.xml.specs.Bytes.{is-char, less-than, ampersand, lt-name, gt-name, amp-name, apos-name, quot-name}
 use Rattle.xml.specs.Grammar.{reference-text}
 use Rattle.xml.specs.Scan.{later, reference-length, value-step, value-length}
 use Rattle.xml_scan.specs.Post.{found, is-plain}
-use Rattle.xml_scan.proofs.StringSteps.{starts-within}
 use Rattle.xml_scan.proofs.References.{refers, is-lt, is-gt, is-amp, is-apos, is-quot, is-no-reference}
 use Rattle.xml_scan.proofs.Seeks.{Seeking, found-later}
 
@@ -50,15 +50,15 @@ reference-within : (cs : List ℕ) → reference-length cs ≤ length cs
 unfolding reference-text
 reference-within cs =
     by-test (refers lt-name cs)
-    (λ t. omega (arith, is-lt cs t, starts-within (reference-text lt-name) cs t))
+    (λ t. omega (arith, is-lt cs t, starts-fits (reference-text lt-name) cs t))
     (λ lt. by-test (refers gt-name cs)
-    (λ t. omega (arith, is-gt cs lt t, starts-within (reference-text gt-name) cs t))
+    (λ t. omega (arith, is-gt cs lt t, starts-fits (reference-text gt-name) cs t))
     (λ gt. by-test (refers amp-name cs)
-    (λ t. omega (arith, is-amp cs lt gt t, starts-within (reference-text amp-name) cs t))
+    (λ t. omega (arith, is-amp cs lt gt t, starts-fits (reference-text amp-name) cs t))
     (λ amp. by-test (refers apos-name cs)
-    (λ t. omega (arith, is-apos cs lt gt amp t, starts-within (reference-text apos-name) cs t))
+    (λ t. omega (arith, is-apos cs lt gt amp t, starts-fits (reference-text apos-name) cs t))
     (λ apos. by-test (refers quot-name cs)
-    (λ t. omega (arith, is-quot cs lt gt amp apos t, starts-within (reference-text quot-name) cs t))
+    (λ t. omega (arith, is-quot cs lt gt amp apos t, starts-fits (reference-text quot-name) cs t))
     (λ quot. omega (arith, is-no-reference cs lt gt amp apos quot))))))
 
 step-within : (cs : List ℕ) → value-step cs ≤ length cs

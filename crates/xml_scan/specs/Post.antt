@@ -4,7 +4,7 @@ use mathlib.Core.List.{List, [], _∷_}
 use mathlib.Core.Option.{Option, none, some}
 use Prim.Native.Nat.{ℕ, _+_}
 use lib.Dec.{eqb}
-use Rattle.calls.specs.Words.{starts-with}
+use Rattle.lists.specs.Fronts.{starts-with}
 use Rattle.xml.specs.Bytes.{is-char, is-space, is-name-char, less-than, ampersand, cdata-closes}
 use Rattle.xml_scan.specs.declared.Found.{Found}
 use Rattle.xml_scan.specs.declared.Found.the-variants.{At, Nothing}

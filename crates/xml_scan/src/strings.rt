@@ -2,7 +2,7 @@
 ghost use mathlib.Core.Path.{_≡_};
 ghost use Prim.Native.Nat.{_≤_};
 ghost use lib.ListN.{length, drop};
-ghost use Rattle.calls.specs.Words.{starts-with};
+ghost use Rattle.lists.specs.Fronts.{starts-with};
 ghost use Rattle.xml.specs.Scan.{reference-length};
 
 // Whether a string stands at a place.

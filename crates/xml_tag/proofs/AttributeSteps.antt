@@ -10,7 +10,7 @@ use lib.Dec.{eqb}
 use lib.ListN.{length, getD, drop, length-drop, List·getD-eq-default}
 use lib.Seq.{drop-drop, getD-drop}
 use Rattle.lists.proofs.Tests.{by-test, or-left-false, either-way}
-use Rattle.calls.specs.Words.{starts-with}
+use Rattle.lists.specs.Fronts.{starts-with}
 use Rattle.xml.specs.Bytes.{is-space, equals}
 use Rattle.xml.specs.Grammar.{is-quote}
 use Rattle.xml.specs.Scan.{Sized, run, name-length, value-length, sized, attribute-at}

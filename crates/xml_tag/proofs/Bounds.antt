@@ -8,9 +8,9 @@ use native.Mathlib.Omega.{arith}
 use lib.Dec.{eqb}
 use lib.ListN.{length, drop, length-drop}
 use Rattle.lists.proofs.Tests.{by-test}
-use Rattle.calls.specs.Words.{starts-with}
+use Rattle.lists.specs.Fronts.{starts-with}
+use Rattle.lists.proofs.Fronts.{starts-fits}
 use Rattle.xml.specs.Bytes.{is-space, is-name-start, is-name-char}
-use Rattle.xml_scan.proofs.StringSteps.{starts-within}
 use Rattle.xml_laws.proofs.Data.{later-some}
 use Rattle.xml.specs.Scan.{run, name-length, value-step, value-length}
 
@@ -49,4 +49,4 @@ value-within q zero (c ∷ cs) n e =
 
 -- A STRING that stands at a place
 pub stands-within : (xs text : List ℕ) (i : ℕ) → i ≤ length text → starts-with xs (drop i text) ≡ true → i + length xs ≤ length text
-stands-within xs text i l e = omega (arith, starts-within xs (drop i text) e, length-drop i text)
+stands-within xs text i l e = omega (arith, starts-fits xs (drop i text) e, length-drop i text)

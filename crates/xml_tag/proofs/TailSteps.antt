@@ -9,7 +9,7 @@ use borrow.Author.Tests.{eq-eqb, ne-eqb}
 use lib.Dec.{eqb}
 use lib.ListN.{length, take, drop, length-drop, drop-of-length-le}
 use lib.Seq.{drop-drop}
-use Rattle.calls.specs.Words.{starts-with}
+use Rattle.lists.specs.Fronts.{starts-with}
 use Rattle.xml.specs.Bytes.{is-space, tag-closes, lone-closes}
 use Rattle.xml.specs.Grammar.{among}
 use Rattle.xml.specs.Scan.{Ending, run, attribute-at, ends-later, tail-on, tail-at}

@@ -10,10 +10,10 @@ use lib.Dec.{eqb}
 use lib.ListN.{drop}
 use lib.Seq.{drop-drop}
 use Rattle.lists.proofs.Tests.{either-way}
-use Rattle.calls.specs.Words.{starts-with}
+use Rattle.lists.specs.Fronts.{starts-with}
+use Rattle.lists.proofs.Fronts.{rest-of}
 use Rattle.xml.specs.Bytes.{is-space, tag-closes}
 use Rattle.xml.specs.Scan.{run, Ending, name-length, tail-at, sized-tag, tag-at}
-use Rattle.calls_laws.proofs.Reader.{rest-of}
 use Rattle.xml_tag.specs.Post.{end-found, tag-found}
 use Rattle.xml_tag.specs.declared.TagEnd.the-variants as behind
 use Rattle.xml_tag.specs.declared.TagRead.the-variants as tag

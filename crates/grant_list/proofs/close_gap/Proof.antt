@@ -51,8 +51,8 @@ use denote.Signature.{plain}
 use Rattle.store_types.specs.declared.Grant.{Grant}
 use Rattle.store_types.proofs.Grant as T
 use Rattle.store_types.proofs.Grant.Laws as T′
+use Rattle.lists.specs.Fronts.{in-front}
 use Rattle.calls.specs.Rights.{names, others}
-use Rattle.calls.specs.Words.{in-front}
 use Rattle.grant_list.specs.Gap.{stays, next-place, no-grant, Closed, closed}
 use Rattle.grant_list.proofs.Gap.{closed-whole}
 use Rattle.grant_list.proofs.Walks.{R, mach, typed, byte-fits, next-fits, owns-u32, owns-usize, owns-grant, goes-u32, goes-usize, grant-out, grant-back, grant-put, answered, says-both, Below, again, counts-down}

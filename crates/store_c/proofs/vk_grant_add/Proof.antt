@@ -37,7 +37,7 @@ use denote.Exit.{yes}
 use denote.Signature.{plain, shrSliceOf}
 use Rattle.store_types.specs.declared.Grant.{Grant}
 use Rattle.store_types.specs.declared.GrantReply.the-variants as granting
-use Rattle.calls.specs.Replies.{replied}
+use Rattle.lists.specs.Fronts.{replied}
 use Rattle.calls.specs.Rights.{grant-refused}
 use Rattle.grant_list.proofs.Walks.{R, mach, typed, owns-grant}
 use Rattle.store_c.specs.Flat.{c-granted, place-for}

@@ -40,9 +40,8 @@ use denote.Triple.Walked.{says, Stays, gave-ref, gave-slice, walkOf, goes-gave-r
 use denote.Signature.{plain}
 use Rattle.store_types.specs.declared.Grant.{Grant}
 use Rattle.store_types.specs.declared.RevokeReply.the-variants as revoking
-use Rattle.calls.specs.Replies.{replied}
+use Rattle.lists.specs.Fronts.{replied, in-front}
 use Rattle.calls.specs.Rights.{others, revoke-refused}
-use Rattle.calls.specs.Words.{in-front}
 use Rattle.grant_list.proofs.Walks.{R}
 use Rattle.store_c.specs.Flat.{c-revoked}
 use Rattle.store_c.specs.declared.flat.Revoked.{Revoked}

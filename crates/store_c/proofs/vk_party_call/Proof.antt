@@ -41,7 +41,7 @@ use Rattle.store_types.proofs.Act as T
 use Rattle.store_types.proofs.Act.Laws as T′
 use Rattle.store_types.specs.declared.Grant.{Grant}
 use Rattle.store_types.specs.declared.PartyReply.the-variants as acting
-use Rattle.calls.specs.Replies.{replied}
+use Rattle.lists.specs.Fronts.{replied}
 use Rattle.calls.specs.Rights.{is-right, range-refusal, held, party-refused, act-reply, act-words}
 use Rattle.grant_list.proofs.Walks.{R, says-both}
 use Rattle.store_c.specs.Flat.{c-party, act-of}

@@ -1,7 +1,7 @@
 -- `store_party::looked_at` meets its contract. Assumes nothing.
 use borrow.Author.Needs.{needs}
-use Rattle.calls.specs.Replies.{replied}
-use Rattle.calls_laws.proofs.Replies.{replied-refused}
+use Rattle.lists.specs.Fronts.{replied}
+use Rattle.lists.proofs.Replied.{replied-refused}
 use Rattle.store_party.proofs.looked_at.Statement.{statement}
 use Rattle.store_party.proofs.looked_at.Tie as tie
 

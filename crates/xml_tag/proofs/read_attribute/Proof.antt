@@ -7,7 +7,7 @@ use native.Mathlib.Omega.{arith}
 use borrow.Author.Needs.{needs}
 use borrow.Author.Tests.{not-true, not-false}
 use lib.ListN.{length, drop}
-use Rattle.calls.specs.Words.{starts-with}
+use Rattle.lists.specs.Fronts.{starts-with}
 use Rattle.xml.specs.Bytes.{equals}
 use Rattle.xml_tag.proofs.Bounds.{spaces-within, name-end-within, stands-within}
 use Rattle.xml_tag.proofs.AttributeSteps.{nothing, no-name, no-equals, no-quote, quote-over, no-value, whole, closes-within}

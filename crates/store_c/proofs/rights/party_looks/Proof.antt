@@ -1,7 +1,7 @@
 -- `store_c::rights::party_looks` meets its contract, by those of the functions it calls. Assumes nothing.
 use mathlib.Core.Path.{ap, _∙_}
 use borrow.Author.Needs.{needs}
-use Rattle.calls.specs.Replies.{replied}
+use Rattle.lists.specs.Fronts.{replied}
 use Rattle.store_c.proofs.rights.party_looks.Statement.{statement}
 use Rattle.store_c.proofs.rights.party_looks.Tie as tie
 

@@ -5,7 +5,7 @@ use native.Mathlib.Omega.{arith}
 use borrow.Author.Needs.{needs}
 use borrow.Author.Tests.{not-true, not-false}
 use lib.ListN.{drop}
-use Rattle.calls.specs.Words.{starts-with}
+use Rattle.lists.specs.Fronts.{starts-with}
 use Rattle.xml.specs.Bytes.{end-opens, tag-closes}
 use Rattle.xml_tag.proofs.Bounds.{spaces-within, stands-within}
 use Rattle.xml_read.proofs.EndLaws.{end-room, end-closed, end-unclosed, end-other, end-none}

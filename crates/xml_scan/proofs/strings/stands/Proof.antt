@@ -3,7 +3,7 @@
 use Prim.Native.Nat.{_-_}
 use native.Mathlib.Omega.{arith}
 use lib.ListN.{length}
-use Rattle.xml_scan.proofs.StringSteps.{Standing, standing-start, standing-turn, standing-end, standing-other, starts-short}
+use Rattle.xml_scan.proofs.StringSteps.{Standing, standing-start, standing-turn, standing-end, standing-other, standing-short}
 use Rattle.xml_scan.proofs.strings.stands.Statement.{statement}
 use Rattle.xml_scan.proofs.strings.stands.Tie as tie
 
@@ -17,7 +17,7 @@ sub-if1 : tie.Need-sub-if1 Inv-loop μ-loop
 sub-if1 c = omega arith
 
 returns : tie.Need-returns Inv-loop μ-loop
-returns c = let at = c .before in starts-short (at .args .string .now) (at .args .text .now) (at .args .at) (c .if1 .taken)
+returns c = let at = c .before in standing-short (at .args .string .now) (at .args .text .now) (at .args .at) (c .if1 .taken)
 
 loop-holds : tie.Need-loop-holds Inv-loop μ-loop
 loop-holds c = standing-start _ _ _

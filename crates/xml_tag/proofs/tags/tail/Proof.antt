@@ -8,8 +8,8 @@ use Prim.Native.Nat.{_-_, _≤_, _<_}
 use native.Mathlib.Omega.{arith}
 use borrow.Author.Needs.{needs}
 use lib.ListN.{length, drop}
+use Rattle.lists.specs.Fronts.{starts-with}
 use Rattle.xml.specs.Bytes.{tag-closes, lone-closes}
-use Rattle.calls.specs.Words.{starts-with}
 use Rattle.xml.specs.Grammar.{among}
 use Rattle.xml_tag.specs.Filter.{filter-places, filter-place}
 use Rattle.xml_tag.proofs.Bounds.{spaces-within, stands-within}

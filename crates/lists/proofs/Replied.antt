@@ -1,9 +1,12 @@
--- Replies by their refusal, for every call: what is accepted where it is 0, else the refusal. Assumes nothing.
+-- What a call gives and writes by its refusal: what is accepted where it is 0, else the refusal and nothing new. Assumes nothing.
 use mathlib.Core.Path.{_≡_, refl}
 use mathlib.Core.Bool.{Bool, true, false, cond}
-use Prim.Native.Nat.{ℕ, zero, suc}
+use mathlib.Core.List.{List}
+use Prim.Native.Nat.{ℕ, zero, suc, _≤_}
 use lib.Dec.{eqb, eqb·suc-zero}
-use Rattle.calls.specs.Replies.{replied}
+use lib.ListN.{length}
+use Rattle.lists.specs.Fronts.{replied, written}
+use Rattle.lists.proofs.Fronts.{length-in-front}
 
 module _ {A : Type 0} (f : ℕ → A) where
   pub replied-refused : (k : ℕ) (a : A) → (k ≡ 0 → ⊥) → f k ≡ replied f k a
@@ -28,3 +31,13 @@ module _ {A : Type 0} (f : ℕ → A) where
   unfolding replied
   replied-told g zero a passes fails = passes
   replied-told g (suc k) a passes fails = rw (eqb·suc-zero k) (fails (suc k))
+
+-- THE WORDS AFTER A CALL: refused as they were, and in any case as many as before
+pub written-refused : (k : ℕ) (new old : List ℕ) → (k ≡ 0 → ⊥) → old ≡ written k new old
+unfolding written
+written-refused k new old n = replied-refused (λ _. old) k _ n
+
+pub length-written : (refusal : ℕ) (new old : List ℕ) → (refusal ≡ 0 → length new ≤ length old) → length (written refusal new old) ≡ length old
+unfolding written replied
+length-written zero new old fit = length-in-front new old (fit refl)
+length-written (suc k) new old fit = refl
