@@ -15,6 +15,7 @@ use store_types::Label;
 use store_types::LoadReply;
 use store_types::TagId;
 use store_types::file;
+use store_types::refusals;
 use words::HEADER_WORDS;
 
 // The header goes in front.
@@ -67,14 +68,14 @@ pub fn read_file(bytes: &[u8], words: &mut [u32]) -> LoadReply
     ensures words { λ _. ⌜ now (words .exit) ≡ read-words (now (bytes .entry)) (now (words .entry)) ⌝ }
 {
     if !file_form::formed(bytes) {
-        return LoadReply::Refused(15);
+        return LoadReply::Refused(refusals::NOT_A_FILE);
     }
     let n = file_form::count(bytes);
     if words.len() < words::words_for(n as usize) {
-        return LoadReply::Refused(1);
+        return LoadReply::Refused(refusals::TOO_FEW_WORDS);
     }
     if !file_walk::judge::judged(bytes) {
-        return LoadReply::Refused(2);
+        return LoadReply::Refused(refusals::NOT_SOUND);
     }
     let header = file_form::header(bytes);
     put_header(words, &header);

@@ -16,6 +16,7 @@ ghost use Rattle.file_write.specs.Records.{tag-records, File-room};
 use store_types::TagId;
 use store_types::WriteReply;
 use store_types::file;
+use store_types::refusals;
 
 // What stands before the so many words of a record: how many bytes follow, and its kind.
 fn put_front(bytes: &mut [u8], at: usize, kind: u16, words: usize)
@@ -106,7 +107,7 @@ fn write_refused(words: &[u32], lent: usize) -> u32
     let n = words::count_of(words) as usize;
     let needed = file::file_bytes(n);
     if lent < needed {
-        return 16;
+        return refusals::TOO_FEW_BYTES;
     }
     0
 }

@@ -12,6 +12,7 @@ use store_types::HoldReply;
 use store_types::Label;
 use store_types::QuestionReply;
 use store_types::TagId;
+use store_types::refusals;
 
 // Hold: a section's book number, tag and two labels.
 pub fn hold(tag: TagId, words: &[u32]) -> HoldReply
@@ -54,10 +55,10 @@ pub fn asked(pair: HeldPair, tag: TagId, words: &[u32]) -> QuestionReply
     let section = pair.tag;
     let n = words::count_of(words);
     if n <= section.0 || n <= tag.0 {
-        return QuestionReply::Refused(8);
+        return QuestionReply::Refused(refusals::NO_SUCH_TAG);
     }
     if words::kind_of(words, section) % words::MARK != words::KIND_BEGIN {
-        return QuestionReply::Refused(10);
+        return QuestionReply::Refused(refusals::NOT_A_SECTION);
     }
     answer(pair, tag, words)
 }
@@ -71,7 +72,7 @@ fn answer(pair: HeldPair, tag: TagId, words: &[u32]) -> QuestionReply
         return QuestionReply::Answered(Answer::Stale);
     }
     if words::MARK <= words::kind_of(words, tag) {
-        return QuestionReply::Refused(9);
+        return QuestionReply::Refused(refusals::TAG_MARKED);
     }
     let label = words::label_of(words, tag);
     let start = pair.start;

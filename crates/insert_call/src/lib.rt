@@ -21,6 +21,7 @@ use store_types::END;
 use store_types::InsertReply;
 use store_types::TEXT;
 use store_types::TagId;
+use store_types::refusals;
 
 // How many unmarked tags moved, and the split height.
 struct Done {
@@ -168,7 +169,7 @@ pub fn insert_said(
         let text = [TEXT];
         return sheet_said(&text, place, words, tables, sizes);
     }
-    InsertReply::Refused(4)
+    InsertReply::Refused(refusals::KIND)
 }
 
 pub fn insert_sheet(kinds: &[u8], place: TagId, words: &mut [u32]) -> InsertReply

@@ -13,6 +13,7 @@ ghost use Rattle.insert_refuse.specs.Parts.{place-refusal, room-refusal}
 use shape::PACKED_LENGTH;
 use store_types::MOST_TAGS;
 use store_types::TagId;
+use store_types::refusals;
 
 // 8 and 9: the place is the front or an unmarked tag.
 fn place_refused(place: TagId, words: &[u32]) -> u32
@@ -23,10 +24,10 @@ fn place_refused(place: TagId, words: &[u32]) -> u32
         return 0;
     }
     if words::count_of(words) <= place.0 {
-        return 8;
+        return refusals::NO_SUCH_TAG;
     }
     if words::MARK <= words::kind_of(words, place) {
-        return 9;
+        return refusals::TAG_MARKED;
     }
     0
 }
@@ -49,11 +50,11 @@ fn room_refused(k: usize, words: &[u32], tables: &[u64; PACKED_LENGTH]) -> u32
 {
     let n = words::count_of(words);
     if ((MOST_TAGS - n) as usize) < k {
-        return 6;
+        return refusals::TOO_MANY_TAGS;
     }
     let all = n + k as u32;
     if words.len() < words::words_for(all as usize) {
-        return 6;
+        return refusals::TOO_MANY_TAGS;
     }
     let top = height_with(all, words, tables);
     if top == words::height_of(words) {
@@ -64,7 +65,7 @@ fn room_refused(k: usize, words: &[u32], tables: &[u64; PACKED_LENGTH]) -> u32
     if shape::height_fits(s, r, top) {
         return 0;
     }
-    7
+    refusals::OUT_OF_LABELS
 }
 
 // Of a sheet, on words that say a store, by the tables of their header.

@@ -12,6 +12,7 @@ ghost use Rattle.store_refuse.specs.Needs.{Tag-said};
 ghost use Rattle.list_call.specs.Needs.{Span-said, unmarked, unmarked-between, inside-refusal, first-inside, stop-of, short};
 use store_types::ListReply;
 use store_types::TagId;
+use store_types::refusals;
 
 // List: the unmarked tags strictly inside a section or, from the front, of the whole book, with their labels.
 pub fn list(begin: TagId, words: &[u32], tags: &mut [u32], labels: &mut [u32]) -> ListReply
@@ -26,7 +27,7 @@ pub fn list(begin: TagId, words: &[u32], tags: &mut [u32], labels: &mut [u32]) -
     let from = first_inside(begin, words);
     let to = stop_of(begin, words);
     if too_short(from, to, words, tags.len(), labels.len()) {
-        return ListReply::Refused(11);
+        return ListReply::Refused(refusals::LIST_TOO_SHORT);
     }
     let count = write_between(from, to, words, tags, labels);
     ListReply::Listed(count as u32)
@@ -54,14 +55,14 @@ fn inside_refused(begin: TagId, words: &[u32]) -> u32
         return first;
     }
     if words::count_of(words) <= begin.0 {
-        return 8;
+        return refusals::NO_SUCH_TAG;
     }
     let kind = words::kind_of(words, begin);
     if words::MARK <= kind {
-        return 9;
+        return refusals::TAG_MARKED;
     }
     if kind != words::KIND_BEGIN {
-        return 10;
+        return refusals::NOT_A_SECTION;
     }
     0
 }

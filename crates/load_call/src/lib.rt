@@ -9,6 +9,7 @@ ghost use Rattle.calls.specs.Replies.{load-reply, load-words};
 ghost use Rattle.load_call.specs.Header.{first-number, header-new};
 use store_types::LoadReply;
 use store_types::TagId;
+use store_types::refusals;
 
 // The first of n tags.
 fn first_tag(n: u32) -> TagId
@@ -48,7 +49,7 @@ pub fn load(s: u32, r: u32, book: u32, kinds: &[u8], words: &mut [u32]) -> LoadR
     let h = under + 1;
     // The last refusal goes by the height; nothing has been written yet.
     if !shape::height_fits(s, r, h) {
-        return LoadReply::Refused(7);
+        return LoadReply::Refused(refusals::OUT_OF_LABELS);
     }
     write_header(words, s, r, h, n, book);
     let widths = shape::widths(words);

@@ -10,6 +10,7 @@ ghost use Rattle.load_refuse.specs.Refusals.{Height-fits, kinds-refusal,
 use store_types::BEGIN;
 use store_types::MOST_TAGS;
 use store_types::TEXT;
+use store_types::refusals;
 
 const MOST_KINDS: usize = MOST_TAGS as usize;
 
@@ -27,11 +28,11 @@ fn rest_refused(kinds: &[u8], from: usize) -> u32
     let mut i = from;
     while i < kinds.len() {
         if !is_a_kind(kinds[i]) {
-            return 4;
+            return refusals::KIND;
         }
         i += 1;
     }
-    5
+    refusals::NESTING
 }
 
 // 1 for an end, 0 for a begin or text: a number to reckon with, since no processor can foretell the kinds of a book.
@@ -60,7 +61,7 @@ pub fn kinds_refused(kinds: &[u8]) -> u32
     while i < kinds.len() {
         let kind = kinds[i];
         if !is_a_kind(kind) {
-            return 4;
+            return refusals::KIND;
         }
         if depth < ends(kind) {
             // An end that closes none. 4 comes before 5, so the kinds that are left decide.
@@ -70,7 +71,7 @@ pub fn kinds_refused(kinds: &[u8]) -> u32
         i += 1;
     }
     if depth != 0 {
-        return 5;
+        return refusals::NESTING;
     }
     0
 }
@@ -80,16 +81,16 @@ pub fn refused(room: usize, s: u32, r: u32, kinds: &[u8]) -> u32
     ensures { λ q. ⌜ q ≡ refusal-before room s r (now (kinds .entry)) ⌝ }
 {
     if !shape::degree_fits(s) {
-        return 3;
+        return refusals::DEGREE;
     }
     if !shape::degree_fits(r) {
-        return 3;
+        return refusals::DEGREE;
     }
     if MOST_KINDS < kinds.len() {
-        return 6;
+        return refusals::TOO_MANY_TAGS;
     }
     if room < words::words_for(kinds.len()) {
-        return 1;
+        return refusals::TOO_FEW_WORDS;
     }
     kinds_refused(kinds)
 }

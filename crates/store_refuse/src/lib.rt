@@ -6,6 +6,7 @@ ghost use Rattle.walk_model.specs.Watch.{Tables-at, sizes-at};
 use shape::PACKED_LENGTH;
 use shape::TABLE_LENGTH;
 use store_types::TagId;
+use store_types::refusals;
 
 // 1 and 2, which come first on every such call; 0 where the words say a store. Then `tables` has the tables of their
 // header with the numbers of the ancestors of a place, and `sizes` the leaves of each of these below the root, by height.
@@ -20,10 +21,10 @@ pub fn words_refused_at(
     ensures sizes { λ k. ⌜ (k ≡ 0 → now (sizes .exit) ≡ sizes-at (now (words .entry)) (place .0) (now (sizes .entry))) ⌝ }
 {
     if words.len() < words::HEADER_WORDS {
-        return 1;
+        return refusals::TOO_FEW_WORDS;
     }
     if !walk::sound_at(words, place, tables, sizes) {
-        return 2;
+        return refusals::NOT_SOUND;
     }
     0
 }
@@ -46,14 +47,14 @@ pub fn section_refused(tag: TagId, words: &[u32]) -> u32
         return first;
     }
     if words::count_of(words) <= tag.0 {
-        return 8;
+        return refusals::NO_SUCH_TAG;
     }
     let kind = words::kind_of(words, tag);
     if words::MARK <= kind {
-        return 9;
+        return refusals::TAG_MARKED;
     }
     if kind == words::KIND_END {
-        return 10;
+        return refusals::NOT_A_SECTION;
     }
     0
 }

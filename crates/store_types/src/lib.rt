@@ -1,5 +1,6 @@
 // The two kinds of number, held pairs, and the replies of the calls.
 pub mod file;
+pub mod refusals;
 
 ghost use mathlib.Core.Path.{_≡_};
 ghost use lib.Dec.{eqb};

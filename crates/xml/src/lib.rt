@@ -7,15 +7,5 @@ pub enum SheetReply {
     Refused(u32),
 }
 
-// Document 02's refusals of a sheet: a lent list that is too short, a text outside the grammar, a depth over the greatest, a
-// construct that opens with <? or <!DOCTYPE.
-pub const LIST_SHORT: u32 = 11;
-
-pub const NOT_A_SHEET: u32 = 12;
-
-pub const TOO_DEEP: u32 = 13;
-
-pub const NOT_READ: u32 = 14;
-
 // Elements stand inside one another to this depth, those at the top at 1.
 pub const MOST_DEPTH: usize = 64;

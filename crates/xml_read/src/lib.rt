@@ -7,9 +7,8 @@ ghost use mathlib.Core.Path.{_≡_};
 ghost use Rattle.xml.specs.Replies.{sheet-reply, sheet-list};
 ghost use Rattle.xml_read.specs.Outcome.{Read-whole, whole-part};
 use nesting::content;
-use xml::LIST_SHORT;
+use store_types::refusals;
 use xml::MOST_DEPTH;
-use xml::NOT_A_SHEET;
 use xml::SheetReply;
 
 // Where a reader stands in the text, how many kinds it has given, and whether it stands in a text: IN_TEXT or NOT_IN_TEXT, a word
@@ -45,7 +44,7 @@ fn whole(text: &[u8], part: Part) -> SheetReply
         Part::Refused(k) => SheetReply::Refused(k),
         Part::On(c) => {
             if c.at < text.len() {
-                SheetReply::Refused(NOT_A_SHEET)
+                SheetReply::Refused(refusals::NOT_A_SHEET)
             } else {
                 SheetReply::Kinds(c.count)
             }
@@ -77,7 +76,7 @@ pub fn xml_kinds(text: &[u8], kinds: &mut [u8]) -> SheetReply
         return first;
     };
     if kinds.len() < n {
-        return SheetReply::Refused(LIST_SHORT);
+        return SheetReply::Refused(refusals::LIST_TOO_SHORT);
     }
     read(text, kinds)
 }

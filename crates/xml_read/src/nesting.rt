@@ -16,8 +16,7 @@ ghost use Rattle.xml_read.specs.Outcome.{behind, In-text, Reads-on, Clos
 ghost use Rattle.xml_read.specs.Pieces.{goes-on, opens-element, closing-found};
 use store_types::BEGIN;
 use store_types::END;
-use xml::NOT_A_SHEET;
-use xml::TOO_DEEP;
+use store_types::refusals;
 use xml_scan::Found;
 use xml_scan::runs::blank_end;
 use xml_scan::strings::stands;
@@ -105,7 +104,7 @@ fn ending(text: &[u8], here: Cursor, kinds: &mut [u8], name: &[u8], classes: &[u
 {
     let at = here.at;
     let Found::At(e) = end_tag(text, at, name, classes) else {
-        return Part::Refused(NOT_A_SHEET);
+        return Part::Refused(refusals::NOT_A_SHEET);
     };
     closed(here, e, kinds)
 }
@@ -121,10 +120,10 @@ fn element(text: &[u8], here: Cursor, kinds: &mut [u8], depth: usize, classes: &
         return piece(text, here, kinds, classes);
     }
     let TagRead::Whole { name, end, lone } = tag(text, at, classes) else {
-        return Part::Refused(NOT_A_SHEET);
+        return Part::Refused(refusals::NOT_A_SHEET);
     };
     if depth == 0 {
-        return Part::Refused(TOO_DEEP);
+        return Part::Refused(refusals::TOO_DEEP);
     }
     let from = opened(here, end, kinds);
     if lone {

@@ -15,8 +15,7 @@ ghost use Rattle.xml.specs.Bytes.{less-than, comment-opens, cdata-opens};
 ghost use Rattle.xml_scan.specs.Classes.{Classes};
 ghost use Rattle.xml_read.specs.Outcome.{In-text, Reads-on};
 ghost use Rattle.xml_read.specs.Pieces.{Piece-right, Construct-here, Markup-here};
-use xml::NOT_A_SHEET;
-use xml::NOT_READ;
+use store_types::refusals;
 use xml_scan::Found;
 use xml_scan::bodies::body_end;
 use xml_scan::bodies::data_end;
@@ -39,12 +38,12 @@ fn text_run(text: &[u8], at: usize, classes: &[u8; 256]) -> Piece
     if text[at] == b'&' {
         let n = reference(text, at);
         if n == 0 {
-            return Piece::Refused(NOT_A_SHEET);
+            return Piece::Refused(refusals::NOT_A_SHEET);
         }
         return Piece::Text(at + n);
     }
     let Found::At(e) = data_end(text, at, classes) else {
-        return Piece::Refused(NOT_A_SHEET);
+        return Piece::Refused(refusals::NOT_A_SHEET);
     };
     Piece::Text(e)
 }
@@ -56,12 +55,12 @@ fn comment(text: &[u8], at: usize, classes: &[u8; 256]) -> Piece
     ensures { λ q. ⌜ Piece-right (now (text .entry)) at q ⌝ }
 {
     let Found::At(e) = body_end(text, at + COMMENT_OPENER, b"--", classes) else {
-        return Piece::Refused(NOT_A_SHEET);
+        return Piece::Refused(refusals::NOT_A_SHEET);
     };
     if stands(text, e, b"-->") {
         return Piece::Comment(e + CLOSER);
     }
-    Piece::Refused(NOT_A_SHEET)
+    Piece::Refused(refusals::NOT_A_SHEET)
 }
 
 // A CDATA section, whose opener stands at a place.
@@ -71,7 +70,7 @@ fn cdata(text: &[u8], at: usize, classes: &[u8; 256]) -> Piece
     ensures { λ q. ⌜ Piece-right (now (text .entry)) at q ⌝ }
 {
     let Found::At(e) = body_end(text, at + CDATA_OPENER, b"]]>", classes) else {
-        return Piece::Refused(NOT_A_SHEET);
+        return Piece::Refused(refusals::NOT_A_SHEET);
     };
     Piece::Text(e + CLOSER)
 }
@@ -89,12 +88,12 @@ fn markup(text: &[u8], at: usize, classes: &[u8; 256]) -> Piece
         return cdata(text, at, classes);
     }
     if stands(text, at, b"<?") {
-        return Piece::Refused(NOT_READ);
+        return Piece::Refused(refusals::NOT_READ);
     }
     if stands(text, at, b"<!DOCTYPE") {
-        return Piece::Refused(NOT_READ);
+        return Piece::Refused(refusals::NOT_READ);
     }
-    Piece::Refused(NOT_A_SHEET)
+    Piece::Refused(refusals::NOT_A_SHEET)
 }
 
 // A construct that is neither an element nor an end tag.
