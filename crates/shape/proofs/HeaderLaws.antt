@@ -14,7 +14,7 @@ use Rattle.store_types.specs.Layout.{at-version, at-s, at-r, at-height, at-coun
 use Rattle.tree.specs.Book.{base, power-width}
 use Rattle.calls.specs.Store.{labels-fit, power-fits}
 use Rattle.calls.specs.Sound.{degrees-fit}
-use Rattle.calls.specs.Words.{header-width}
+use Rattle.calls.specs.Words.{header-width, header-in-range}
 use Rattle.shape.specs.Needs.{root-passes, degree-fits, frame-passes}
 
 -- A POWER: p is b^i
@@ -75,33 +75,33 @@ module _ (ws : List ℕ) where
   frame-version p = simp (ne-eqb (word-at ws at-version) 1 p, and-false)
 
   pub frame-s : {t : Bool} → t ≡ degree-fits (word-at ws at-s) → not t ≡ true → false ≡ frame-passes ws
-  unfolding frame-passes degrees-fit degree-fits
+  unfolding frame-passes header-in-range degrees-fit degree-fits
   frame-s e p = simp (sym e ∙ not-true _ p, and-false)
 
   pub frame-r : {t : Bool} → t ≡ degree-fits (word-at ws at-r) → not t ≡ true → false ≡ frame-passes ws
-  unfolding frame-passes degrees-fit degree-fits
+  unfolding frame-passes header-in-range degrees-fit degree-fits
   frame-r e p = simp (sym e ∙ not-true _ p, and-false)
 
   pub frame-height : word-at ws at-height < 1 → false ≡ frame-passes ws
-  unfolding frame-passes
+  unfolding frame-passes header-in-range
   frame-height p = simp (lt-leb 1 (word-at ws at-height) p, and-false)
 
   pub frame-levels : most-levels < word-at ws at-height → false ≡ frame-passes ws
-  unfolding frame-passes
+  unfolding frame-passes header-in-range
   frame-levels p = simp (lt-leb (word-at ws at-height) most-levels p, and-false)
 
   pub frame-count : most-tags < word-at ws at-count → false ≡ frame-passes ws
-  unfolding frame-passes
+  unfolding frame-passes header-in-range
   frame-count p = simp (lt-leb (word-at ws at-count) most-tags p, and-false)
 
   pub frame-words : length ws < words-for header-words (word-at ws at-count) → false ≡ frame-passes ws
-  unfolding frame-passes
+  unfolding frame-passes header-in-range
   frame-words p = simp (lt-leb (words-for header-words (word-at ws at-count)) (length ws) p, and-false)
 
   pub frame-labels : {t p q : Bool} → header-words ≤ length ws → word-at ws at-version ≡ 1 → p ≡ degree-fits (word-at ws at-s) → not p ≡ false →
       q ≡ degree-fits (word-at ws at-r) → not q ≡ false → 1 ≤ word-at ws at-height → word-at ws at-height ≤ most-levels →
       word-at ws at-count ≤ most-tags → words-for header-words (word-at ws at-count) ≤ length ws →
       t ≡ power-fits (word-at ws at-s) (word-at ws at-r) (word-at ws at-height) → t ≡ frame-passes ws
-  unfolding frame-passes header-width degrees-fit degree-fits
+  unfolding frame-passes header-in-range header-width degrees-fit degree-fits
   frame-labels a b c d e f g g′ h i j =
       rw (le-leb header-words (length ws) a, eq-eqb (word-at ws at-version) 1 b, sym c ∙ not-false _ d, sym e ∙ not-false _ f, le-leb 1 (word-at ws at-height) g, le-leb (word-at ws at-height) most-levels g′, le-leb (word-at ws at-count) most-tags h, le-leb (words-for header-words (word-at ws at-count)) (length ws) i, ← j)

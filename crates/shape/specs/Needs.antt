@@ -5,23 +5,20 @@ use mathlib.Core.List.{List}
 use Prim.Native.Nat.{ℕ, pred, _*_, _-_, _^_, _≤_, _<_}
 use lib.Dec.{ltb, leb, eqb}
 use lib.ListN.{length, getD}
-use Rattle.store_types.specs.Limits.{most-tags, most-levels}
-use Rattle.store_types.specs.Layout.{at-version, at-s, at-r, at-height, at-count, header-words, word-at, words-for}
+use Rattle.store_types.specs.Limits.{most-tags}
+use Rattle.store_types.specs.Layout.{at-version, at-s, at-r, at-height, header-words, word-at}
 use Rattle.shape.specs.Tables.{entry, table-length, entry-limit, Table-fits}
 use Rattle.calls.specs.Store.{labels-fit}
-use Rattle.calls.specs.Sound.{degrees-fit}
-use Rattle.calls.specs.Words.{header-width}
+use Rattle.calls.specs.Words.{header-width, header-in-range}
 
 -- one half of degrees-fit
 unfoldable pub degree-fits : (d : ℕ) → Bool
 degree-fits d = leb 2 d && leb d 16
 
+-- the version, the ranges and the room for n tags, and labels that fit
 unfoldable pub frame-passes : List ℕ → Bool
 frame-passes ws =
-    let h = word-at ws at-height in
-    let n = word-at ws at-count in
-    ((leb header-words (length ws) && eqb (word-at ws at-version) 1) && (degrees-fit (word-at ws at-s) (word-at ws at-r) && (leb 1 h && leb h most-levels)))
-    && ((leb n most-tags && leb (words-for header-words n) (length ws)) && labels-fit (header-width ws) h)
+    (leb header-words (length ws) && eqb (word-at ws at-version) 1) && (header-in-range ws && labels-fit (header-width ws) (word-at ws at-height))
 
 -- a header whose widths fit a table
 pub record Widths-fit (ws : List ℕ) : Type 0 where

@@ -1,7 +1,7 @@
 -- The whole walk (walk_model's Walk): the header is the frame and the root, tables of a header that passes fit, and the three
 -- parts decide. Assumes nothing.
 use mathlib.Core.Path.{_≡_, sym, _∙_}
-use mathlib.Core.Bool.{Bool, true, false, _&&_, not, and-assoc, and-false, and-eq-true-iff}
+use mathlib.Core.Bool.{Bool, true, false, _&&_, not, and-false, and-eq-true-iff}
 use mathlib.Core.List.{List}
 use Prim.Native.Nat.{ℕ, pred, _*_, _-_, _≤_, _<_}
 use native.Mathlib.Nat.{pow-zero, one-le-pow, one-mul}
@@ -16,7 +16,7 @@ use Rattle.shape.specs.Tables.{table, widths-of, lows-of, highs-of, entry-limit
 use Rattle.shape.proofs.Fits.{Fits, product-range, widths-fit, lows-fit, highs-fit}
 use Rattle.calls.specs.Store.{labels-fit}
 use Rattle.calls.specs.Sound.{degrees-fit}
-use Rattle.calls.specs.Words.{header-width}
+use Rattle.calls.specs.Words.{header-width, header-in-range}
 use Rattle.walk_model.specs.Walk.{shape-of, start, walk, header-passes, words-pass}
 use Rattle.words.specs.Places.{watched-label}
 use Rattle.walk_model.specs.Watch.{ancestor-numbers, watched-numbers, Tables-at, walk-sizes, sizes-at}
@@ -53,18 +53,18 @@ pub record Frame (ws : List ℕ) : Type 0 where
   pub labels : labels-fit (header-width ws) (h-of ws) ≡ true
 
 pub frame : (ws : List ℕ) {t : Bool} → t ≡ frame-passes ws → not t ≡ false → Frame ws
-unfolding frame-passes degrees-fit
+unfolding frame-passes header-in-range degrees-fit
 frame ws e p =
     let all = simp and-eq-true-iff at (sym e ∙ not-false _ p) in
     record {
-      header = leb-true _ _ (all .0 .0 .0);
-      s-low = leb-true _ _ (all .0 .1 .0 .0 .0);
-      s-high = leb-true _ _ (all .0 .1 .0 .0 .1);
-      r-low = leb-true _ _ (all .0 .1 .0 .1 .0);
-      r-high = leb-true _ _ (all .0 .1 .0 .1 .1);
-      low = leb-true _ _ (all .0 .1 .1 .0);
-      high = leb-true _ _ (all .0 .1 .1 .1);
-      records = record { few = leb-true _ _ (all .1 .0 .0); long = leb-true _ _ (all .1 .0 .1) };
+      header = leb-true _ _ (all .0 .0);
+      s-low = leb-true _ _ (all .1 .0 .0 .0 .0 .0);
+      s-high = leb-true _ _ (all .1 .0 .0 .0 .0 .1);
+      r-low = leb-true _ _ (all .1 .0 .0 .0 .1 .0);
+      r-high = leb-true _ _ (all .1 .0 .0 .0 .1 .1);
+      low = leb-true _ _ (all .1 .0 .0 .1 .0);
+      high = leb-true _ _ (all .1 .0 .0 .1 .1);
+      records = record { few = leb-true _ _ (all .1 .0 .1 .0); long = leb-true _ _ (all .1 .0 .1 .1) };
       labels = all .1 .1;
     }
 
@@ -123,10 +123,9 @@ module _ (ws : List ℕ) where
   root = root-passes (n-of ws) (h-of ws) (table 1 (r-of ws) (h-of ws)) (table (s-of ws) (r-of ws) (h-of ws))
 
   header-split : header-passes ws ≡ (frame-passes ws && root)
-  unfolding header-passes frame-passes root-passes
+  unfolding header-passes root-passes
   header-split =
       rw (table-at (s-of ws) (r-of ws) (h-of ws) (h-of ws) (omega arith), table-at 1 (r-of ws) (h-of ws) (pred (h-of ws)) (omega arith), one-mul)
-      (simp and-assoc)
 
   module _ {t : Bool} where
     pub frame-refuses : t ≡ frame-passes ws → not t ≡ true → false ≡ words-pass ws

@@ -14,12 +14,13 @@ use Rattle.lists.proofs.Tests.{and-left, and-right, and-both}
 use Rattle.words.proofs.Fields.{header-fits}
 use Rattle.shape.proofs.TableLaws.{table-at, length-table}
 use Rattle.shape.specs.Tables.{widths-of, lows-of, highs-of, table-length}
+use Rattle.shape.specs.Needs.{frame-passes}
 use Rattle.tree.specs.Book.{base}
 use Rattle.tree.specs.Promise.{Widths}
 use Rattle.tree_laws.proofs.Labels.{width-rises}
 use Rattle.calls.specs.Store.{labels-fit}
 use Rattle.calls.specs.Sound.{degrees-fit}
-use Rattle.calls.specs.Words.{header-width}
+use Rattle.calls.specs.Words.{header-width, header-in-range}
 use Rattle.calls_laws.proofs.Widths.{header-widths, header-powers, header-narrower}
 use Rattle.calls_laws.proofs.Tests.{Degrees, degrees-of, degrees-test}
 use Rattle.walk_model.specs.Walk.{header-passes, shape-of}
@@ -42,7 +43,7 @@ pub record Header (ws : List ℕ) (s r u n : ℕ) : Type 0 where
   pub least : (eqb u 0 || leb (2 * r ^ u) n) ≡ true
 
 pub header-facts : (ws : List ℕ) → header-passes ws ≡ true → Header ws (word-at ws at-s) (word-at ws at-r) (pred (word-at ws at-height)) (word-at ws at-count)
-unfolding header-passes
+unfolding header-passes frame-passes header-in-range
 header-facts ws e =
     let s = word-at ws at-s in
     let r = word-at ws at-r in
@@ -52,37 +53,36 @@ header-facts ws e =
     let few = leb n most-tags in
     let room = leb (words-for header-words n) (length ws) in
     let labels = labels-fit (header-width ws) h in
-    let range = leb 1 h && leb h most-levels in
-    let below = ltb n (s * r ^ h) in
-    let least = eqb h 1 || leb (2 * r ^ pred h) n in
-    let f =
-    four (leb header-words (length ws) && version) (degrees-fit s r && range) (few && room) (labels && (below && least)) e in
-    let tree = and-right labels (below && least) (f .fourth) in
-    let in-range = and-right (degrees-fit s r) range (f .second) in
-    let levels : h ≡ suc (pred h) = omega (arith, leb-true 1 h (and-left (leb 1 h) (leb h most-levels) in-range)) in
+    let levels-fit = leb 1 h && leb h most-levels in
+    let ranges = (degrees-fit s r && levels-fit) && (few && room) in
+    let f = four (leb header-words (length ws) && version) (ranges && labels) (ltb n (s * r ^ h)) (eqb h 1 || leb (2 * r ^ pred h) n) e in
+    let g = four (degrees-fit s r) levels-fit few room (and-left ranges labels (f .second)) in
+    let levels : h ≡ suc (pred h) = omega (arith, leb-true 1 h (and-left (leb 1 h) (leb h most-levels) (g .second))) in
     record {
       version = eqb-true _ _ (and-right (leb header-words (length ws)) version (f .first));
       degree-s = refl;
       degree-r = refl;
       levels = levels;
       issued = refl;
-      high = rw (← levels) (leb-true h most-levels (and-right (leb 1 h) (leb h most-levels) in-range));
-      degrees = degrees-of s r (and-left (degrees-fit s r) range (f .second));
-      few = leb-true _ _ (and-left few room (f .third));
-      room = leb-true _ _ (and-right few room (f .third));
-      labels-fit = rw (← levels) (and-left labels (below && least) (f .fourth));
-      below = rw (← levels) (ltb-true _ _ (and-left below least tree));
-      least = rw (← eqb·suc-suc (pred h) 0, ← levels) (and-right below least tree);
+      high = rw (← levels) (leb-true h most-levels (and-right (leb 1 h) (leb h most-levels) (g .second)));
+      degrees = degrees-of s r (g .first);
+      few = leb-true _ _ (g .third);
+      room = leb-true _ _ (g .fourth);
+      labels-fit = rw (← levels) (and-right ranges labels (f .second));
+      below = rw (← levels) (ltb-true _ _ (f .third));
+      least = rw (← eqb·suc-suc (pred h) 0, ← levels) (f .fourth);
     }
 
 pub header-test : {ws : List ℕ} {s r u n : ℕ} → Header ws s r u n → header-passes ws ≡ true
-unfolding header-passes
+unfolding header-passes frame-passes header-in-range
 header-test {ws} {s} {r} {u} {n} h =
     let head : header-words ≤ length ws = omega (arith, h .room, header-fits n) in
     rw (h .version, h .degree-s, h .degree-r, h .levels, h .issued, eqb·suc-suc u 0)
-    (and-both (and-both (and-both (le-leb _ _ head) refl) (and-both (degrees-test s r (h .degrees)) (and-both (le-leb 1 (suc u) (omega arith)) (le-leb (suc u) most-levels (h .high)))))
-    (and-both (and-both (le-leb _ _ (h .few)) (le-leb _ _ (h .room)))
-    (and-both (h .labels-fit) (and-both (lt-ltb _ _ (h .below)) (h .least)))))
+    (and-both (and-both (and-both (le-leb _ _ head) refl)
+    (and-both (and-both (and-both (degrees-test s r (h .degrees)) (and-both (le-leb 1 (suc u) (omega arith)) (le-leb (suc u) most-levels (h .high))))
+    (and-both (le-leb _ _ (h .few)) (le-leb _ _ (h .room))))
+    (h .labels-fit)))
+    (and-both (lt-ltb _ _ (h .below)) (h .least)))
 
 -- THE WIDTHS of such a header, and its tables
 pub widths-given : {ws : List ℕ} {s r u n : ℕ} → Header ws s r u n → Widths s r (header-width ws)

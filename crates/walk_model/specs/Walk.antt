@@ -4,14 +4,12 @@ use mathlib.Core.Bool.{Bool, false, _&&_, _||_, not, cond}
 use mathlib.Core.List.{List}
 use Prim.Native.Nat.{ℕ, zero, suc, pred, _+_, _*_, _-_, _^_, _%_}
 use lib.Dec.{ltb, leb, eqb}
-use lib.ListN.{length, replicate}
-use Rattle.store_types.specs.Limits.{no-tag, most-tags, most-levels}
-use Rattle.store_types.specs.Layout.{at-version, at-s, at-r, at-height, at-count, at-first, at-stamp, header-words, at-next, at-prior, at-mate, at-up, at-kind, word-at, words-for, field, label-at}
-use Rattle.calls.specs.Store.{labels-fit}
-use Rattle.calls.specs.Sound.{degrees-fit}
-use Rattle.calls.specs.Words.{header-width}
+use lib.ListN.{replicate}
+use Rattle.store_types.specs.Limits.{no-tag}
+use Rattle.store_types.specs.Layout.{at-s, at-r, at-height, at-count, at-first, at-stamp, at-next, at-prior, at-mate, at-up, at-kind, word-at, field, label-at}
 use Rattle.shape.specs.Tables.{entry, widths-of, lows-of, highs-of, table-length}
 use Rattle.shape.specs.Sums.{cut}
+use Rattle.shape.specs.Needs.{frame-passes}
 use Rattle.walk_model.specs.Levels.{Tables, Levels, Settled, place-label, all-close}
 
 -- ONE TAG x of kind word c, where o is the innermost open begin or no tag
@@ -83,16 +81,14 @@ unfoldable pub walk : List ℕ → Shape → (left i : ℕ) → State → Bool
 walk ws shape zero i v = ends-well ws shape v
 walk ws shape (suc m) i v = let rest = walk ws shape m (suc i) (passed ws shape i v) in tag-passes ws shape i v && rest
 
--- THE HEADER, before any tag is read
+-- THE HEADER, before any tag is read: its frame, and the limits of the root
 unfoldable pub header-passes : List ℕ → Bool
 header-passes ws =
     let s = word-at ws at-s in
     let r = word-at ws at-r in
     let h = word-at ws at-height in
     let n = word-at ws at-count in
-    ((leb header-words (length ws) && eqb (word-at ws at-version) 1) && (degrees-fit s r && (leb 1 h && leb h most-levels)))
-    && ((leb n most-tags && leb (words-for header-words n) (length ws))
-    && (labels-fit (header-width ws) h && (ltb n (s * r ^ h) && (eqb h 1 || leb (2 * r ^ pred h) n))))
+    frame-passes ws && (ltb n (s * r ^ h) && (eqb h 1 || leb (2 * r ^ pred h) n))
 
 unfoldable pub shape-of : List ℕ → Shape
 shape-of ws =
