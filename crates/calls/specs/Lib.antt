@@ -11,7 +11,7 @@ pub mod Words
 pub mod File
 pub mod Replies
 pub mod Rights
-pub mod Calls
+pub mod Changes
 pub mod Reference
 pub mod Promise
 pub mod Specimens

@@ -34,8 +34,8 @@ use Rattle.calls.specs.Held.{question}
 use Rattle.calls.specs.Words.{words-of, Says, follow, read}
 use Rattle.calls.specs.File.{form, file-of, formed, read-file}
 use Rattle.calls.specs.Replies.{said, refusal-over, insert-reply, insert-words, insert-sheet-refused, insert-sheet-reply, insert-sheet-words, write-reply, write-bytes, read-reply, read-words}
-use Rattle.calls.specs.Calls.{Call, load, sheet, after, All-fit, judged, moved-after, Event, loads, Happens, Run, told, calls-of, total-moved}
-use Rattle.calls.specs.Reference.{Reference, total, reference-load, reference-call, reference-after}
+use Rattle.calls.specs.Changes.{Change, load, sheet, after, All-fit, judged, moved-after}
+use Rattle.calls.specs.Reference.{Reference, total, reference-load, reference-change, reference-after}
 
 -- ONE STEP, on any sound store: an accepted load, an accepted insertion of any row of kinds that nests, of a sheet, an accepted mark
 unfoldable pub Load-sound : Type 0
@@ -87,7 +87,7 @@ Empty-sheet = (y : ℕ) (ws : List ℕ) → Empty-does y ws
 
 -- nor does it change the bare list
 unfoldable pub Empty-reference : Type 0
-Empty-reference = (y : ℕ) (a : Reference) → reference-call (sheet [] y) a ≡ a
+Empty-reference = (y : ℕ) (a : Reference) → reference-change (sheet [] y) a ≡ a
 
 -- a text and an element are sheets of one tag and of two
 pub record Same-calls (c : ℕ) (cs : List ℕ) (y : ℕ) (ws : List ℕ) : Type 0 where
@@ -101,19 +101,19 @@ Singles-are-sheets = (y : ℕ) (ws : List ℕ) → Same-calls 3 (3 ∷ []) y ws 
 unfoldable pub Height-most : Type 0
 Height-most = (st : Store) → sound st ≡ true → height (st .book) ≤ most-levels
 
--- EVERY LIST OF CALLS behind an accepted load. The tree keeps s and r in their ranges, b^H ≤ 2^32 and every node's limits
+-- EVERY LIST OF CHANGES after an accepted load. The tree keeps s and r in their ranges, b^H ≤ 2^32 and every node's limits
 unfoldable pub Stays-good : Type 0
 Stays-good =
-    (lent s r b : ℕ) (ks : List ℕ) (cs : List Call) → load-refusal lent s r ks ≡ 0 → tree-sound (after lent cs (load-store s r b ks)) ≡ true
+    (lent s r b : ℕ) (ks : List ℕ) (cs : List Change) → load-refusal lent s r ks ≡ 0 → tree-sound (after lent cs (load-store s r b ks)) ≡ true
 
 unfoldable pub Stores-sound : Type 0
 Stores-sound =
-    (lent s r b : ℕ) (ks : List ℕ) (cs : List Call) → load-refusal lent s r ks ≡ 0 → sound (after lent cs (load-store s r b ks)) ≡ true
+    (lent s r b : ℕ) (ks : List ℕ) (cs : List Change) → load-refusal lent s r ks ≡ 0 → sound (after lent cs (load-store s r b ks)) ≡ true
 
 -- and where every load's book number is a word, so is the store's (which document 03 has in its soundness)
 unfoldable pub Numbers-fit : Type 0
 Numbers-fit =
-    (lent s r b : ℕ) (ks : List ℕ) (cs : List Call) → All-fit (load s r b ks ∷ cs) → after lent cs (load-store s r b ks) .number < word-limit
+    (lent s r b : ℕ) (ks : List ℕ) (cs : List Change) → All-fit (load s r b ks ∷ cs) → after lent cs (load-store s r b ks) .number < word-limit
 
 -- LABELS TELL: in a sound store comparing labels is comparing places
 unfoldable pub Labels-tell : Type 0
@@ -182,11 +182,11 @@ pub record Kept (st : Store) (a : Reference) (t : ℕ) : Type 0 where
 
 unfoldable pub Lists-keep : Type 0
 Lists-keep =
-    (lent s r b : ℕ) (ks : List ℕ) (cs : List Call) → load-refusal lent s r ks ≡ 0 →
+    (lent s r b : ℕ) (ks : List ℕ) (cs : List Change) → load-refusal lent s r ks ≡ 0 →
     Kept (after lent cs (load-store s r b ks)) (reference-after (judged lent cs (load-store s r b ks)) (reference-load s r (length ks)))
     (moved-after lent cs (load-store s r b ks) 0)
 
--- THE WHOLE RUN, over the words and the replies. What the words hold of the header and along next
+-- and of words that say such a store: what they hold of the header and along next
 pub record Words-kept (ws : List ℕ) (st : Store) (a : Reference) : Type 0 where
   pub says : Says ws st
   pub degree-s : word-at ws at-s ≡ a .s
@@ -195,18 +195,6 @@ pub record Words-kept (ws : List ℕ) (st : Store) (a : Reference) : Type 0 wher
   pub tags : word-at ws at-count ≡ length (a .row)
   pub along-next : follow (length (a .row)) ws (word-at ws at-first) ≡ a .row
   pub labels-along : map (label-at ws) (a .row) ≡ labels-of (width st) (st .book)
-
--- of every list of events behind an accepted load, over the words and the replies: exactly the calls that the
--- definitions refuse were refused, and the words, the reference list and the moved numbers of the replies agree
-pub record Whole-run (lent : ℕ) (st : Store) (a : Reference) (es : List Event) (ws : List ℕ) : Type 0 where
-  pub refused-right : told es ≡ judged lent (calls-of es) st
-  pub words : Words-kept ws (after lent (calls-of es) st) (reference-after (told es) a)
-  pub kept : Kept (after lent (calls-of es) st) (reference-after (told es) a) (total-moved 0 es)
-
-unfoldable pub Runs-keep : Type 0
-Runs-keep =
-    (s r b n h : ℕ) (ks old ws end : List ℕ) (es : List Event) → Happens (loads s r b ks (Loaded n h)) old ws → Run ws es end →
-    Whole-run (length old) (load-store s r b ks) (reference-load s r (length ks)) es end
 
 -- FILES (document 02, CR 3). A list of seven words; bytes written by the form from seven words, of which the fourth counts the
 -- rows, and any rows of seven words

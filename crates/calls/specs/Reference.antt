@@ -11,7 +11,7 @@ use Rattle.lists.specs.Lists.{numbers}
 use Rattle.tree.specs.Row.{place, insert-at}
 use Rattle.tree.specs.Book.{load-under}
 use Rattle.calls.specs.Insert.{insert-kinds, raised}
-use Rattle.calls.specs.Calls.{Call, load, insert, sheet, mark, Told}
+use Rattle.calls.specs.Changes.{Change, load, insert, sheet, mark, Told}
 
 -- s, r, the list of tag numbers, n0, m and H
 pub record Reference : Type 0 where
@@ -54,15 +54,15 @@ reference-insert k y a =
 
 -- a sheet's tags are placed and counted as an element's two; an empty sheet has none, so that nothing changes (Empty-reference in
 -- Promise). mark: nothing changes
-unfoldable pub reference-call : Call → Reference → Reference
-reference-call (load s r b cs) a = reference-load s r (length cs)
-reference-call (insert c y) a = reference-insert (length (insert-kinds c)) y a
-reference-call (sheet cs y) a = reference-insert (length cs) y a
-reference-call (mark x) a = a
+unfoldable pub reference-change : Change → Reference → Reference
+reference-change (load s r b cs) a = reference-load s r (length cs)
+reference-change (insert c y) a = reference-insert (length (insert-kinds c)) y a
+reference-change (sheet cs y) a = reference-insert (length cs) y a
+reference-change (mark x) a = a
 
--- every refused call: nothing changes
+-- every refused change: nothing changes
 unfoldable pub reference-told : Told → Reference → Reference
-reference-told t a = cond (t .accepted) (reference-call (t .call) a) a
+reference-told t a = cond (t .1) (reference-change (t .0) a) a
 
 unfoldable pub reference-after : List Told → Reference → Reference
 reference-after [] a = a

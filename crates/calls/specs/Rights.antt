@@ -15,6 +15,8 @@ use Rattle.store_types.specs.declared.GrantReply.{GrantReply}
 use Rattle.store_types.specs.declared.GrantReply.the-variants as grant
 use Rattle.store_types.specs.declared.InsertReply.{InsertReply}
 use Rattle.store_types.specs.declared.InsertReply.the-variants as insert
+use Rattle.store_types.specs.declared.LoadReply.{LoadReply}
+use Rattle.store_types.specs.declared.LoadReply.the-variants as load
 use Rattle.store_types.specs.declared.PartyReply.{PartyReply}
 use Rattle.store_types.specs.declared.PartyReply.the-variants as party
 use Rattle.store_types.specs.declared.QuestionReply.{QuestionReply}
@@ -81,6 +83,11 @@ revoke-count p x c gs = replied (λ _. c) (revoke-refused p c (length gs)) (leng
 
 unfoldable pub revoke-list : (party section count : ℕ) → List Grant → List Grant
 revoke-list p x c gs = replied (λ _. gs) (revoke-refused p c (length gs)) (in-front (others p x c gs) gs)
+
+-- what an accepted load, or the reading of a file, sets to 0: the count of grants, and the total of moved numbers
+unfoldable pub emptied-by : LoadReply → (total : ℕ) → ℕ
+emptied-by (load.Loaded n h) t = 0
+emptied-by (load.Refused k) t = t
 
 -- A PARTY'S CALL, where `granted` says whether a live grant gives it the right on the pair's section. It is allowed where the
 -- question says yes; an insertion also right behind the section's begin, where it says no

@@ -20,4 +20,4 @@ pub mod FileCalls
 pub mod ListsKeep
 pub mod Grants
 pub mod Acts
-pub mod RunsKeep
+pub mod Room

@@ -1,4 +1,4 @@
--- Every list of calls behind an accepted load keeps the store beside the reference list, with its labels rising and few of
+-- Every list of changes after an accepted load keeps the store beside the reference list, with its labels rising and few of
 -- them moved. Assumes nothing.
 use mathlib.Core.Path.{sym, _≡_, refl, _∙_}
 use mathlib.Core.Bool.{true, cond}
@@ -24,8 +24,8 @@ use Rattle.calls.specs.Sound.{sound}
 use Rattle.calls.specs.Load.{load-refusal, load-store}
 use Rattle.calls.specs.Insert.{insert-kinds, position, book-after, insert-store, insert-moved, row-refusal, insert-sheet-store}
 use Rattle.calls.specs.Mark.{mark-store}
-use Rattle.calls.specs.Calls.{Call, load, insert, sheet, mark, refusal, changed, accepts, after-one, after, moved-by, moved-after, judged}
-use Rattle.calls.specs.Reference.{Reference, reference-load, reference-position, raised-by, reference-insert, reference-call, reference-told, reference-after}
+use Rattle.calls.specs.Changes.{Change, load, insert, sheet, mark, refusal, changed, accepts, after-one, after, moved-by, moved-after, judged}
+use Rattle.calls.specs.Reference.{Reference, reference-load, reference-position, raised-by, reference-insert, reference-change, reference-told, reference-after}
 use Rattle.calls.specs.Promise.{Load-sound, Empty-reference, Kept, Lists-keep}
 use Rattle.calls_laws.proofs.Widths.{store-widths, store-powers}
 use Rattle.calls_laws.proofs.Tests.{facts-of}
@@ -106,7 +106,7 @@ module _ (w y : ℕ) (ks : List Kind) {st : Store} {a : Reference} {t : ℕ} (f 
 
 -- A SHEET: the empty one changes nothing
 pub empty-reference : Empty-reference
-unfolding Empty-reference reference-call reference-insert raised-by insert-at numbers
+unfolding Empty-reference reference-change reference-insert raised-by insert-at numbers
 empty-reference y a =
     let n : a .m + 0 ≡ a .m = omega arith in
     rw (n, take-append-drop)
@@ -114,17 +114,17 @@ empty-reference y a =
 module _ (w y : ℕ) {st : Store} {a : Reference} {t : ℕ} (f : Follows st a t) where
   sheet-beside : (ks : List Kind) → row-refusal w ks y st ≡ 0 → sound (insert-sheet-store ks y st) ≡ true →
       Follows (insert-sheet-store ks y st) (reference-insert (length ks) y a) (t + insert-moved ks y st)
-  unfolding insert-sheet-store Empty-reference reference-call
+  unfolding insert-sheet-store Empty-reference reference-change
   sheet-beside [] e good =
       let same : t + insert-moved [] y st ≡ t = omega (arith, moved-nothing y st) in
       rw (empty-reference y a, same) f
   sheet-beside (k ∷ ks) e good = inserted-beside w y (k ∷ ks) f e good
 
--- ONE CALL and every list of calls
+-- ONE CHANGE and every list of changes
 -- accepted
-follows-changed : (w : ℕ) (c : Call) {st : Store} {a : Reference} {t : ℕ} → Follows st a t → refusal w c st ≡ 0 → sound (changed c st) ≡ true →
-    Follows (changed c st) (reference-call c a) (moved-by c st t)
-unfolding refusal changed reference-call moved-by mark-store
+follows-changed : (w : ℕ) (c : Change) {st : Store} {a : Reference} {t : ℕ} → Follows st a t → refusal w c st ≡ 0 → sound (changed c st) ≡ true →
+    Follows (changed c st) (reference-change c a) (moved-by c st t)
+unfolding refusal changed reference-change moved-by mark-store
 follows-changed w (load s r b ks) f e good = started w s r b ks e
 follows-changed w (insert c y) {st} f e good = inserted-beside w y (insert-kinds c) f (insert-passed w c y st (f .is-sound) e) good
 follows-changed w (sheet cs y) {st} f e good =
@@ -140,15 +140,15 @@ follows-changed w (mark x) f e good =
     }
 
 -- accepted or refused
-follows-one : (w : ℕ) (c : Call) {st : Store} {a : Reference} {t : ℕ} → Follows st a t →
-    Follows (after-one w c st) (reference-told (record { call = c; accepted = accepts w c st }) a) (cond (accepts w c st) (moved-by c st t) t)
+follows-one : (w : ℕ) (c : Change) {st : Store} {a : Reference} {t : ℕ} → Follows st a t →
+    Follows (after-one w c st) (reference-told (c, accepts w c st) a) (cond (accepts w c st) (moved-by c st t) t)
 unfolding after-one reference-told accepts
 follows-one w c {st} f =
     by-test (eqb (refusal w c st) 0)
     (λ e. let zero′ = eqb-true _ _ e in rw e (follows-changed w c f zero′ (changed-sound w c st (f .is-sound) zero′)))
     (λ e. rw e f)
 
-follows-all : (w : ℕ) (cs : List Call) {st : Store} {a : Reference} {t : ℕ} → Follows st a t →
+follows-all : (w : ℕ) (cs : List Change) {st : Store} {a : Reference} {t : ℕ} → Follows st a t →
     Follows (after w cs st) (reference-after (judged w cs st) a) (moved-after w cs st t)
 unfolding after reference-after judged moved-after
 follows-all w [] f = f

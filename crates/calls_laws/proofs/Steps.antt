@@ -1,4 +1,4 @@
--- An accepted load leaves a sound store, and so does every list of calls behind it. Assumes nothing.
+-- An accepted load leaves a sound store, and so does every list of changes after it. Assumes nothing.
 use mathlib.Core.Path.{_≡_, refl, ap, sym, _∙_}
 use mathlib.Core.Bool.{Bool, true, false, _&&_, _||_, not, cond}
 use mathlib.Core.List.{List, [], _∷_, map}
@@ -21,7 +21,7 @@ use Rattle.calls.specs.Sound.{degrees-fit, tree-sound, row-sound, sound}
 use Rattle.calls.specs.Load.{all-kinds, kinds-tests, early-tests, load-refusal, load-store}
 use Rattle.calls.specs.Insert.{insert-kinds, insert-store, insert-refusal, row-refusal, insert-sheet-refusal, insert-sheet-store}
 use Rattle.calls.specs.Mark.{mark-store}
-use Rattle.calls.specs.Calls.{Call, load, insert, sheet, mark, refusal, changed, accepts, after-one, after, Fits, All-fit}
+use Rattle.calls.specs.Changes.{Change, load, insert, sheet, mark, refusal, changed, accepts, after-one, after, Fits, All-fit}
 use Rattle.calls.specs.Promise.{Load-sound, Insert-sound, Sheet-sound, Mark-sound, Rows-end, Stays-good, Stores-sound, Numbers-fit}
 use Rattle.calls_laws.proofs.Tests.{passes, Degrees, degrees-of, sound-of}
 use Rattle.calls_laws.proofs.Nesting.{nested-of, no-tag-fact}
@@ -119,8 +119,8 @@ sheet-sound w y cs st e r = let a = accepted-sheet w cs y st r in go (map kind-o
     go [] n passed = e
     go (k ∷ ks) n passed = insert-sound w y (k ∷ ks) st e n (omega arith) passed
 
--- one call: an accepted one leaves a sound store, a refused one the same
-pub changed-sound : (w : ℕ) (c : Call) (st : Store) → sound st ≡ true → refusal w c st ≡ 0 → sound (changed c st) ≡ true
+-- one change: an accepted one leaves a sound store, a refused one the same
+pub changed-sound : (w : ℕ) (c : Change) (st : Store) → sound st ≡ true → refusal w c st ≡ 0 → sound (changed c st) ≡ true
 unfolding refusal changed Load-sound Insert-sound Sheet-sound Mark-sound
 changed-sound w (load s r b cs) st e n = load-sound w s r b cs n
 changed-sound w (insert c y) st e n =
@@ -129,18 +129,18 @@ changed-sound w (insert c y) st e n =
 changed-sound w (sheet cs y) st e n = sheet-sound w y cs st e n
 changed-sound w (mark x) st e n = mark-sound x st e n
 
-pub one-sound : (w : ℕ) (c : Call) (st : Store) → sound st ≡ true → sound (after-one w c st) ≡ true
+pub one-sound : (w : ℕ) (c : Change) (st : Store) → sound st ≡ true → sound (after-one w c st) ≡ true
 unfolding after-one accepts
 one-sound w c st e =
     by-test (eqb (refusal w c st) 0) (λ t. rw t (changed-sound w c st e (eqb-true _ _ t))) (λ t. rw t e)
 
--- a list of calls
-pub after-sound : (w : ℕ) (cs : List Call) (st : Store) → sound st ≡ true → sound (after w cs st) ≡ true
+-- a list of changes
+pub after-sound : (w : ℕ) (cs : List Change) (st : Store) → sound st ≡ true → sound (after w cs st) ≡ true
 unfolding after
 after-sound w [] st e = e
 after-sound w (c ∷ cs) st e = after-sound w cs (after-one w c st) (one-sound w c st e)
 
--- every list of calls behind an accepted load leaves a sound store, so its tree keeps its limits
+-- every list of changes after an accepted load leaves a sound store, so its tree keeps its limits
 pub stores-sound : Stores-sound
 unfolding Stores-sound Load-sound
 stores-sound w s r b ks cs e = after-sound w cs (load-store s r b ks) (load-sound w s r b ks e)
@@ -157,14 +157,14 @@ unfolding insert-sheet-store insert-store
 sheet-number [] y st = refl
 sheet-number (k ∷ ks) y st = refl
 
-number-changed : (w : ℕ) (c : Call) (st : Store) → Fits c → st .number < word-limit → changed c st .number < word-limit
+number-changed : (w : ℕ) (c : Change) (st : Store) → Fits c → st .number < word-limit → changed c st .number < word-limit
 unfolding changed Fits load-store insert-store mark-store
 number-changed w (load s r b cs) st fits l = fits
 number-changed w (insert c y) st fits l = l
 number-changed w (sheet cs y) st fits l = rw (sheet-number (map kind-of cs) y st) l
 number-changed w (mark x) st fits l = l
 
-number-after : (w : ℕ) (cs : List Call) (st : Store) → All-fit cs → st .number < word-limit → after w cs st .number < word-limit
+number-after : (w : ℕ) (cs : List Change) (st : Store) → All-fit cs → st .number < word-limit → after w cs st .number < word-limit
 unfolding after after-one All-fit
 number-after w [] st fits l = l
 number-after w (c ∷ cs) st fits l =

@@ -1,7 +1,10 @@
-// The calls that may stand in a run, one after the other over one lent store. The contract is a run of their events
-// (calls/specs/Calls.antt): the entries' contracts are what the theorems on runs speak of.
+// Entries one after the other over one lent store. The contract is a history of the system's calls with their replies
+// (system/specs/System.antt): the entries' contracts are what the theorems on histories speak of.
 ghost use mathlib.Core.List.{[], _∷_};
-ghost use Rattle.calls.specs.Calls.{loads, inserts, sheets, marks, holds, asks, lists, writes, Run};
+ghost use Rattle.calls.specs.Changes.{load as load-call, insert as insert-call, sheet as sheet-call, mark as mark-call};
+ghost use Rattle.system.specs.System.{hold as hold-call, ask, list as list-call, write as write-call, changes, reads, loaded, inserted, marked, found, held, answered, listed, filed, reply, step};
+ghost use Rattle.system.specs.Histories.{Ran};
+ghost use Rattle.calls_run.specs.Over.{over};
 use store_types::HeldPair;
 use store_types::HoldReply;
 use store_types::InsertReply;
@@ -45,7 +48,7 @@ pub fn calls_run(
     labels: &mut [u32],
     bytes: &mut [u8],
 ) -> Replies
-    ensures { λ q. ⌜ Run (now (words .entry)) (loads (asked .s) (asked .r) (asked .book) (now (kinds .entry)) (q .load) ∷ inserts (asked .kind) (asked .place .0) (q .insert) ∷ sheets (now (kinds .entry)) (asked .place .0) (q .sheet) ∷ marks (asked .section .0) (q .mark) ∷ holds (asked .section .0) (q .hold) ∷ asks (asked .pair) (asked .tag .0) (q .question) ∷ lists (asked .section .0) (now (tags .entry)) (now (labels .entry)) (now (tags .exit)) (now (labels .exit)) (q .list) ∷ writes (now (bytes .entry)) (now (bytes .exit)) (q .write) ∷ []) (now (words .exit)) ⌝ }
+    ensures { λ q. ⌜ Ran step reply (changes (load-call (asked .s) (asked .r) (asked .book) (now (kinds .entry))) ∷ changes (insert-call (asked .kind) (asked .place .0)) ∷ changes (sheet-call (now (kinds .entry)) (asked .place .0)) ∷ changes (mark-call (asked .section .0)) ∷ reads (hold-call (asked .section .0)) ∷ reads (ask (asked .pair) (asked .tag .0)) ∷ reads (list-call (asked .section .0) (now (tags .entry)) (now (labels .entry))) ∷ reads (write-call (now (bytes .entry))) ∷ []) (over (now (words .entry))) (loaded (q .load) ∷ inserted (q .insert) ∷ inserted (q .sheet) ∷ marked (q .mark) ∷ found (held (q .hold)) [] ∷ found (answered (q .question)) [] ∷ found (listed (q .list)) (now (tags .exit) ∷ now (labels .exit) ∷ []) ∷ found (filed (q .write)) (now (bytes .exit) ∷ []) ∷ []) (over (now (words .exit))) ⌝ }
 {
     let load = store::load(asked.s, asked.r, asked.book, kinds, words);
     let insert = store::insert(asked.kind, asked.place, words);

@@ -25,7 +25,7 @@ use Rattle.calls.specs.Insert.{insert-kinds, position, up-at, book-after, inser
 use Rattle.calls.specs.Mark.{within, mark-store, new-marks, mark-count, section-refusal}
 use Rattle.calls.specs.Words.{words-of, Says}
 use Rattle.calls.specs.Replies.{said, refusal-over, insert-refused, insert-reply, insert-words, insert-sheet-refused, insert-sheet-reply, insert-sheet-words, mark-reply, mark-words}
-use Rattle.calls.specs.Calls.{Call, insert, sheet, mark, refusal, changed}
+use Rattle.calls.specs.Changes.{Change, insert, sheet, mark, refusal, changed}
 use Rattle.calls.specs.Promise.{Marks-stay}
 use Rattle.calls_laws.proofs.Reader.{kind-back}
 use Rattle.calls_laws.proofs.Sections.{distinct-row, row-below}
@@ -118,7 +118,7 @@ moved-words ks y ws vs st says says-after =
     )))))
 
 -- the words after an accepted call say the store after it
-module _ (c : Call) (ws : List ℕ) (z : refusal-over ws (refusal (length ws) c) ≡ 0) where
+module _ (c : Change) (ws : List ℕ) (z : refusal-over ws (refusal (length ws) c) ≡ 0) where
   says-before : Says ws (said ws)
   says-before = refusal-passed ws (refusal (length ws) c) z .0
 

@@ -1,33 +1,38 @@
--- Demand 1 over any words: what each of the calls leaves. Assumes nothing.
+-- Demand 1 over any system: what each of the calls leaves. Assumes nothing.
 use mathlib.Core.Path.{_≡_, refl, ap, sym, _∙_}
 use mathlib.Core.Bool.{Bool, true, false, _&&_, _||_, not, true≢false}
-use mathlib.Core.List.{List}
+use mathlib.Core.List.{List, [], _∷_, map, headD}
 use Prim.Native.Nat.{ℕ, zero, suc, _≤_}
 use native.Mathlib.Omega.{arith}
-use borrow.Author.Tests.{ltb-false}
-use lib.Dec.{ltb, leb, eqb, eqb·suc-zero}
+use borrow.Author.Tests.{ltb-false, eqb-true}
+use lib.Dec.{ltb, leb, eqb}
 use lib.ListN.{length, drop, length-map}
 use lib.Seq.{take-append-seam, drop-append-seam}
 use Rattle.lists.specs.Lists.{first}
-use Rattle.store_types.specs.Limits.{no-tag}
-use Rattle.store_types.specs.declared.ListReply.the-variants.{Listed, Refused}
-use Rattle.store_types.specs.declared.WriteReply.the-variants as writing
-use Rattle.store_types.specs.declared.PartyReply.the-variants as acting
 use Rattle.lists.proofs.Tests.{or-left-false, or-right-false}
 use Rattle.lists.specs.Fronts.{in-front, replied, written}
 use Rattle.lists.proofs.Fronts.{length-in-front}
-use Rattle.lists.proofs.Replied.{replied-told}
+use Rattle.lists.proofs.Replied.{first-number, read-replied}
+use Rattle.store_types.specs.Limits.{no-tag}
+use Rattle.store_types.specs.declared.Act.{Act}
+use Rattle.store_types.specs.declared.GrantReply.the-variants as granting
+use Rattle.store_types.specs.declared.ListReply.the-variants as listing
+use Rattle.store_types.specs.declared.LoadReply.the-variants as loading
+use Rattle.store_types.specs.declared.PartyReply.{PartyReply}
+use Rattle.store_types.specs.declared.PartyReply.the-variants as acting
+use Rattle.store_types.specs.declared.RevokeReply.the-variants as revoking
+use Rattle.store_types.specs.declared.WriteReply.the-variants as writing
+use Rattle.tree.specs.Book.{height}
 use Rattle.calls.specs.Kind.{is-begin}
 use Rattle.calls.specs.Store.{Store, fact, count, label}
 use Rattle.calls.specs.Sound.{sound}
 use Rattle.calls.specs.Load.{load-refusal, load-store}
-use Rattle.calls.specs.Mark.{section-refusal}
 use Rattle.calls.specs.Listing.{listed-tags, listed-labels, inside-tests, list-refusal}
 use Rattle.calls.specs.Words.{words-of, Says}
-use Rattle.tree.specs.Book.{height}
 use Rattle.calls.specs.File.{file-of, read-file}
-use Rattle.calls.specs.Replies.{said, refusal-over, load-reply, load-words, insert-refused, insert-reply, insert-words, insert-sheet-refused, insert-sheet-reply, insert-sheet-words, mark-reply, mark-words, list-refused, list-reply, list-tags, list-labels, write-refused, write-reply, write-bytes, store-or, file-refusal, read-reply, read-words}
-use Rattle.calls.specs.Calls.{Call, Event, insert, sheet, mark, refusal, changed, loads, inserts, sheets, marks, holds, asks, lists, writes, acts, Happens, load-accepted, insert-accepted, mark-accepted}
+use Rattle.calls.specs.Replies.{said, refusal-over, insert-refused, insert-sheet-refused, load-reply, list-refused, list-reply, list-tags, list-labels, write-refused, write-reply, write-bytes, store-or, file-refusal, read-reply, read-words, load-numbers, insert-numbers, list-numbers, write-numbers}
+use Rattle.calls.specs.Rights.{grant-refused, grant-reply, grant-list, grant-count, revoke-refused, revoke-reply, revoke-list, revoke-count, grant-numbers, revoke-numbers, party-reply, party-numbers, emptied-by}
+use Rattle.calls.specs.Changes.{Change, load, insert, sheet, mark, refusal, changed}
 use Rattle.calls.specs.Promise.{Load-sound}
 use Rattle.calls_laws.proofs.Tests.{passes}
 use Rattle.calls_laws.proofs.Steps.{load-sound, changed-sound}
@@ -36,9 +41,12 @@ use Rattle.calls_laws.proofs.Files.{length-file}
 use Rattle.calls_laws.proofs.Fields.{length-words}
 use Rattle.calls_laws.proofs.FileCalls.{file-fits, Was-read, read-accepted}
 use Rattle.calls_laws.proofs.Acts.{Acted, act-happened}
-use Rattle.calls_laws.proofs.RunsKeep.{load-fits, changed-fits, load-told, insert-told, mark-told}
+use Rattle.calls_laws.proofs.Room.{load-fits, changed-fits}
+use Rattle.system.specs.System.{System, Reading, hold, ask, list, write, Keeping, grant, revoke, lend, Call, changes, reads, keeps, acts, restores, load-with-grants, restore-with-grants, Reply, inserted, acted, finding-numbers, kept-numbers, numbers-of, refusal-in, accepted, change-reply, change-words, finding, reading-lists, keeping, kept-grants, kept-count, reply, with-words, ended-by, step}
+use Rattle.system.specs.Feed.{party-inserted, acted-in}
 use Rattle.demands.specs.Words.{Fronted}
-use Rattle.demands.specs.Promise.{listed, filed, acted, made, accepted, changes, Lists-stay, Lists-hold, Call-right, Every-call, Every-reading}
+use Rattle.demands.specs.Promise.{writes-words, Filling, fillings, All-fronted, Lists-right, Call-right, Every-call, Every-reading}
+use Rattle.demands.proofs.Refusals.{change-refused, change-tells, change-writes, restore-tells, written-stays}
 
 -- A RESULT IN FRONT, where it fits
 fronted : (new old : List ℕ) → length new ≤ length old → Fronted new old (in-front new old)
@@ -50,164 +58,197 @@ fronted new old l =
       past = drop-append-seam new (drop (length new) old);
     }
 
--- what is written by a call with refusal k that `yes` tells of
-module _ (k : ℕ) (yes : Bool) (told : yes ≡ eqb k 0) (new old : List ℕ) where
-  written-stays : yes ≡ false → written k new old ≡ old
-  unfolding written replied
-  written-stays e = go k (sym told ∙ e)
-    where
-      go : (j : ℕ) → eqb j 0 ≡ false → written j new old ≡ old
-      go zero f = absurd (true≢false f)
-      go (suc j) f = refl
+written-fronted : (k : ℕ) (new old : List ℕ) → length new ≤ length old → k ≡ 0 → Fronted new old (written k new old)
+unfolding written replied
+written-fronted k new old l z = rw z (fronted new old l)
 
-  zero-told : yes ≡ true → k ≡ 0
-  zero-told e = go k (sym told ∙ e)
-    where
-      go : (j : ℕ) → eqb j 0 ≡ true → j ≡ 0
-      go zero f = refl
-      go (suc j) f = absurd (true≢false (sym f ∙ eqb·suc-zero j))
-
-  written-fronted : (k ≡ 0 → length new ≤ length old) → yes ≡ true → Fronted new old (written k new old)
-  unfolding written replied
-  written-fronted fits e = let z = zero-told e in rw z (fronted new old (fits z))
-
--- THE CALLS THAT CHANGE
-load-right : (s r b : ℕ) (cs ws : List ℕ) → load-refusal (length ws) s r cs ≡ 0 → (sound (load-store s r b cs) ≡ true) × (length (words-of (load-store s r b cs)) ≤ length ws)
-unfolding Load-sound
-load-right s r b cs ws z = let good = load-sound (length ws) s r b cs z in (good, load-fits (length ws) s r b cs z good)
-
--- insert, of a sheet too, and mark: on the store that the words say
-change-right : (c : Call) (ws : List ℕ) → refusal-over ws (refusal (length ws) c) ≡ 0 →
+-- CHANGES. An accepted one leaves a sound store, which fits: a load on any words, the others on the store that the words say
+over-right : (c : Change) (ws : List ℕ) → refusal-over ws (refusal (length ws) c) ≡ 0 →
     (sound (changed c (said ws)) ≡ true) × (length (words-of (changed c (said ws))) ≤ length ws)
 unfolding Says
-change-right c ws z =
+over-right c ws z =
     let (says, fine) = refusal-passed ws (refusal (length ws) c) z in
     let good = changed-sound (length ws) c (said ws) (says .0) fine in
     (good, changed-fits (length ws) c (said ws) (says .0) (words-fit ws (said ws) says) fine good)
 
--- so an event that is one of them, and lends no list, is right
-change-call : (e : Event) (c : Call) (ws vs : List ℕ) → accepted e ≡ eqb (refusal-over ws (refusal (length ws) c)) 0 →
-    vs ≡ written (refusal-over ws (refusal (length ws) c)) (words-of (changed c (said ws))) ws → changes e ≡ true → Lists-stay e → Lists-hold e ws → Call-right e ws vs
-change-call e c ws vs told new alters stay hold =
-    let k = refusal-over ws (refusal (length ws) c) in
-    let st = changed c (said ws) in
+change-right : (c : Change) (ws : List ℕ) → change-refused c ws ≡ 0 →
+    (sound (changed c (said ws)) ≡ true) × (length (words-of (changed c (said ws))) ≤ length ws)
+unfolding change-refused insert-refused insert-sheet-refused refusal changed Load-sound
+change-right (load s r b cs) ws z = let good = load-sound (length ws) s r b cs z in (good, load-fits (length ws) s r b cs z good)
+change-right (insert c x) ws z = over-right (insert c x) ws z
+change-right (sheet cs x) ws z = over-right (sheet cs x) ws z
+change-right (mark x) ws z = over-right (mark x) ws z
+
+-- so the words after it are right
+change-front : (c : Change) (ws : List ℕ) → accepted (change-reply c ws) ≡ true →
+    (st : Store) × (sound st ≡ true) × Fronted (words-of st) ws (change-words c ws)
+unfolding accepted
+change-front c ws e =
+    let z = sym (change-tells c ws) ∙ eqb-true _ 0 e in
+    let (good, fits) = change-right c ws z in
+    (changed c (said ws), good, rw (change-writes c ws) (written-fronted (change-refused c ws) _ ws fits z))
+
+change-stays : (c : Change) (ws : List ℕ) → accepted (change-reply c ws) ≡ false → change-words c ws ≡ ws
+unfolding accepted
+change-stays c ws e = change-writes c ws ∙ written-stays (change-refused c ws) _ ws (rw (change-tells c ws) at e)
+
+-- READINGS. Lists that a refusal decides
+module _ (k : ℕ) where
+  all-stay : (fs : List Filling) → (k ≡ 0 → ⊥) → map (λ (f : Filling). written k (f .new) (f .old)) fs ≡ map (λ f. f .old) fs
+  unfolding written replied
+  all-stay fs n = go k n
+    where
+      go : (j : ℕ) → (j ≡ 0 → ⊥) → map (λ (f : Filling). written j (f .new) (f .old)) fs ≡ map (λ f. f .old) fs
+      go zero m = absurd (m refl)
+      go (suc j) m = refl
+
+  All-room : List Filling → Type 0
+  All-room [] = Unit {0}
+  All-room (f ∷ fs) = (length (f .new) ≤ length (f .old)) × All-room fs
+
+  all-front : (fs : List Filling) → k ≡ 0 → All-room fs → All-fronted fs (map (λ (f : Filling). written k (f .new) (f .old)) fs)
+  unfolding All-fronted All-room
+  all-front [] z room = refl
+  all-front (f ∷ fs) z room = (_, _, refl, written-fronted k (f .new) (f .old) (room .0) z, all-front fs z (room .1))
+
+-- the lists of a reading whose refusal is k
+lists-by : (r : Reading) (ws : List ℕ) (k : ℕ) → refusal-in (finding-numbers (finding r ws)) ≡ k →
+    reading-lists r ws ≡ map (λ (f : Filling). written k (f .new) (f .old)) (fillings r (said ws)) → (k ≡ 0 → All-room k (fillings r (said ws))) → Lists-right r ws
+lists-by r ws k tells new room =
     record {
-      refused = λ f. (new ∙ written-stays k (accepted e) told (words-of st) ws f, stay);
-      changed = λ f _. let z = zero-told k (accepted e) told (words-of st) ws f in
-          (st, change-right c ws z .0, rw new (written-fronted k (accepted e) told (words-of st) ws (λ z. change-right c ws z .1) f));
-      reads = λ f. absurd (true≢false (sym alters ∙ f));
-      writes-lists = λ _. hold;
+      stay = λ n. new ∙ all-stay k (fillings r (said ws)) (λ z. n (tells ∙ z));
+      filled = λ z. let zero-is = sym tells ∙ z in rw new (all-front k (fillings r (said ws)) zero-is (room zero-is));
     }
 
--- LIST
-list-told : (k n : ℕ) → listed (replied Refused k (Listed n)) ≡ eqb k 0
-unfolding listed
-list-told k n = replied-told Refused listed k (Listed n) refl (λ i. refl)
-
--- an accepted list fits both lent lists
-list-fits : (t l x : ℕ) (st : Store) → list-refusal t l x st ≡ 0 → (length (listed-tags x st) ≤ t) × (length (listed-tags x st) ≤ l)
-unfolding list-refusal inside-tests first
+-- an accepted list fits both lent lists, an accepted file the lent bytes
+list-fits : (t l x : ℕ) (st : Store) → list-refusal t l x st ≡ 0 → (length (listed-tags x st) ≤ t) × (length (listed-labels x st) ≤ l)
+unfolding list-refusal inside-tests first listed-labels
 list-fits t l x st z =
     let n = length (listed-tags x st) in
     let a = passes (not (eqb x no-tag) && leb (count st) x) 7 _ z in
     let b = passes (not (eqb x no-tag) && fact st x .marked) 8 _ (a .1) in
     let c = passes (not (eqb x no-tag) && not (is-begin (fact st x .kind))) 9 _ (b .1) in
-    let f = passes (ltb t n || ltb l n) 10 0 (c .1) .0 in
-    (ltb-false t n (or-left-false (ltb t n) (ltb l n) f), ltb-false l n (or-right-false (ltb t n) (ltb l n) f))
+    let f = passes (ltb t n || ltb l n) 10 0 (c .1) .0 in (
+      ltb-false t n (or-left-false (ltb t n) (ltb l n) f),
+      omega (arith, ltb-false l n (or-right-false (ltb t n) (ltb l n) f), length-map (listed-tags x st) (label st)),
+    )
 
--- A FILE
-write-told : (k n : ℕ) → filed (replied writing.Refused k (writing.Written n)) ≡ eqb k 0
-unfolding filed
-write-told k n = replied-told writing.Refused filed k (writing.Written n) refl (λ i. refl)
+list-room : (x : ℕ) (ws ts ls : List ℕ) → list-refused x ws ts ls ≡ 0 → (length (listed-tags x (said ws)) ≤ length ts) × (length (listed-labels x (said ws)) ≤ length ls)
+unfolding list-refused
+list-room x ws ts ls z = list-fits (length ts) (length ls) x (said ws) (refusal-passed ws (list-refusal (length ts) (length ls) x) z .1)
 
--- an accepted file fits the lent bytes
-write-fits : (ws bs : List ℕ) → write-refused ws bs ≡ 0 → length (file-of (said ws)) ≤ length bs
+pub list-fronted : (x : ℕ) (ws ts ls : List ℕ) → list-refused x ws ts ls ≡ 0 →
+    Fronted (listed-tags x (said ws)) ts (list-tags x ws ts ls) × Fronted (listed-labels x (said ws)) ls (list-labels x ws ts ls)
+unfolding list-tags list-labels
+list-fronted x ws ts ls z =
+    let room = list-room x ws ts ls z in
+    (written-fronted (list-refused x ws ts ls) _ ts (room .0) z, written-fronted (list-refused x ws ts ls) _ ls (room .1) z)
+
+write-room : (ws bs : List ℕ) → write-refused ws bs ≡ 0 → length (file-of (said ws)) ≤ length bs
 unfolding Says
-write-fits ws bs z = let (says, room) = file-fits ws bs z in omega (arith, length-file (said ws) (says .0))
+write-room ws bs z = let (says, room) = file-fits ws bs z in omega (arith, length-file (said ws) (says .0))
 
--- an event that only reads, and lends no list that it writes
-read-call : (e : Event) (ws vs : List ℕ) → vs ≡ ws → changes e ≡ false → Lists-stay e → Lists-hold e ws → Call-right e ws vs
-read-call e ws vs same quiet stay hold =
-    record {
-      refused = λ _. (same, stay);
-      changed = λ _ alters. absurd (true≢false (sym alters ∙ quiet));
-      reads = λ _. same;
-      writes-lists = λ _. hold;
-    }
+lists-right : (r : Reading) (ws : List ℕ) → Lists-right r ws
+unfolding finding finding-numbers refusal-in reading-lists fillings All-room list-reply list-tags list-labels list-numbers write-reply write-bytes write-numbers headD
+lists-right (hold x) ws = lists-by (hold x) ws _ refl refl (λ z. tt)
+lists-right (ask p d) ws = lists-by (ask p d) ws _ refl refl (λ z. tt)
+lists-right (list x ts ls) ws =
+    lists-by (list x ts ls) ws (list-refused x ws ts ls) (first-number listing.Refused list-numbers (list-refused x ws ts ls) _ (λ i. refl) refl) refl
+    (λ z. let room = list-room x ws ts ls z in (room .0, (room .1, tt)))
+lists-right (write bs) ws =
+    lists-by (write bs) ws (write-refused ws bs) (first-number writing.Refused write-numbers (write-refused ws bs) _ (λ i. refl) refl) refl
+    (λ z. (write-room ws bs z, tt))
 
--- EVERY CALL
-pub every-call : Every-call
-unfolding Every-call Happens accepted acted changes made Acted insert-accepted Lists-stay Lists-hold load-reply load-words insert-reply insert-words insert-refused insert-sheet-reply insert-sheet-words insert-sheet-refused mark-reply mark-words list-reply list-tags list-labels list-refused listed-labels write-reply write-bytes refusal changed
-every-call (loads s r b cs q) ws vs (reply, new) =
-    let k = load-refusal (length ws) s r cs in
-    let told = ap load-accepted reply ∙ load-told k _ _ in
-    let st = load-store s r b cs in
-    record {
-      refused = λ e. (new ∙ written-stays k (load-accepted q) told (words-of st) ws e, tt);
-      changed = λ e _. let z = zero-told k (load-accepted q) told (words-of st) ws e in
-          (st, load-right s r b cs ws z .0, rw new (written-fronted k (load-accepted q) told (words-of st) ws (λ z. load-right s r b cs ws z .1) e));
-      reads = λ e. absurd (true≢false e);
-      writes-lists = λ _. tt;
-    }
-every-call (inserts c y q) ws vs (reply, new) =
-    change-call (inserts c y q) (insert c y) ws vs (ap insert-accepted reply ∙ insert-told (insert-refused c y ws) _ _ _) new refl tt tt
-every-call (sheets cs y q) ws vs (reply, new) =
-    change-call (sheets cs y q) (sheet cs y) ws vs (ap insert-accepted reply ∙ insert-told (insert-sheet-refused cs y ws) _ _ _) new refl tt tt
-every-call (marks x q) ws vs (reply, new) =
-    change-call (marks x q) (mark x) ws vs (ap mark-accepted reply ∙ mark-told (refusal-over ws (section-refusal x)) _) new refl tt tt
-every-call (holds x q) ws vs (reply, same) = read-call (holds x q) ws vs same refl tt tt
-every-call (asks p d q) ws vs (reply, same) = read-call (asks p d q) ws vs same refl tt tt
-every-call (lists x ts ls us ms q) ws vs (reply, tags, labels, same) =
-    let k = refusal-over ws (list-refusal (length ts) (length ls) x) in
-    let told = ap listed reply ∙ list-told k _ in
-    let new = listed-tags x (said ws) in
-    let fits : k ≡ 0 → (length new ≤ length ts) × (length new ≤ length ls) =
-    λ z. list-fits (length ts) (length ls) x (said ws) (refusal-passed ws (list-refusal (length ts) (length ls) x) z .1) in
-    record {
-      refused = λ e. (same, (tags ∙ written-stays k (listed q) told new ts e, labels ∙ written-stays k (listed q) told (listed-labels x (said ws)) ls e));
-      changed = λ _ e. absurd (true≢false (sym e));
-      reads = λ _. same;
-      writes-lists = λ e. (
-        rw tags (written-fronted k (listed q) told new ts (λ z. fits z .0) e),
-        rw labels (written-fronted k (listed q) told (listed-labels x (said ws)) ls (λ z. omega (arith, fits z .1, length-map new (label (said ws)))) e),
-      );
-    }
-every-call (writes bs cs q) ws vs (reply, bytes, same) =
-    let k = write-refused ws bs in
-    let told = ap filed reply ∙ write-told k _ in
-    let new = file-of (said ws) in
-    record {
-      refused = λ e. (same, bytes ∙ written-stays k (filed q) told new bs e);
-      changed = λ _ e. absurd (true≢false (sym e));
-      reads = λ _. same;
-      writes-lists = λ e. rw bytes (written-fronted k (filed q) told new bs (write-fits ws bs) e);
-    }
-every-call (acts p a c gs (acting.Inserted x m h)) ws vs here =
-    let (reply, new) = act-happened p a c gs (acting.Inserted x m h) ws vs here in
-    change-call (acts p a c gs (acting.Inserted x m h)) (insert (a .kind) (a .tag .0)) ws vs
-    (ap insert-accepted reply ∙ insert-told (insert-refused (a .kind) (a .tag .0) ws) _ _ _) new refl tt tt
-every-call (acts p a c gs (acting.Refused k)) ws vs here = read-call _ ws vs (act-happened p a c gs (acting.Refused k) ws vs here) refl tt tt
-every-call (acts p a c gs acting.Yes) ws vs here = read-call _ ws vs (act-happened p a c gs acting.Yes ws vs here) refl tt tt
-every-call (acts p a c gs acting.Stale) ws vs here = read-call _ ws vs (act-happened p a c gs acting.Stale ws vs here) refl tt tt
+-- GRANTS: a refused call leaves the list and the count
+grants-stay : (k : Keeping) (y : System) → eqb (refusal-in (kept-numbers (keeping k y))) 0 ≡ false →
+    (kept-grants k y ≡ y .grants) × (kept-count k y ≡ y .count)
+unfolding keeping kept-numbers kept-grants kept-count refusal-in grant-reply grant-list grant-count revoke-reply revoke-list revoke-count grant-numbers revoke-numbers headD
+grants-stay (grant p x q) y e =
+    let k = grant-refused p x q (y .count) (length (y .grants)) (y .words) in
+    let told = rw (first-number granting.Refused grant-numbers k (granting.Granted (suc (y .count))) (λ i. refl) refl) at e in
+    (read-replied (λ _. y .grants) (λ g. g) k _ ∙ rw told, read-replied (λ _. y .count) (λ c. c) k _ ∙ rw told)
+grants-stay (revoke p x) y e =
+    let k = revoke-refused p (y .count) (length (y .grants)) in
+    let told = rw (first-number revoking.Refused revoke-numbers k _ (λ i. refl) refl) at e in
+    (read-replied (λ _. y .grants) (λ g. g) k _ ∙ rw told, read-replied (λ _. y .count) (λ c. c) k _ ∙ rw told)
+grants-stay (lend gs c) y e = absurd (true≢false e)
 
--- READING A FILE
+-- THE READING OF A FILE
 read-zero-told : (bs ws : List ℕ) → file-refusal (length ws) bs ≡ 0 →
     Was-read bs ws (count (store-or (read-file bs))) (height (store-or (read-file bs) .book))
 unfolding read-reply replied
 read-zero-told bs ws z = read-accepted bs ws _ _ (rw z)
 
 pub every-reading : Every-reading
-unfolding Every-reading read-reply read-words
+unfolding Every-reading accepted numbers-of read-words
 every-reading bs ws =
     let k = file-refusal (length ws) bs in
     let st = store-or (read-file bs) in
-    let told = load-told k (count st) (height (st .book)) in
     record {
-      refused = λ e. written-stays k _ told (words-of st) ws e;
-      accepted = λ e. let a = read-zero-told bs ws (zero-told k _ told (words-of st) ws e) in (
+      refused = λ e. written-stays k (words-of st) ws (rw (restore-tells bs ws) at e);
+      restored = λ e. let a = read-zero-told bs ws (sym (restore-tells bs ws) ∙ eqb-true _ 0 e) in (
         a .store,
         a .good,
         a .bytes,
         rw (a .words) (fronted (words-of (a .store)) ws (omega (arith, length-words (a .store), a .room))),
       );
     }
+
+restore-front : (bs ws : List ℕ) → eqb (refusal-in (load-numbers (read-reply bs ws))) 0 ≡ true →
+    (st : Store) × (sound st ≡ true) × Fronted (words-of st) ws (read-words bs ws)
+unfolding Every-reading accepted numbers-of
+restore-front bs ws e = let (st, good, same, front) = every-reading bs ws .restored e in (st, good, front)
+
+-- a refused load or reading leaves the count
+count-stays : (k n h c : ℕ) → eqb k 0 ≡ false → emptied-by (replied loading.Refused k (loading.Loaded n h)) c ≡ c
+unfolding emptied-by
+count-stays k n h c e = read-replied loading.Refused (λ q. emptied-by q c) k (loading.Loaded n h) ∙ rw e
+
+-- EVERY CALL. One that may write the words; and one that leaves them
+writing-right : (c : Call) (y : System) → writes-words c (reply c y) ≡ true → (accepted (reply c y) ≡ false → step c y ≡ y) →
+    (accepted (reply c y) ≡ true → (st : Store) × (sound st ≡ true) × Fronted (words-of st) (y .words) (step c y .words)) → Call-right c y
+writing-right c y alters stays fronts =
+    record {
+      refused = stays;
+      changed = λ e _. fronts e;
+      others = λ f. absurd (true≢false (sym alters ∙ f));
+      lists = λ r _. lists-right r (y .words);
+    }
+
+quiet-right : (c : Call) (y : System) → writes-words c (reply c y) ≡ false → (accepted (reply c y) ≡ false → step c y ≡ y) → step c y .words ≡ y .words → Call-right c y
+quiet-right c y quiet stays same =
+    record {
+      refused = stays;
+      changed = λ _ alters. absurd (true≢false (sym alters ∙ quiet));
+      others = λ _. same;
+      lists = λ r _. lists-right r (y .words);
+    }
+
+-- a party's, by its reply
+act-right : (p : ℕ) (a : Act) (y : System) (q : PartyReply) → party-reply p a (y .count) (y .grants) (y .words) ≡ q →
+    Acted q a (y .words) (step (acts p a) y .words) → Call-right (acts p a) y
+unfolding reply writes-words acted-in party-inserted accepted numbers-of party-numbers refusal-in insert-numbers Acted step with-words change-reply change-words headD
+act-right p a y (acting.Inserted x m h) e (made, new) =
+    let front = change-front (insert (a .kind) (a .tag .0)) (y .words) (rw (← made)) in
+    writing-right (acts p a) y (rw e) (λ f. absurd (true≢false (rw e at f))) (λ _. rw new front)
+act-right p a y (acting.Refused k) e same = quiet-right (acts p a) y (rw e) (λ _. rw same) same
+act-right p a y acting.Yes e same = quiet-right (acts p a) y (rw e) (λ _. rw same) same
+act-right p a y acting.Stale e same = quiet-right (acts p a) y (rw e) (λ _. rw same) same
+
+pub every-call : Every-call
+unfolding Every-call Every-reading reply step with-words ended-by writes-words accepted numbers-of change-reply change-words change-refused load-reply read-reply refusal-in load-numbers
+every-call (changes c) y = writing-right (changes c) y refl (λ e. rw (change-stays c (y .words) e)) (change-front c (y .words))
+every-call (reads r) y = quiet-right (reads r) y refl (λ _. refl) refl
+every-call (keeps k) y = quiet-right (keeps k) y refl (λ e. let same = grants-stay k y e in rw (same .0, same .1)) refl
+every-call (acts p a) y =
+    act-right p a y _ refl (act-happened p a (y .count) (y .grants) _ (y .words) refl)
+every-call (restores bs) y =
+    writing-right (restores bs) y refl (λ e. rw (every-reading bs (y .words) .refused e)) (restore-front bs (y .words))
+every-call (load-with-grants s r b cs) y =
+    writing-right (load-with-grants s r b cs) y refl
+    (λ e. rw (change-stays (load s r b cs) (y .words) e, count-stays (load-refusal (length (y .words)) s r cs) _ _ (y .count) (rw (change-tells (load s r b cs) (y .words)) at e)))
+    (change-front (load s r b cs) (y .words))
+every-call (restore-with-grants bs) y =
+    writing-right (restore-with-grants bs) y refl
+    (λ e. rw (every-reading bs (y .words) .refused e, count-stays (file-refusal (length (y .words)) bs) _ _ (y .count) (rw (restore-tells bs (y .words)) at e)))
+    (restore-front bs (y .words))

@@ -1,4 +1,6 @@
 pub mod Said
+pub mod Refusals
+pub mod RunsKeep
 pub mod EveryCall
 pub mod Differences
 pub mod Runs

@@ -25,15 +25,14 @@ use Rattle.calls.specs.Held.{encloses}
 use Rattle.calls.specs.Listing.{is-listed, listed-tags, listed-labels, inside-tests, list-refusal}
 use Rattle.calls.specs.Words.{Says}
 use Rattle.calls.specs.Replies.{said, refusal-over, list-refused, list-reply, list-tags, list-labels}
-use Rattle.calls.specs.Calls.{lists, Happens}
 use Rattle.calls_laws.proofs.Tests.{Sound, passes}
 use Rattle.calls_laws.proofs.Nesting.{Step, begins, ends, stands, Closed}
 use Rattle.calls_laws.proofs.Sections.{place-at, place-first-part, place-middle-part, place-last-part, distinct-row, row-below, row-at, At, pass-at, closed-at}
 use Rattle.calls_laws.proofs.WordSteps.{refusal-passed}
 use Rattle.demands.specs.Words.{is-marked, unmarked-of, Inside}
-use Rattle.demands.specs.Promise.{listed, accepted, Lists-hold, Every-call, List-right}
+use Rattle.demands.specs.Promise.{List-right}
 use Rattle.demands.proofs.Said.{sound-said, tag-said, book-row}
-use Rattle.demands.proofs.EveryCall.{every-call}
+use Rattle.demands.proofs.EveryCall.{list-fronted}
 use Rattle.demands.proofs.Asked.{marked-said, label-said}
 
 -- THE LISTED TAGS of a row, part by part
@@ -181,15 +180,14 @@ listed-said k m n e =
 
 -- what an accepted list writes
 pub list-right : List-right
-unfolding List-right Every-call Happens list-reply list-refused accepted listed Lists-hold listed-labels
+unfolding List-right list-reply list-refused listed-labels
 list-right x n ws ts ls e =
     let st = said ws in
     let refusal = list-refusal (length ts) (length ls) x in
     let (z, many) = listed-said (refusal-over ws refusal) _ n e in
     let (h, fine) = refusal-passed ws refusal z in
     let f = found ws st h (length ts) (length ls) x fine in
-    let wrote =
-    every-call (lists x ts ls (list-tags x ws ts ls) (list-labels x ws ts ls) (list-reply x ws ts ls)) ws ws (refl, refl, refl, refl) .writes-lists (ap listed e) in
+    let wrote = list-fronted x ws ts ls z in
     let labels-are : map (label st) (unmarked-of ws (f .inside)) ≡ map (label-at ws) (unmarked-of ws (f .inside)) =
     labels-same (label st) (label-at ws) ws (f .inside) (λ d m. sym (label-said ws st h d (f .tags d m))) in
     record {

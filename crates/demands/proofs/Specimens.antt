@@ -20,9 +20,9 @@ use Rattle.calls.specs.Held.{hold-pair, encloses, current, question-tests, ques
 use Rattle.calls.specs.Listing.{is-listed, listed-tags, listed-labels, inside-tests, list-refusal}
 use Rattle.calls.specs.Words.{header, tag-record, words-of, follow, read-fact, header-width, read-book, read-store, header-in-range, read-in-range, read}
 use Rattle.calls.specs.Replies.{on-store, refusal-over, store-or, said, load-reply, load-words, insert-refused, insert-reply, insert-words, mark-reply, mark-words, hold-reply, question-reply, list-refused, list-reply, list-tags, list-labels, load-numbers, insert-numbers, mark-numbers, hold-numbers, answer-number, question-numbers, list-numbers}
-use Rattle.calls.specs.Reference.{reference-load, reference-position, raised-by, reference-insert, reference-call, reference-told, reference-after}
+use Rattle.calls.specs.Reference.{reference-load, reference-position, raised-by, reference-insert, reference-change, reference-told, reference-after}
 use Rattle.demands.specs.Specimens.{wide-book, labels-end-there, whole-words, all-refused, damage-refused, rest-stays, reference-rises, specimens-hold}
 
 pub specimens : specimens-hold ≡ true
-unfolding headD numbers member place insert-at all-below leaves labels joined leaf-row parts spread put split-height within-limits label-of base power-width under-from load-under loaded root-full root-split put-inside inserted split-of inserted-row split-of-row moved-among root-within book-within front-below spelled-nodes spelled first same how-many code is-kind kind-of kind-word is-begin is-end next-in prior-in labels-fit nests closing new-facts fits opened nested degrees-fit tree-sound row-sound stamp-sound sound words-for all-kinds kinds-tests early-tests load-refusal load-store insert-kinds position up-at book-after insert-store insert-moved insert-split labels-end place-tests room-tests insert-refusal within mark-facts mark-store new-marks mark-count section-tests section-refusal hold-pair encloses current question-tests question is-listed those listed-tags listed-labels inside-tests list-refusal header tag-record flatMap words-of records-at field follow read-fact label-at header-width read-book read-store starts-with header-in-range read-in-range read in-front on-store refusal-over store-or said written replied load-reply load-words insert-refused insert-reply insert-words mark-reply mark-words hold-reply question-reply list-refused list-reply list-tags list-labels load-numbers insert-numbers mark-numbers hold-numbers answer-number question-numbers list-numbers raised wide-book labels-end-there whole-words all-refused damage-refused rest-stays reference-load reference-position raised-by reference-insert reference-call reference-told reference-after reference-rises specimens-hold
+unfolding headD numbers member place insert-at all-below leaves labels joined leaf-row parts spread put split-height within-limits label-of base power-width under-from load-under loaded root-full root-split put-inside inserted split-of inserted-row split-of-row moved-among root-within book-within front-below spelled-nodes spelled first same how-many code is-kind kind-of kind-word is-begin is-end next-in prior-in labels-fit nests closing new-facts fits opened nested degrees-fit tree-sound row-sound stamp-sound sound words-for all-kinds kinds-tests early-tests load-refusal load-store insert-kinds position up-at book-after insert-store insert-moved insert-split labels-end place-tests room-tests insert-refusal within mark-facts mark-store new-marks mark-count section-tests section-refusal hold-pair encloses current question-tests question is-listed those listed-tags listed-labels inside-tests list-refusal header tag-record flatMap words-of records-at field follow read-fact label-at header-width read-book read-store starts-with header-in-range read-in-range read in-front on-store refusal-over store-or said written replied load-reply load-words insert-refused insert-reply insert-words mark-reply mark-words hold-reply question-reply list-refused list-reply list-tags list-labels load-numbers insert-numbers mark-numbers hold-numbers answer-number question-numbers list-numbers raised wide-book labels-end-there whole-words all-refused damage-refused rest-stays reference-load reference-position raised-by reference-insert reference-change reference-told reference-after reference-rises specimens-hold
 specimens = refl

@@ -1,7 +1,7 @@
 -- The demands over any words, and what the words hold. Each statement is a type, proved in proofs/. Assumes nothing.
 use mathlib.Core.Path.{_≡_}
 use mathlib.Core.Bool.{Bool, true, false}
-use mathlib.Core.List.{List, map}
+use mathlib.Core.List.{List, [], _∷_, map}
 use mathlib.Core.Logic.{_↔_, _⊎_}
 use Prim.Native.Nat.{ℕ, _%_, _≤_, _<_}
 use lib.ListN.{length}
@@ -10,119 +10,71 @@ use Rattle.store_types.specs.declared.Answer.the-variants.{Yes, No, Stale}
 use Rattle.store_types.specs.declared.LoadReply.the-variants.{Loaded}
 use Rattle.store_types.specs.declared.InsertReply.the-variants.{Inserted}
 use Rattle.store_types.specs.declared.MarkReply.the-variants.{Marked}
-use Rattle.store_types.specs.declared.HoldReply.{HoldReply}
 use Rattle.store_types.specs.declared.HoldReply.the-variants as hold-said
-use Rattle.store_types.specs.declared.QuestionReply.{QuestionReply}
 use Rattle.store_types.specs.declared.QuestionReply.the-variants as question-said
-use Rattle.store_types.specs.declared.ListReply.{ListReply}
 use Rattle.store_types.specs.declared.ListReply.the-variants as list-said
-use Rattle.store_types.specs.declared.WriteReply.{WriteReply}
-use Rattle.store_types.specs.declared.WriteReply.the-variants as write-said
-use Rattle.store_types.specs.declared.Act.{Act}
-use Rattle.store_types.specs.declared.Grant.{Grant}
-use Rattle.store_types.specs.declared.PartyReply.{PartyReply}
-use Rattle.store_types.specs.declared.PartyReply.the-variants as party-said
 use Rattle.store_types.specs.Layout.{at-count, at-book, header-words, at-mate, at-kind, word-at, field, label-at}
 use Rattle.calls.specs.Store.{Store}
 use Rattle.calls.specs.Sound.{sound}
+use Rattle.calls.specs.Load.{load-store}
 use Rattle.calls.specs.Listing.{listed-tags, listed-labels}
 use Rattle.calls.specs.Words.{words-of, Says}
 use Rattle.calls.specs.File.{file-of}
-use Rattle.calls.specs.Replies.{said, refusal-over, insert-reply, insert-words, insert-sheet-reply, insert-sheet-words, mark-reply, mark-words, hold-reply, question-reply, list-reply, list-tags, list-labels, read-reply, read-words}
-use Rattle.calls.specs.Calls.{Event, loads, inserts, sheets, marks, holds, asks, lists, writes, acts, Happens, Run, load-accepted, insert-accepted, mark-accepted, told}
+use Rattle.calls.specs.Replies.{said, refusal-over, load-reply, load-words, insert-reply, insert-words, insert-sheet-reply, insert-sheet-words, mark-reply, mark-words, hold-reply, question-reply, list-reply, list-tags, list-labels, read-reply, read-words}
+use Rattle.calls.specs.Changes.{after, judged}
 use Rattle.calls.specs.Reference.{Reference, total, reference-load, reference-after}
+use Rattle.calls.specs.Promise.{Kept, Words-kept}
+use Rattle.system.specs.System.{System, Reading, hold, ask, list, write, Call, changes, reads, keeps, acts, restores, load-with-grants, restore-with-grants, finding-numbers, Reply, loaded, refusal-in, accepted, finding, reading-lists, reply, step}
+use Rattle.system.specs.Histories.{afterwards, replies}
+use Rattle.system.specs.Feed.{acted-in, told, total-moved, None-restored}
 use Rattle.demands.specs.Sound.{Sound-words}
 use Rattle.demands.specs.Words.{Book-row, Stand, is-marked, unmarked-of, Inside, Fronted, unmarked-changed, became-marked}
 
--- DEMAND 1, of any words and each of the calls. Whether a call was accepted, and whether it is one that changes the store
-unfoldable pub held : HoldReply → Bool
-held (hold-said.Held p) = true
-held (hold-said.Refused k) = false
+-- DEMAND 1, of any system and every call on it. Whether a call is one that writes words of the store; a party's is where it inserts
+unfoldable pub writes-words : Call → Reply → Bool
+writes-words (changes c) q = true
+writes-words (reads r) q = false
+writes-words (keeps k) q = false
+writes-words (acts p a) q = acted-in q
+writes-words (restores bs) q = true
+writes-words (load-with-grants s r b cs) q = true
+writes-words (restore-with-grants bs) q = true
 
-unfoldable pub answered : QuestionReply → Bool
-answered (question-said.Answered a) = true
-answered (question-said.Refused k) = false
+-- the lists and bytes that a reading's caller lends, each with what an accepted call writes in front of it
+pub record Filling : Type 0 where
+  pub old : List ℕ
+  pub new : List ℕ
 
-unfoldable pub listed : ListReply → Bool
-listed (list-said.Listed n) = true
-listed (list-said.Refused k) = false
+unfoldable pub fillings : Reading → Store → List Filling
+fillings (hold x) st = []
+fillings (ask p d) st = []
+fillings (list x ts ls) st = record { old = ts; new = listed-tags x st } ∷ record { old = ls; new = listed-labels x st } ∷ []
+fillings (write bs) st = record { old = bs; new = file-of st } ∷ []
 
-unfoldable pub filed : WriteReply → Bool
-filed (write-said.Written n) = true
-filed (write-said.Refused k) = false
+-- all with the results in front, or all as they were
+unfoldable pub All-fronted : List Filling → (now : List (List ℕ)) → Type 0
+All-fronted [] ls = ls ≡ []
+All-fronted (f ∷ fs) ls = (l : List ℕ) × (ms : List (List ℕ)) × (ls ≡ l ∷ ms) × Fronted (f .new) (f .old) l × All-fronted fs ms
 
-unfoldable pub acted : PartyReply → Bool
-acted party-said.Yes = true
-acted party-said.Stale = true
-acted (party-said.Inserted x m h) = true
-acted (party-said.Refused k) = false
+pub record Lists-right (r : Reading) (ws : List ℕ) : Type 0 where
+  pub stay : (refusal-in (finding-numbers (finding r ws)) ≡ 0 → ⊥) → reading-lists r ws ≡ map (λ f. f .old) (fillings r (said ws))
+  pub filled : refusal-in (finding-numbers (finding r ws)) ≡ 0 → All-fronted (fillings r (said ws)) (reading-lists r ws)
 
--- a party's call changes the store where it inserts
-unfoldable pub made : PartyReply → Bool
-made party-said.Yes = false
-made party-said.Stale = false
-made (party-said.Inserted x m h) = true
-made (party-said.Refused k) = false
-
-unfoldable pub accepted : Event → Bool
-accepted (loads s r b cs q) = load-accepted q
-accepted (inserts c y q) = insert-accepted q
-accepted (sheets cs y q) = insert-accepted q
-accepted (marks x q) = mark-accepted q
-accepted (holds x q) = held q
-accepted (asks p d q) = answered q
-accepted (lists x ts ls us ms q) = listed q
-accepted (writes bs cs q) = filed q
-accepted (acts p a c gs q) = acted q
-
-unfoldable pub changes : Event → Bool
-changes (loads s r b cs q) = true
-changes (inserts c y q) = true
-changes (sheets cs y q) = true
-changes (marks x q) = true
-changes (holds x q) = false
-changes (asks p d q) = false
-changes (lists x ts ls us ms q) = false
-changes (writes bs cs q) = false
-changes (acts p a c gs q) = made q
-
--- the lent lists of a list and the lent bytes of a file: as they were, or with the result in front
-unfoldable pub Lists-stay : Event → Type 0
-Lists-stay (loads s r b cs q) = Unit {0}
-Lists-stay (inserts c y q) = Unit {0}
-Lists-stay (sheets cs y q) = Unit {0}
-Lists-stay (marks x q) = Unit {0}
-Lists-stay (holds x q) = Unit {0}
-Lists-stay (asks p d q) = Unit {0}
-Lists-stay (lists x ts ls us ms q) = (us ≡ ts) × (ms ≡ ls)
-Lists-stay (writes bs cs q) = cs ≡ bs
-Lists-stay (acts p a c gs q) = Unit {0}
-
-unfoldable pub Lists-hold : Event → (words : List ℕ) → Type 0
-Lists-hold (loads s r b cs q) ws = Unit {0}
-Lists-hold (inserts c y q) ws = Unit {0}
-Lists-hold (sheets cs y q) ws = Unit {0}
-Lists-hold (marks x q) ws = Unit {0}
-Lists-hold (holds x q) ws = Unit {0}
-Lists-hold (asks p d q) ws = Unit {0}
-Lists-hold (lists x ts ls us ms q) ws = Fronted (listed-tags x (said ws)) ts us × Fronted (listed-labels x (said ws)) ls ms
-Lists-hold (writes bs cs q) ws = Fronted (file-of (said ws)) bs cs
-Lists-hold (acts p a c gs q) ws = Unit {0}
-
-pub record Call-right (e : Event) (ws vs : List ℕ) : Type 0 where
-  pub refused : accepted e ≡ false → (vs ≡ ws) × Lists-stay e
-  pub changed : accepted e ≡ true → changes e ≡ true → (st : Store) × (sound st ≡ true) × Fronted (words-of st) ws vs
-  pub reads : changes e ≡ false → vs ≡ ws
-  pub writes-lists : accepted e ≡ true → Lists-hold e ws
+-- refused, every word, grant and count is as it was; accepted and writing, there are as many words, they say a sound store, and those
+-- past it are as they were; any other call leaves the words; and a reading's lists are right
+pub record Call-right (c : Call) (y : System) : Type 0 where
+  pub refused : accepted (reply c y) ≡ false → step c y ≡ y
+  pub changed : accepted (reply c y) ≡ true → writes-words c (reply c y) ≡ true → (st : Store) × (sound st ≡ true) × Fronted (words-of st) (y .words) (step c y .words)
+  pub others : writes-words c (reply c y) ≡ false → step c y .words ≡ y .words
+  pub lists : (r : Reading) → c ≡ reads r → Lists-right r (y .words)
 
 unfoldable pub Every-call : Type 0
-Every-call = (e : Event) (ws vs : List ℕ) → Happens e ws vs → Call-right e ws vs
+Every-call = (c : Call) (y : System) → Call-right c y
 
--- and of the reading of a file, which is no event of a run, of any bytes and words: refused, every word is as it was; accepted, the
--- bytes are the file of a sound store, whose words stand in front
+-- of the reading of a file more than that: accepted, the bytes are the file of the sound store whose words stand in front
 pub record Read-right (bs ws : List ℕ) : Type 0 where
-  pub refused : load-accepted (read-reply bs ws) ≡ false → read-words bs ws ≡ ws
-  pub accepted : load-accepted (read-reply bs ws) ≡ true → (st : Store) × (sound st ≡ true) × (bs ≡ file-of st) × Fronted (words-of st) ws (read-words bs ws)
+  pub refused : accepted (loaded (read-reply bs ws)) ≡ false → read-words bs ws ≡ ws
+  pub restored : accepted (loaded (read-reply bs ws)) ≡ true → (st : Store) × (sound st ≡ true) × (bs ≡ file-of st) × Fronted (words-of st) ws (read-words bs ws)
 
 unfoldable pub Every-reading : Type 0
 Every-reading = (bs ws : List ℕ) → Read-right bs ws
@@ -140,48 +92,29 @@ Sheet-moved-right =
 unfoldable pub Marked-right : Type 0
 Marked-right = (x n : ℕ) (ws : List ℕ) → mark-reply x ws ≡ Marked n → n ≡ became-marked ws (mark-words x ws)
 
--- DEMAND 3 ALONG NEXT, until no tag, and along prior; and N = n0 + m is word 4
+-- DEMAND 3, of every list of calls after an accepted load in which no file read is accepted, over the words and the replies: exactly
+-- the changes that the definitions refuse were refused, and the words, the reference list, which is fed calls and acceptances alone, and
+-- the moved numbers of the replies agree
+pub record Whole-run (lent : ℕ) (st : Store) (a : Reference) (cs : List Call) (y : System) : Type 0 where
+  pub refused-right : told cs y ≡ judged lent (map (λ t. t .0) (told cs y)) st
+  pub words : Words-kept (afterwards step cs y .words) (after lent (map (λ t. t .0) (told cs y)) st) (reference-after (told cs y) a)
+  pub kept : Kept (after lent (map (λ t. t .0) (told cs y)) st) (reference-after (told cs y) a) (total-moved 0 (replies step reply cs y))
+
+-- whatever grants and count stand beside the words, and whatever the words held before the load
+unfoldable pub Runs-keep : Type 0
+Runs-keep =
+    (s r b n h : ℕ) (ks old : List ℕ) (cs : List Call) (y : System) → load-reply s r b ks old ≡ Loaded n h → y .words ≡ load-words s r b ks old →
+    None-restored cs y → Whole-run (length old) (load-store s r b ks) (reference-load s r (length ks)) cs y
+
+-- along next, until no tag, and along prior; and N = n0 + m is word 4
 pub record Row-kept (ws : List ℕ) (a : Reference) : Type 0 where
   pub along : Book-row ws (a .row)
   pub issued : total a ≡ word-at ws at-count
 
 unfoldable pub Runs-along : Type 0
 Runs-along =
-    (s r b n h : ℕ) (ks old ws end : List ℕ) (es : List Event) → Happens (loads s r b ks (Loaded n h)) old ws → Run ws es end →
-    Row-kept end (reference-after (told es) (reference-load s r (length ks)))
-
--- A RUN EXISTS for every list of calls on any words. A call without its reply, and the event that it is on words
-pub data Request : Type 0 where
-  load : (s r number : ℕ) → (kinds : List ℕ) → Request
-  insert : (kind place : ℕ) → Request
-  sheet : (kinds : List ℕ) → (place : ℕ) → Request
-  mark : (section : ℕ) → Request
-  hold : (section : ℕ) → Request
-  ask : HeldPair → (d : ℕ) → Request
-  list : (section : ℕ) → (tags labels : List ℕ) → Request
-  write : (bytes : List ℕ) → Request
-  act : (party : ℕ) → Act → (count : ℕ) → List Grant → Request
-
-unfoldable pub request : Event → Request
-request (loads s r b cs q) = load s r b cs
-request (inserts c y q) = insert c y
-request (sheets cs y q) = sheet cs y
-request (marks x q) = mark x
-request (holds x q) = hold x
-request (asks p d q) = ask p d
-request (lists x ts ls us ms q) = list x ts ls
-request (writes bs cs q) = write bs
-request (acts p a c gs q) = act p a c gs
-
--- a run from words in which just these requests were made, in their order
-pub record Ran-so (ws : List ℕ) (qs : List Request) : Type 0 where
-  pub events : List Event
-  pub end : List ℕ
-  pub asked : map request events ≡ qs
-  pub run : Run ws events end
-
-unfoldable pub Runs-exist : Type 0
-Runs-exist = (ws : List ℕ) (qs : List Request) → Ran-so ws qs
+    (s r b n h : ℕ) (ks old : List ℕ) (cs : List Call) (y : System) → load-reply s r b ks old ≡ Loaded n h → y .words ≡ load-words s r b ks old →
+    None-restored cs y → Row-kept (afterwards step cs y .words) (reference-after (told cs y) (reference-load s r (length ks)))
 
 -- DEMAND 2, of the entries' replies on any words. Words that say a store
 abbrev pub Says-some : List ℕ → Type 0

@@ -17,7 +17,7 @@ use Rattle.calls.specs.Sound.{tree-sound}
 use Rattle.calls.specs.Insert.{insert-refusal}
 use Rattle.calls.specs.Words.{follow}
 use Rattle.calls.specs.Replies.{load-words, insert-words, mark-reply, mark-words, mark-numbers, list-tags, list-labels}
-use Rattle.calls.specs.Calls.{insert, mark, Told}
+use Rattle.calls.specs.Changes.{insert, mark, Told}
 use Rattle.calls.specs.Reference.{reference-load, reference-after}
 
 -- LABELS END. s = 13 and r = 2: b = 25, 25^6 ≤ 2^32 < 25^7, and a root of height 6 has its limit at 13 times 2^6 = 832
@@ -85,11 +85,11 @@ rest-stays =
 -- element at the front (eight tags: H rises to 3)
 abbrev pub history : List Told
 history =
-    record { call = insert 3 2; accepted = true } ∷
-    record { call = insert 3 9; accepted = false } ∷
-    record { call = insert 1 0; accepted = true } ∷
-    record { call = mark 1; accepted = true } ∷
-    record { call = insert 1 no-tag; accepted = true } ∷ []
+    (insert 3 2, true) ∷
+    (insert 3 9, false) ∷
+    (insert 1 0, true) ∷
+    (mark 1, true) ∷
+    (insert 1 no-tag, true) ∷ []
 
 unfoldable pub reference-rises : Bool
 reference-rises =

@@ -1,7 +1,7 @@
 -- What a call gives and writes by its refusal: what is accepted where it is 0, else the refusal and nothing new. Assumes nothing.
 use mathlib.Core.Path.{_≡_, refl}
 use mathlib.Core.Bool.{Bool, true, false, cond}
-use mathlib.Core.List.{List}
+use mathlib.Core.List.{List, [], _∷_, headD}
 use Prim.Native.Nat.{ℕ, zero, suc, _≤_}
 use lib.Dec.{eqb, eqb·suc-zero}
 use lib.ListN.{length}
@@ -31,6 +31,12 @@ module _ {A : Type 0} (f : ℕ → A) where
   unfolding replied
   replied-told g zero a passes fails = passes
   replied-told g (suc k) a passes fails = rw (eqb·suc-zero k) (fails (suc k))
+
+  -- the numbers of a reply begin with its refusal, where those of an accepted one begin with 0
+  pub first-number : (numbers : A → List ℕ) (k : ℕ) (a : A) → ((i : ℕ) → numbers (f i) ≡ i ∷ []) → headD (numbers a) 0 ≡ 0 → headD (numbers (replied f k a)) 0 ≡ k
+  unfolding replied headD
+  first-number numbers zero a refused fine = fine
+  first-number numbers (suc k) a refused fine = rw (refused (suc k))
 
 -- THE WORDS AFTER A CALL: refused as they were, and in any case as many as before
 pub written-refused : (k : ℕ) (new old : List ℕ) → (k ≡ 0 → ⊥) → old ≡ written k new old

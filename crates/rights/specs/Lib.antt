@@ -1,4 +1,1 @@
-pub mod System
-pub mod Histories
 pub mod Promise
-pub mod Specimens

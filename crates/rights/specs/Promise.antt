@@ -11,7 +11,6 @@ use Rattle.store_types.specs.Limits.{insert-right}
 use Rattle.store_types.specs.declared.Act.{Act}
 use Rattle.store_types.specs.declared.Grant.{Grant}
 use Rattle.store_types.specs.declared.GrantReply.the-variants.{Granted}
-use Rattle.store_types.specs.declared.LoadReply.the-variants.{Loaded}
 use Rattle.store_types.specs.declared.PartyReply.{PartyReply}
 use Rattle.store_types.specs.declared.PartyReply.the-variants as party
 use Rattle.store_types.specs.declared.RevokeReply.the-variants.{Revoked}
@@ -21,30 +20,30 @@ use Rattle.calls.specs.Insert.{insert-kinds, labels-end, room-tests}
 use Rattle.calls.specs.Words.{Says}
 use Rattle.calls.specs.Rights.{names, gives, party-refused, party-reply, party-words}
 use Rattle.calls.specs.Promise.{Encloses, Current, Asked}
-use Rattle.rights.specs.System.{System, live, Call, grant, revoke, act, reply, loaded, granted, revoked, step}
-use Rattle.rights.specs.Histories.{Entry, with-extras, without, after, replies, shared-replies, All-powerless}
+use Rattle.system.specs.System.{System, live, grant, revoke, Call, keeps, acts, load-with-grants, restore-with-grants, granted, revoked, kept, accepted, reply, step}
+use Rattle.system.specs.Histories.{Entry, with-extras, without, afterwards, replies, shared-replies, All-powerless}
 
 -- TWO HISTORIES. A call of a party of which no live grant speaks
 pub record Powerless (c : Call) (y : System) : Type 0 where
   pub party : ℕ
   pub asks-for : Act
-  pub call-is : c ≡ act party asks-for
+  pub call-is : c ≡ acts party asks-for
   pub no-grant : some-holds (λ g. eqb (g .party) party) (live y) ≡ false
 
 -- with any number of such calls, by any number of parties, the system ends the same, and so are the replies to all other calls
 pub record Alike (es : List (Entry Call)) (y : System) : Type 0 where
-  pub systems : after step (with-extras es) y ≡ after step (without es) y
+  pub systems : afterwards step (with-extras es) y ≡ afterwards step (without es) y
   pub same-replies : shared-replies step reply es y ≡ replies step reply (without es) y
 
 unfoldable pub Isolation : Type 0
 Isolation = (y : System) (es : List (Entry Call)) → All-powerless step Powerless es y → Alike es y
 
--- A PARTY'S CALL is accepted
-unfoldable pub accepted : PartyReply → Bool
-accepted party.Yes = true
-accepted (party.Inserted x m h) = true
-accepted party.Stale = false
-accepted (party.Refused k) = false
+-- A PARTY'S CALL is allowed: it replies yes or an insertion. A stale pair is no refusal, and not allowed
+unfoldable pub was-allowed : PartyReply → Bool
+was-allowed party.Yes = true
+was-allowed (party.Inserted x m h) = true
+was-allowed party.Stale = false
+was-allowed (party.Refused k) = false
 
 -- a live grant that gives a party a right on a section
 pub record Given (p x q c : ℕ) (gs : List Grant) : Type 0 where
@@ -77,7 +76,7 @@ pub record Allowed (p : ℕ) (a : Act) (c : ℕ) (gs : List Grant) (ws : List �
 
 unfoldable pub Allowed-exactly : Type 0
 Allowed-exactly =
-    (p : ℕ) (a : Act) (c : ℕ) (gs : List Grant) (ws : List ℕ) → (accepted (party-reply p a c gs ws) ≡ true) ↔ Allowed p a c gs ws
+    (p : ℕ) (a : Act) (c : ℕ) (gs : List Grant) (ws : List ℕ) → (was-allowed (party-reply p a c gs ws) ≡ true) ↔ Allowed p a c gs ws
 
 -- AN INSERTION by a party: the new tags, which are those from the first on, stand strictly inside the section
 pub record Put-inside (x section : ℕ) (ws : List ℕ) : Type 0 where
@@ -91,21 +90,24 @@ Inside-only =
     (p : ℕ) (a : Act) (c x m h : ℕ) (gs : List Grant) (ws : List ℕ) → party-reply p a c gs ws ≡ party.Inserted (record { 0 = x }) m h →
     Put-inside x (a .pair .tag .0) (party-words p a c gs ws)
 
--- GRANTS BEGIN AND END. An accepted grant goes behind the live ones
+-- GRANTS BEGIN AND END. An accepted grant goes after the live ones
 unfoldable pub Granted-adds : Type 0
 Granted-adds =
-    (p x q n : ℕ) (y : System) → reply (grant p x q) y ≡ granted (Granted n) →
-    (live (step (grant p x q) y) ≡ live y ++ (record { party = p; section = x; rights = q } ∷ [])) × (length (live (step (grant p x q) y)) ≡ n)
+    (p x q n : ℕ) (y : System) → reply (keeps (grant p x q)) y ≡ kept (granted (Granted n)) →
+    (live (step (keeps (grant p x q)) y) ≡ live y ++ (record { party = p; section = x; rights = q } ∷ [])) × (length (live (step (keeps (grant p x q)) y)) ≡ n)
 
 -- after an accepted revoke no live grant of that party on that section is left, and all others are, in order; n were taken out
 pub record Ended (p x n : ℕ) (y : System) : Type 0 where
-  pub none-left : some-holds (names p x) (live (step (revoke p x) y)) ≡ false
-  pub others-stay : live (step (revoke p x) y) ≡ those (λ g. not (names p x g)) (live y)
-  pub taken-out : length (live y) ≡ n + length (live (step (revoke p x) y))
+  pub none-left : some-holds (names p x) (live (step (keeps (revoke p x)) y)) ≡ false
+  pub others-stay : live (step (keeps (revoke p x)) y) ≡ those (λ g. not (names p x g)) (live y)
+  pub taken-out : length (live y) ≡ n + length (live (step (keeps (revoke p x)) y))
 
 unfoldable pub Revoked-ends : Type 0
-Revoked-ends = (p x n : ℕ) (y : System) → reply (revoke p x) y ≡ revoked (Revoked n) → Ended p x n y
+Revoked-ends = (p x n : ℕ) (y : System) → reply (keeps (revoke p x)) y ≡ kept (revoked (Revoked n)) → Ended p x n y
 
--- after an accepted load or file read none is
+-- after an accepted load or file read to which the count is lent none is
+unfoldable pub Ends-all : Call → Type 0
+Ends-all c = (y : System) → accepted (reply c y) ≡ true → live (step c y) ≡ []
+
 unfoldable pub Loads-end : Type 0
-Loads-end = (c : Call) (n h : ℕ) (y : System) → reply c y ≡ loaded (Loaded n h) → live (step c y) ≡ []
+Loads-end = (s r b : ℕ) (ks bs : List ℕ) → Ends-all (load-with-grants s r b ks) × Ends-all (restore-with-grants bs)

@@ -1,1 +1,1 @@
-// Rights for contractors as a system of words, grants and a count: definitions, statements and specimens.
+// What is promised of rights for contractors, and its proofs.

@@ -1,7 +1,7 @@
 // The calls over lent words (document 01, "Calls and their replies"): load, insert, mark, hold, the held-pair question, list; the
-// insertion of a sheet (document 02, CR 5); and a book as a file (document 02, CR 3): written, and read. None has a `requires`; each contract says by equations with the
-// definitions of crate calls what is replied and what every lent word and byte then holds, for every input. All but the reading
-// of a file are the events of calls/specs/Calls.antt, of which `runs-keep` (calls_laws/proofs/RunsKeep.antt) speaks.
+// insertion of a sheet (document 02, CR 5); and a book as a file (document 02, CR 3): written, and read. None has a `requires`. Each
+// contract says by equations with the definitions of crate calls what is replied and what every lent word and byte then holds, for
+// every input. They are calls of the system (system/specs/System.antt), of which `runs-keep` (demands/proofs/RunsKeep.antt) speaks.
 pub use file_read::read_file;
 pub use file_write::write_file;
 pub use held_call::hold;

@@ -7,7 +7,7 @@ mod rights;
 ghost use mathlib.Core.Path.{_≡_};
 ghost use Rattle.calls.specs.Replies.{load-reply, load-words, insert-reply, insert-words, insert-sheet-reply, insert-sheet-words, mark-reply, mark-words, hold-reply, question-reply, list-reply, list-tags, list-labels, write-reply, write-bytes, read-reply, read-words};
 ghost use Rattle.store_c.specs.Flat.{c-loaded, c-inserted, c-marked, c-held, c-answered, c-listed, c-written, c-kinds, c-granted, c-revoked, c-party, pair-of, act-of};
-ghost use Rattle.calls.specs.Calls.{emptied-by};
+ghost use Rattle.calls.specs.Rights.{emptied-by};
 ghost use Rattle.calls.specs.Rights.{grant-reply, grant-count, grant-list, revoke-reply, revoke-count, revoke-list, party-reply, party-words};
 ghost use Rattle.xml.specs.Replies.{sheet-reply, sheet-list};
 use flat::Answered;

@@ -6,7 +6,7 @@ ghost use Prim.Native.Nat.{suc, _-_, _≤_};
 ghost use lib.Dec.{leb};
 ghost use Rattle.store_types.specs.Limits.{all-rights};
 ghost use Rattle.lists.specs.Fronts.{replied};
-ghost use Rattle.calls.specs.Calls.{emptied-by};
+ghost use Rattle.calls.specs.Rights.{emptied-by};
 ghost use Rattle.calls.specs.Replies.{load-reply, load-words, read-reply, read-words};
 ghost use Rattle.calls.specs.Rights.{is-allowed, turned-away as is-turned-away, inserted-reply, act-reply, act-words, is-right as right-fits, range-refusal, grant-refused as grant-refusal, revoke-refused};
 ghost use Rattle.store_types.specs.declared.GrantReply.the-variants as granting;

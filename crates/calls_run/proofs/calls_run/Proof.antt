@@ -1,8 +1,9 @@
 -- `calls_run::calls_run` meets its contract: the entries' contracts, one after the other, are a run. Assumes nothing.
-use mathlib.Core.Path.{refl}
+use mathlib.Core.Path.{refl, ap}
 use native.Mathlib.Omega.{arith}
 use borrow.Author.Needs.{needs}
-use Rattle.calls.specs.Calls.{Happens, Run}
+use Rattle.system.specs.System.{loaded, inserted, marked, held, answered, listed as listed-finding, filed, change-reply, change-words, finding, reading-lists}
+use Rattle.calls_run.proofs.Laws.{none, change, reading, one, two}
 use Rattle.calls_run.proofs.calls_run.Statement.{statement}
 use Rattle.calls_run.proofs.calls_run.Tie as tie
 
@@ -49,7 +50,7 @@ same-length-4 : tie.Need-same-length-4
 same-length-4 c = search needs
 
 returns : tie.Need-returns
-unfolding Run Happens
+unfolding change-reply change-words finding reading-lists
 returns c =
     let write = c .before .before in
     let list = write .before .before .before .before .before .before .before in
@@ -58,35 +59,17 @@ returns c =
     let mark = hold .before .before .before .before in
     let sheet = mark .before .before .before .before in
     let insert = sheet .before .before .before .before in
-    let load = insert .before .before .before .before in (
-      _,
-      load .load .ensures,
-      (
-        _,
-        insert .insert .ensures,
-        (
-          _,
-          sheet .insert-sheet .ensures,
-          (
-            _,
-            mark .mark .ensures,
-            (
-              _,
-              (hold .hold .ensures, refl),
-              (
-                _,
-                (question .question .ensures, refl),
-                (
-                  _,
-                  (list .list .ensures .0, list .list .ensures .1 .0, list .list .ensures .1 .1, refl),
-                  (_, (write .write-file .ensures .0, write .write-file .ensures .1, refl), refl),
-                ),
-              ),
-            ),
-          ),
-        ),
-      ),
-    )
+    let load = insert .before .before .before .before in
+    let listed = list .list .ensures in
+    let wrote = write .write-file .ensures in
+    change (ap loaded (load .load .ensures .0)) (load .load .ensures .1)
+    (change (ap inserted (insert .insert .ensures .0)) (insert .insert .ensures .1)
+    (change (ap inserted (sheet .insert-sheet .ensures .0)) (sheet .insert-sheet .ensures .1)
+    (change (ap marked (mark .mark .ensures .0)) (mark .mark .ensures .1)
+    (reading (ap held (hold .hold .ensures)) refl
+    (reading (ap answered (question .question .ensures)) refl
+    (reading (ap listed-finding (listed .0)) (two (listed .1 .0) (listed .1 .1))
+    (reading (ap filed (wrote .0)) (one (wrote .1)) none)))))))
 
 pub calls-run-spec : {M : Type 1} → statement M
 calls-run-spec =

@@ -1,6 +1,6 @@
 -- `store_party::end_grants` meets its contract. Assumes nothing.
 use borrow.Author.Needs.{needs}
-use Rattle.calls.specs.Calls.{emptied-by}
+use Rattle.calls.specs.Rights.{emptied-by}
 use Rattle.store_party.proofs.end_grants.Statement.{statement}
 use Rattle.store_party.proofs.end_grants.Tie as tie
 

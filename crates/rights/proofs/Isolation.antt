@@ -15,22 +15,22 @@ use Rattle.store_types.specs.declared.QuestionReply.{QuestionReply}
 use Rattle.store_types.specs.declared.QuestionReply.the-variants as asking
 use Rattle.calls.specs.Replies.{question-reply}
 use Rattle.calls.specs.Rights.{names, gives, held, is-allowed, act-words, party-refused, party-words}
-use Rattle.rights.specs.System.{System, live, Call, reply, with-words, step}
-use Rattle.rights.specs.Histories.{Entry, with-extras, without, after, replies, shared-replies, All-powerless}
+use Rattle.system.specs.System.{System, live, Call, reply, with-words, step}
+use Rattle.system.specs.Histories.{Entry, with-extras, without, afterwards, replies, shared-replies, All-powerless}
 use Rattle.rights.specs.Promise.{Powerless, Isolation}
 
 -- ANY HISTORIES, where calls of a kind leave the system as it is
 module _ {C Y Q : Type 0} (step : C → Y → Y) (reply : C → Y → Q) (P : C → Y → Type 0) (still : (c : C) (y : Y) → P c y → step c y ≡ y) where
   abbrev Isolated : List (Entry C) → Y → Type 0
-  Isolated es y = (after step (with-extras es) y ≡ after step (without es) y) × (shared-replies step reply es y ≡ replies step reply (without es) y)
+  Isolated es y = (afterwards step (with-extras es) y ≡ afterwards step (without es) y) × (shared-replies step reply es y ≡ replies step reply (without es) y)
 
   one : (c : C) (t : Bool) (es : List (Entry C)) (y : Y) → (t ≡ true → P c y) → Isolated es (step c y) → Isolated (record { call = c; extra = t } ∷ es) y
-  unfolding with-extras without after replies shared-replies
-  one c true es y p h = let e = still c y (p refl) in (h .0 ∙ ap (after step (without es)) e, h .1 ∙ ap (replies step reply (without es)) e)
+  unfolding with-extras without afterwards replies shared-replies
+  one c true es y p h = let e = still c y (p refl) in (h .0 ∙ ap (afterwards step (without es)) e, h .1 ∙ ap (replies step reply (without es)) e)
   one c false es y p h = (h .0, ap (λ (qs : List Q). reply c y ∷ qs) (h .1))
 
   isolated : (es : List (Entry C)) (y : Y) → All-powerless step P es y → Isolated es y
-  unfolding with-extras without after replies shared-replies All-powerless
+  unfolding with-extras without afterwards replies shared-replies All-powerless
   isolated [] y p = (refl, refl)
   isolated (e ∷ es) y p = one (e .call) (e .extra) es y (p .0) (isolated es (step (e .call) y) (p .1))
 

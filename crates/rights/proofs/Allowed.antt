@@ -1,4 +1,4 @@
--- A party's call is accepted exactly where it is allowed, by what the question says (calls_laws: `pairs-right`). Assumes nothing.
+-- A party's call replies yes or an insertion exactly where it is allowed, by what the question says (calls_laws: `pairs-right`). Assumes nothing.
 use mathlib.Core.Path.{_≡_, refl, sym, ap, _∙_}
 use mathlib.Core.Bool.{Bool, true, false, _&&_, _||_, not, and-false, or-true, true≢false, false≢true}
 use mathlib.Core.List.{List, [], _∷_, _++_}
@@ -32,7 +32,7 @@ use Rattle.calls.specs.Promise.{Encloses, Current, Asked, Yes-or-no, Pairs-righ
 use Rattle.calls_laws.proofs.Pairs.{pairs-right}
 use Rattle.calls_laws.proofs.Tests.{passes}
 use Rattle.calls_laws.proofs.WordSteps.{said-store, refusal-said, refusal-passed}
-use Rattle.rights.specs.Promise.{accepted, Given, Insertable, Allowed, Allowed-exactly}
+use Rattle.rights.specs.Promise.{was-allowed, Given, Insertable, Allowed, Allowed-exactly}
 
 -- A LIVE GRANT gives the right where a search finds one
 module _ (p x q : ℕ) where
@@ -63,9 +63,9 @@ module _ (p x q : ℕ) where
   held-of : (c : ℕ) (gs : List Grant) → Given p x q c gs → held p x q c gs ≡ true
   held-of c gs h = rw (h .stands) (found (h .before) (h .grant) (h .behind) c (h .lives) (h .right))
 
--- WHAT IS TURNED AWAY is not accepted
-away : (q : QuestionReply) → accepted (turned-away q) ≡ false
-unfolding accepted turned-away
+-- WHAT IS TURNED AWAY was not allowed
+away : (q : QuestionReply) → was-allowed (turned-away q) ≡ false
+unfolding was-allowed turned-away
 away (asking.Refused k) = refl
 away (asking.Answered Yes) = refl
 away (asking.Answered No) = refl
@@ -87,8 +87,8 @@ allowed-by t a (asking.Answered No) e =
 allowed-by t a (asking.Answered Stale) e = absurd (false≢true e)
 
 -- THE INSERTION of an allowed call
-inserted-told : (k : ℕ) (x : TagId) (m h : ℕ) → accepted (inserted-reply (replied inserting.Refused k (inserting.Inserted x m h))) ≡ true → k ≡ 0
-unfolding accepted inserted-reply replied
+inserted-told : (k : ℕ) (x : TagId) (m h : ℕ) → was-allowed (inserted-reply (replied inserting.Refused k (inserting.Inserted x m h))) ≡ true → k ≡ 0
+unfolding was-allowed inserted-reply replied
 inserted-told zero x m h e = refl
 inserted-told (suc k) x m h e = absurd (false≢true e)
 
@@ -133,13 +133,13 @@ module _ (p : ℕ) (a : Act) (c : ℕ) (gs : List Grant) (ws : List ℕ) where
       (refusal-passed ws (λ st. 0) z .0, same)
 
   -- an allowed insertion that is made passes its own tests
-  made : accepted (allowed-reply a ws) ≡ true → a .right ≡ insert-right → Insertable (a .kind) (length ws) (said ws)
+  made : was-allowed (allowed-reply a ws) ≡ true → a .right ≡ insert-right → Insertable (a .kind) (length ws) (said ws)
   unfolding allowed-reply insert-reply insert-refused
   made e r =
       let z = inserted-told (insert-refused (a .kind) d ws) _ _ _ (rw (eq-eqb (a .right) insert-right r) at e) in
       insertable-of (length ws) (a .kind) d (said ws) (refusal-passed ws (insert-refusal (length ws) (a .kind) d) z .1)
 
-  allowed-from : {A : Type 0} → party-refused p a c (length gs) ≡ 0 → held p x (a .right) c gs ≡ true → accepted (allowed-reply a ws) ≡ true → Says ws (said ws) → Yes-or-no (a .pair) d (said ws) A →
+  allowed-from : {A : Type 0} → party-refused p a c (length gs) ≡ 0 → held p x (a .right) c gs ≡ true → was-allowed (allowed-reply a ws) ≡ true → Says ws (said ws) → Yes-or-no (a .pair) d (said ws) A →
       Encloses (said ws) x d ⊎ At-begin a → Allowed p a c gs ws
   allowed-from range granted e says h inside =
       record {
@@ -154,7 +154,7 @@ module _ (p : ℕ) (a : Act) (c : ℕ) (gs : List Grant) (ws : List ℕ) where
         insertable = made e;
       }
 
-  by-answer : party-refused p a c (length gs) ≡ 0 → held p x (a .right) c gs ≡ true → accepted (allowed-reply a ws) ≡ true → (q ≡ asking.Answered Yes) ⊎ ((q ≡ asking.Answered No) × At-begin a) → Allowed p a c gs ws
+  by-answer : party-refused p a c (length gs) ≡ 0 → held p x (a .right) c gs ≡ true → was-allowed (allowed-reply a ws) ≡ true → (q ≡ asking.Answered Yes) ⊎ ((q ≡ asking.Answered No) × At-begin a) → Allowed p a c gs ws
   unfolding Pairs-right
   by-answer range granted e (inl same) =
       let (says, same) = answered Yes same in
@@ -163,11 +163,11 @@ module _ (p : ℕ) (a : Act) (c : ℕ) (gs : List Grant) (ws : List ℕ) where
       let (says, same) = answered No same in
       allowed-from range granted e says (pairs-right (a .pair) d (said ws) .if-no .0 same) (inr begin)
 
-  forward : accepted (party-reply p a c gs ws) ≡ true → Allowed p a c gs ws
-  unfolding party-reply act-reply allowed-reply replied accepted
+  forward : was-allowed (party-reply p a c gs ws) ≡ true → Allowed p a c gs ws
+  unfolding party-reply act-reply allowed-reply replied was-allowed
   forward e = go (party-refused p a c (length gs)) refl e
     where
-      go : (k : ℕ) → party-refused p a c (length gs) ≡ k → accepted (replied acting.Refused k (act-reply (held p x (a .right) c gs) a ws)) ≡ true → Allowed p a c gs ws
+      go : (k : ℕ) → party-refused p a c (length gs) ≡ k → was-allowed (replied acting.Refused k (act-reply (held p x (a .right) c gs) a ws)) ≡ true → Allowed p a c gs ws
       go (suc k) range f = absurd (false≢true f)
       go zero range f =
           by-test (is-allowed (held p x (a .right) c gs) a q)
@@ -188,14 +188,14 @@ module _ (p : ℕ) (a : Act) (c : ℕ) (gs : List Grant) (ws : List ℕ) where
         let outside : Encloses st x d → ⊥ = λ i. let own : place-of st x < place-of st x = rw (begin .1) at (i .0) in omega (arith, own) in
         rw (answers No (pairs-right (a .pair) d st .if-no .1 (record { asked = pair; current = now; unmarked = free; tells = outside })), eq-eqb (a .right) insert-right (begin .0), eq-eqb d x (begin .1))
 
-    goes-in : (a .right ≡ insert-right → Insertable (a .kind) (length ws) st) → accepted (allowed-reply a ws) ≡ true
-    unfolding allowed-reply insert-reply insert-refused inserted-reply accepted replied
+    goes-in : (a .right ≡ insert-right → Insertable (a .kind) (length ws) st) → was-allowed (allowed-reply a ws) ≡ true
+    unfolding allowed-reply insert-reply insert-refused inserted-reply was-allowed replied
     goes-in fits =
         by-test (eqb (a .right) insert-right)
         (λ t. rw (t, refusal-said ws st says (insert-refusal (length ws) (a .kind) d), insertable-test (length ws) (a .kind) d st (pair .other) free (fits (eqb-true _ _ t))))
         (λ t. rw t)
 
-  backward : Allowed p a c gs ws → accepted (party-reply p a c gs ws) ≡ true
+  backward : Allowed p a c gs ws → was-allowed (party-reply p a c gs ws) ≡ true
   unfolding party-reply act-reply replied
   backward h =
       rw (h .in-range, held-of p x (a .right) c gs (h .given), yes-or-begin (h .store) (h .says) (h .asked) (h .current) (h .unmarked) (h .inside))

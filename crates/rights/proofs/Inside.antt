@@ -26,7 +26,7 @@ use Rattle.calls.specs.Insert.{insert-kinds, position, up-at, book-after, inser
 use Rattle.calls.specs.Words.{words-of, Says}
 use Rattle.calls.specs.Replies.{said, insert-refused, insert-reply, insert-words}
 use Rattle.calls.specs.Rights.{party-words}
-use Rattle.calls.specs.Calls.{insert, refusal, changed, Happens}
+use Rattle.calls.specs.Changes.{insert, refusal, changed}
 use Rattle.calls.specs.Promise.{Encloses}
 use Rattle.calls_laws.proofs.Tests.{Sound, sane, facts-of}
 use Rattle.calls_laws.proofs.Sections.{in-row, new-apart, is-tag, mate-fits, begin-first}
@@ -36,8 +36,8 @@ use Rattle.calls_laws.proofs.Inserts.{accepted-row, position-fits}
 use Rattle.calls_laws.proofs.Steps.{kinds-nest, insert-passed, changed-sound}
 use Rattle.calls_laws.proofs.WordSteps.{said-store, refusal-said, says-in-front}
 use Rattle.calls_laws.proofs.Acts.{Acted, act-happened}
-use Rattle.rights.specs.Promise.{accepted, Allowed-exactly, Inside-only}
-use Rattle.rights_laws.proofs.Allowed.{allowed-exactly}
+use Rattle.rights.specs.Promise.{was-allowed, Allowed-exactly, Inside-only}
+use Rattle.rights.proofs.Allowed.{allowed-exactly}
 
 -- ON STORES: k tags behind d, in a section that encloses d or whose begin it is
 module _ {st : Store} (h : Sound st) (w d x : ℕ) (ks : List Kind) (passed : row-refusal w ks d st ≡ 0) (x-fits : x < count st) (d-fits : d < count st)
@@ -103,14 +103,14 @@ inside-of (inr e) = inr (e .1)
 
 -- OVER WORDS: an insertion that a party was replied was allowed, and was made as the insertion makes it
 pub inside-only : Inside-only
-unfolding Inside-only Allowed-exactly Happens Acted accepted Says insert-reply insert-words insert-refused written replied refusal changed
+unfolding Inside-only Allowed-exactly Acted was-allowed Says insert-reply insert-words insert-refused written replied refusal changed
 inside-only p a c x m h gs ws e =
     let d = a .tag .0 in
     let ks = insert-kinds (a .kind) in
-    let allowed = allowed-exactly p a c gs ws .0 (ap accepted e) in
+    let allowed = allowed-exactly p a c gs ws .0 (ap was-allowed e) in
     let st = allowed .store in
     let says = allowed .says in
-    let (reply, new) = act-happened p a c gs (acting.Inserted (record { 0 = x }) m h) ws (party-words p a c gs ws) (sym e, refl) in
+    let (reply, new) = act-happened p a c gs (acting.Inserted (record { 0 = x }) m h) ws (sym e) in
     let (z, same) = replied-accepted inserting.Refused (insert-refused (a .kind) d ws) _ (inserting.Inserted (record { 0 = x }) m h) (λ i f. let n : _≡_ {A = ℕ} 0 1 = cc in omega arith) (sym reply) in
     let number : _≡_ {A = TagId} (record { 0 = count (said ws) }) (record { 0 = x }) = cc in
     let first : count st ≡ x = ap count (sym (said-store ws st says)) ∙ ap (λ t. t .0) number in

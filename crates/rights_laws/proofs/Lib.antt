@@ -1,4 +1,0 @@
-pub mod Isolation
-pub mod Grants
-pub mod Allowed
-pub mod Inside

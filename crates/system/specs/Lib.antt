@@ -1,0 +1,4 @@
+pub mod System
+pub mod Histories
+pub mod Feed
+pub mod Specimens
