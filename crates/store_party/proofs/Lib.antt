@@ -1,4 +1,1 @@
-pub mod Ranges
-pub mod Grants
-pub mod Replied
 pub mod Parties

@@ -1,7 +1,7 @@
 -- `store_c::vk_insert` meets its contract, by that of the entry. Assumes nothing.
 use mathlib.Core.Path.{ap, _∙_}
 use borrow.Author.Needs.{needs}
-use Rattle.store_c.specs.Flat.{c-inserted}
+use Rattle.c_replies.specs.Flat.{c-inserted}
 use Rattle.store_c.proofs.vk_insert.Statement.{statement}
 use Rattle.store_c.proofs.vk_insert.Tie as tie
 

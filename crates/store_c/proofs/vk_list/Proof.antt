@@ -1,7 +1,7 @@
 -- `store_c::vk_list` meets its contract, by that of the entry. Assumes nothing.
 use mathlib.Core.Path.{ap, _∙_}
 use borrow.Author.Needs.{needs}
-use Rattle.store_c.specs.Flat.{c-listed}
+use Rattle.c_replies.specs.Flat.{c-listed}
 use Rattle.store_c.proofs.vk_list.Statement.{statement}
 use Rattle.store_c.proofs.vk_list.Tie as tie
 

@@ -1,7 +1,7 @@
 -- `store_c::vk_xml_kinds` meets its contract, by that of the entry. Assumes nothing.
 use mathlib.Core.Path.{ap, _∙_}
 use borrow.Author.Needs.{needs}
-use Rattle.store_c.specs.Flat.{c-kinds}
+use Rattle.c_replies.specs.Flat.{c-kinds}
 use Rattle.store_c.proofs.vk_xml_kinds.Statement.{statement}
 use Rattle.store_c.proofs.vk_xml_kinds.Tie as tie
 

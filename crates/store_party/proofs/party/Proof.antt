@@ -4,7 +4,7 @@ use borrow.Author.Tests.{not-true, not-false}
 use mathlib.Core.Path.{refl}
 use Rattle.store_types.specs.declared.PartyReply.the-variants.{Refused}
 use Rattle.insert_call.proofs.Replies.{walked}
-use Rattle.store_party.proofs.Replied.{refused-both, accepted-both}
+use Rattle.party_rules.proofs.Replied.{refused-both, accepted-both}
 use Rattle.store_party.proofs.Parties.{not-said, not-allowed, only-yes, inserts}
 use Rattle.store_party.proofs.party.Statement.{statement}
 use Rattle.store_party.proofs.party.Tie as tie
