@@ -21,13 +21,13 @@
  *
  * RIGHTS. A grant says what a party, a number from 1 to 65,535, may do on a section: VK_READ, VK_WRITE, VK_INSERT, added up.
  * Grants stand in a list that the caller lends, with a count beside it: the live ones are the first `count` records. Records
- * behind them, and what stands in live ones, are the caller's: any words are taken. A grant gives a right where its rights,
+ * after them, and what stands in live ones, are the caller's: any words are taken. A grant gives a right where its rights,
  * divided by that right, are odd. vk_grant_add and vk_grant_revoke change the list, vk_party_call acts for a party.
  * A grant names its section by the number of its begin tag, and in a new book that number is another tag's. Whoever keeps
  * grants therefore loads and reads files by vk_load_with_grants and vk_read_file_with_grants, which end all of them.
  *
  * REPLIES. The first field of every reply is the refusal: 0 where the call is accepted. Where it is not 0, every other
- * field is 0 and no lent word or byte is changed. An accepted call changes no word or byte behind those it writes.
+ * field is 0 and no lent word or byte is changed. An accepted call changes no word or byte after those it writes.
  *
  * POINTERS. Each pointer is followed by how many elements it points to. It must be aligned and must not be null, even where
  * that number is 0; what a call writes must not overlap anything else that is lent to it. Calls that are lent nothing in
@@ -183,12 +183,12 @@ typedef struct vk_party {
 vk_loaded vk_load(uint32_t s, uint32_t r, uint32_t book, const uint8_t *kinds, size_t kinds_len, uint32_t *words,
                   size_t words_len);
 
-/* Inserts an element (VK_BEGIN: a begin, and its end behind it) or a text (VK_TEXT) right behind the tag `place`, or at the
+/* Inserts an element (VK_BEGIN: a begin, and its end after it) or a text (VK_TEXT) right after the tag `place`, or at the
  * front of the book (VK_FRONT). New tags take the next numbers. Refusals: 1, 2, 4, 8, 9, 6, 7. */
 vk_inserted vk_insert(uint8_t kind, uint32_t place, uint32_t *words, size_t words_len);
 
-/* Inserts a whole sheet: the tags of kinds (VK_BEGIN, VK_END, VK_TEXT), in their order, right behind the tag `place`, or at
- * the front of the book (VK_FRONT). The labels are those that single insertions give, each tag behind the one before; mates
+/* Inserts a whole sheet: the tags of kinds (VK_BEGIN, VK_END, VK_TEXT), in their order, right after the tag `place`, or at
+ * the front of the book (VK_FRONT). The labels are those that single insertions give, each tag after the one before; mates
  * and ups follow the nesting of the kinds, and the top of the sheet has the up that a text at the place would have. New tags
  * take the next numbers in the order of the kinds. The stamp rises by 1, however many they are. The call walks over the book
  * once, where single insertions walk over it once each. With kinds_len 0 an accepted call changes no word, not the stamp
@@ -209,16 +209,16 @@ vk_answered vk_question(uint32_t book, uint32_t tag, uint32_t start, uint32_t en
                         size_t words_len);
 
 /* The unmarked tags strictly inside the element of a begin, or of the whole book (VK_FRONT), in book order: numbers into
- * tags, labels into labels. Elements behind them stay as they are. Refusals: 1, 2, 8, 9, 10, 11. */
+ * tags, labels into labels. Elements after them stay as they are. Refusals: 1, 2, 8, 9, 10, 11. */
 vk_listed vk_list(uint32_t begin, const uint32_t *words, size_t words_len, uint32_t *tags, size_t tags_len,
                   uint32_t *labels, size_t labels_len);
 
-/* Writes the book of the words as a file. Bytes behind it stay as they are. VK_FILE_BYTES(n) bytes suffice for a book of n
+/* Writes the book of the words as a file. Bytes after it stay as they are. VK_FILE_BYTES(n) bytes suffice for a book of n
  * tags. It takes no more stack than the calls above, under 10 KB. Refusals: 1, 2, 16. */
 vk_written vk_write_file(const uint32_t *words, size_t words_len, uint8_t *bytes, size_t bytes_len);
 
-/* Makes the words the store of a file, whatever they held before, its stamp too; words behind it stay as they are. The bytes
- * must be the whole file and nothing behind it: where they came out of a longer buffer, lend as many as writing replied.
+/* Makes the words the store of a file, whatever they held before, its stamp too; words after it stay as they are. The bytes
+ * must be the whole file and nothing after it: where they came out of a longer buffer, lend as many as writing replied.
  * Refusals: 15, by the bytes alone; 1; then 2, which is everything else: also tags out of order, doubled or unknown, and
  * over VK_MOST_TAGS of them. A file is judged before a word is written. For that the call takes about 32 KB of stack, and
  * about 0.43 MB for a file in which more than 1,024 begins are open at once. */
@@ -244,19 +244,19 @@ vk_revoked vk_grant_revoke(uint32_t party, uint32_t section, vk_grant *grants, s
 /* A call of a party, which shows a held pair (book, tag, start, end as vk_hold replied them), a tag d and one right; kind is
  * looked at with VK_INSERT alone. It is allowed where some live grant of the party on the pair's section gives the right, and
  * vk_question would reply VK_YES for d; with VK_INSERT also where d is the section's own begin, so that something goes right
- * behind it. With VK_INSERT the text (VK_TEXT) or element (VK_BEGIN) is then inserted behind d, as vk_insert does it; with any
+ * after it. With VK_INSERT the text (VK_TEXT) or element (VK_BEGIN) is then inserted after d, as vk_insert does it; with any
  * other right nothing is written, and VK_YES is replied. An insertion may make the pair stale, also the party's own.
  * In order: 17; 1, 2, stale, 8, 10, stale, 9 as in vk_question; 18 where it is not allowed; with VK_INSERT 4, 6, 7. */
 vk_party vk_party_call(uint32_t party, uint32_t book, uint32_t tag, uint32_t start, uint32_t end, uint32_t d, uint32_t right,
                        uint8_t kind, const vk_grant *grants, size_t grants_len, size_t count, uint32_t *words,
                        size_t words_len);
 
-/* Reads a sheet and writes its kinds (VK_BEGIN, VK_END, VK_TEXT) in book order; bytes behind them stay as they are. A list
+/* Reads a sheet and writes its kinds (VK_BEGIN, VK_END, VK_TEXT) in book order; bytes after them stay as they are. A list
  * of text_len bytes suffices for every sheet. There is no limit of VK_MOST_TAGS here: vk_load and vk_insert_sheet have it.
  * A sheet is XML 1.0 (fifth edition) cut down to its content: data, the references &lt; &gt; &amp; &apos; &quot;, CDATA
  * sections, comments and elements, in any number, of the bytes 9, 10, 13 and 32 to 127. A text is a longest run of data,
  * references and CDATA sections, blank ones too; tags and comments end it. The empty sheet has no kinds.
- * Refusals: 12, 13 and 14, by the first construct that cannot be completed or does not fit, and nothing behind it counts;
+ * Refusals: 12, 13 and 14, by the first construct that cannot be completed or does not fit, and nothing after it counts;
  * 12 at the end of the text, where an element is still open; then 11. */
 vk_kinds vk_xml_kinds(const uint8_t *text, size_t text_len, uint8_t *kinds, size_t kinds_len);
 

@@ -4,7 +4,7 @@
 //! # Safety
 //!
 //! Of every function: each pointer is aligned and not null, even where its length is 0, and points to as many elements
-//! as the length behind it says; what a call writes overlaps nothing else that is lent to it.
+//! as the length after it says; what a call writes overlaps nothing else that is lent to it.
 
 #![no_std]
 

@@ -41,7 +41,7 @@ pub enum Ask {
     Read,
     /// To write its value.
     Write,
-    /// To insert a text, or an element by [`Kind::Begin`], right behind the tag.
+    /// To insert a text, or an element by [`Kind::Begin`], right after the tag.
     Insert(Kind),
 }
 
@@ -103,7 +103,7 @@ impl<'a> Grants<'a> {
         self.count
     }
 
-    /// The whole list: the live grants, and what stands behind them.
+    /// The whole list: the live grants, and what stands after them.
     pub fn records(&self) -> &[Grant] {
         self.list
     }
@@ -147,7 +147,7 @@ impl<'a> Grants<'a> {
     }
 
     /// A call of a party, which shows a held pair: allowed where a live grant gives it the right on the pair's section and the
-    /// section encloses the tag; an insertion also right behind the section's begin.
+    /// section encloses the tag; an insertion also right after the section's begin.
     pub fn call(&self, store: &mut Store, party: u32, pair: &HeldPair, tag: Tag, ask: Ask) -> Result<Access, Refusal> {
         let (right, kind) = match ask {
             Ask::Read => (Rights::READ, 0),

@@ -122,7 +122,7 @@ impl fmt::Display for Refusal {
             Refusal::TooDeep => "the sheet is too deep: at most 64 elements may be open at once",
             Refusal::NotRead => "the sheet has a <? or a <!DOCTYPE, which are not read: take it out",
             Refusal::NotAFile => {
-                "the bytes are no file: give the whole file and nothing behind it, as many bytes as writing replied"
+                "the bytes are no file: give the whole file and nothing after it, as many bytes as writing replied"
             }
             Refusal::TooFewBytes => "too few bytes are lent: the file of n tags has bytes_for(n) of them",
             Refusal::OutOfRange => {

@@ -3,7 +3,7 @@
 use crate::refusal::Refusal;
 
 /// Reads a sheet, XML 1.0 cut down, and writes its kinds into the list as bytes: 1 a begin, 2 an end, 3 a text, as the
-/// variants of [`Kind`](crate::Kind) are numbered. Their number is replied, and what stands behind them stays; a refused
+/// variants of [`Kind`](crate::Kind) are numbered. Their number is replied, and what stands after them stays; a refused
 /// call leaves the whole list. A list as long as the text suffices for every sheet.
 ///
 /// A sheet is content: data, the references `&lt; &gt; &amp; &apos; &quot;`, CDATA sections, comments and elements, at most

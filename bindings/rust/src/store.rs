@@ -33,9 +33,9 @@ impl<'a> Store<'a> {
     }
 
     /// The store of a file over lent words, whatever they held before, and how many tags and what height it has. Words
-    /// behind the book stay; where the file is refused, all stay.
+    /// after the book stay; where the file is refused, all stay.
     ///
-    /// The bytes are the whole file and nothing behind it: of a longer buffer, as many as [`Store::write_to`] replied. The
+    /// The bytes are the whole file and nothing after it: of a longer buffer, as many as [`Store::write_to`] replied. The
     /// call takes about 32 KB of stack, and about 0.43 MB for a file in which more than 1,024 begins are open at once.
     ///
     /// ```
@@ -95,7 +95,7 @@ impl<'a> Store<'a> {
         self.insert(Kind::Text, place, 1)
     }
 
-    /// Inserts an element: a begin, and its end right behind it.
+    /// Inserts an element: a begin, and its end right after it.
     pub fn insert_element(&mut self, place: Place) -> Result<Inserted, Refusal> {
         self.insert(Kind::Begin, place, 2)
     }
@@ -109,7 +109,7 @@ impl<'a> Store<'a> {
     }
 
     /// Inserts a whole sheet by one call: the tags of these kinds in their order, which nest as the kinds do. The labels are
-    /// those that single insertions give, each tag behind the one before, and the whole takes about as long as one of them.
+    /// those that single insertions give, each tag after the one before, and the whole takes about as long as one of them.
     /// An empty sheet changes nothing.
     ///
     /// ```
@@ -188,7 +188,7 @@ impl<'a> Store<'a> {
     }
 
     /// The same without allocation: the tags and the labels go into two lent lists, and their number is replied. What
-    /// stands behind them stays.
+    /// stands after them stays.
     pub fn list_into(&self, within: Within, tags: &mut [Tag], labels: &mut [Label]) -> Result<usize, Refusal> {
         // SAFETY: the pointers and lengths are those of slices, of which two are lent mutably and one is only read. A
         // tag or a label is one word, and the tags written are numbers that the store has issued.
@@ -207,7 +207,7 @@ impl<'a> Store<'a> {
         Ok(reply.count as usize)
     }
 
-    /// Writes the book as a file, and replies how many bytes it has: [`bytes_for`] the tags issued. Bytes behind it stay. The
+    /// Writes the book as a file, and replies how many bytes it has: [`bytes_for`] the tags issued. Bytes after it stay. The
     /// file is the same on every machine, and [`Store::read_from`] makes the same words of it.
     pub fn write_to(&self, bytes: &mut [u8]) -> Result<usize, Refusal> {
         // SAFETY: both pointers and lengths are those of slices, of which one is lent mutably and one is only read.

@@ -98,7 +98,7 @@ impl TryFrom<u8> for Kind {
 pub enum Place {
     /// Before every tag.
     Front,
-    /// Right behind a tag: behind a begin, that is inside its element.
+    /// Right after a tag: after a begin, that is inside its element.
     After(Tag),
 }
 

@@ -9,9 +9,11 @@ use borrow.Author.Tests.{eqb-true, eqb-false}
 use lib.Dec.{eqb}
 use lib.ListN.{length, take, drop, length-map}
 use Rattle.lists.specs.Lists.{same}
-use Rattle.console.specs.Line.{fields, number-of, is-letter, all-letters, letter-kind, load-of, command-of, unknown, plain, load-word}
-use Rattle.console.specs.Scan.{first-space}
-use Rattle.console.specs.Post.{Lettered, Gives}
+use Rattle.console_fields.specs.Field.{number-of, is-letter, all-letters, letter-kind}
+use Rattle.console.specs.Line.{fields, load-of, command-of, unknown, plain, load-word}
+use Rattle.console_fields.specs.Scan.{first-space}
+use Rattle.console_fields.specs.Post.{Lettered}
+use Rattle.console.specs.Post.{Gives}
 use Rattle.console.specs.declared.Command.the-variants.{Load}
 use Rattle.console.proofs.Splits.{first-space-within, fields-one, fields-more, behind-first, field-within, field-last, field-next, field-first, rest-of}
 use Rattle.console.proofs.Words.{gives-kinds}

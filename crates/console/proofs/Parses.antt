@@ -7,7 +7,7 @@ use native.Mathlib.Omega.{arith}
 use lib.ListN.{length, drop}
 use Rattle.lists.specs.Lists.{same}
 use Rattle.console.specs.Line.{Parsed, fields, command-of, parsed, unknown, load-word, line-limit}
-use Rattle.console.specs.Scan.{first-space}
+use Rattle.console_fields.specs.Scan.{first-space}
 use Rattle.console.specs.Post.{Gives}
 use Rattle.console.specs.declared.Command.{Command}
 use Rattle.lists.proofs.Same.{same-equal}

@@ -10,7 +10,7 @@ use lib.ListN.{length, take, drop, length-drop}
 use lib.Seq.{take-all, drop-drop}
 use Rattle.lists.specs.Lists.{with-first}
 use Rattle.console.specs.Line.{fields}
-use Rattle.console.specs.Scan.{first-space}
+use Rattle.console_fields.specs.Scan.{first-space}
 
 pub first-space-within : (cs : List ℕ) → first-space cs ≤ length cs
 unfolding first-space

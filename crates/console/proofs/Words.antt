@@ -9,12 +9,13 @@ use borrow.Author.Tests.{lt-ltb, le-ltb}
 use lib.ListN.{length, take}
 use Rattle.store_types.specs.Limits.{no-tag}
 use Rattle.lists.specs.Lists.{same}
-use Rattle.console.specs.Line.{Parsed, fields, parsed, line-limit, load-word, number-of, number-or-front, insert-of, mark-of, command-of, unknown, plain, list-word, element-word, text-word, mark-word, front-word}
-use Rattle.console.specs.Scan.{number-reply}
+use Rattle.console_fields.specs.Field.{number-of}
+use Rattle.console.specs.Line.{Parsed, fields, parsed, line-limit, load-word, number-or-front, insert-of, mark-of, command-of, unknown, plain, list-word, element-word, text-word, mark-word, front-word}
+use Rattle.console_fields.specs.Scan.{number-reply}
 use Rattle.console.specs.Post.{Gives}
 use Rattle.console.specs.declared.Command.{Command}
 use Rattle.console.specs.declared.Command.the-variants.{Insert, Mark, List as List-all, Unknown}
-use Rattle.console.specs.declared.numbers.Number.the-variants.{Value, Not}
+use Rattle.console_fields.specs.declared.numbers.Number.the-variants.{Value, Not}
 
 -- A COMMAND with its kinds, and one that has none
 pub gives-kinds : {p : Parsed} {c : Command} {xs ks : List ℕ} → p ≡ record { command = c; kinds = xs } → take (length xs) ks ≡ xs → Gives p c ks

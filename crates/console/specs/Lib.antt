@@ -1,4 +1,3 @@
 pub mod Line
-pub mod Scan
 pub mod Post
 pub mod Specimens

@@ -1,14 +1,7 @@
 // Lines of the book program: a line of bytes to a command (document 01, "The book program").
-mod fields;
-mod letters;
 mod lines;
-mod numbers;
 
-pub use fields::field_end;
-pub use fields::same_bytes;
 pub use lines::parse;
-pub use numbers::Number;
-pub use numbers::read_number;
 use store_types::TagId;
 
 // A line over this many bytes is none; its line feed does not count.

@@ -1,11 +1,11 @@
 // Lines: the fields of one, and the command that they say.
 use crate::Command;
 use crate::LINE_LIMIT;
-use crate::fields::field_end;
-use crate::fields::same_bytes;
-use crate::letters::letters;
-use crate::numbers::Number;
-use crate::numbers::read_number;
+use console_fields::Number;
+use console_fields::field_end;
+use console_fields::letters::letters;
+use console_fields::read_number;
+use console_fields::same_bytes;
 use store_types::BEGIN;
 use store_types::TEXT;
 use store_types::TagId;
@@ -14,7 +14,7 @@ ghost use mathlib.Core.List.{[], _∷_};
 ghost use Prim.Native.Nat.{_≤_};
 ghost use lib.ListN.{length};
 ghost use Rattle.console.specs.Line.{parsed, fields, command-of, number-or-front, load-word};
-ghost use Rattle.console.specs.Scan.{number-reply};
+ghost use Rattle.console_fields.specs.Scan.{number-reply};
 ghost use Rattle.console.specs.Post.{Gives};
 
 // A number, or `front`, which is no tag.

@@ -42,7 +42,7 @@ use Rattle.calls_laws.proofs.Fields.{length-words}
 use Rattle.calls_laws.proofs.FileCalls.{file-fits, Was-read, read-accepted}
 use Rattle.calls_laws.proofs.Acts.{Acted, act-happened}
 use Rattle.calls_laws.proofs.Room.{load-fits, changed-fits}
-use Rattle.system.specs.System.{System, Reading, hold, ask, list, write, Keeping, grant, revoke, lend, Call, changes, reads, keeps, acts, restores, load-with-grants, restore-with-grants, Reply, inserted, acted, finding-numbers, kept-numbers, numbers-of, refusal-in, accepted, change-reply, change-words, finding, reading-lists, keeping, kept-grants, kept-count, reply, with-words, ended-by, step}
+use Rattle.system.specs.System.{System, Reading, hold, ask, list, write, Keeping, grant, revoke, lend, Call, changes, reads, keeps, acts, restores, load-with-grants, restore-with-grants, Reply, inserted, acted, finding-numbers, keeping-numbers, numbers-of, refusal-in, accepted, change-reply, change-words, finding, reading-lists, keeping, kept-grants, kept-count, reply, with-words, ended-by, step}
 use Rattle.system.specs.Feed.{party-inserted, acted-in}
 use Rattle.demands.specs.Words.{Fronted}
 use Rattle.demands.specs.Promise.{writes-words, Filling, fillings, All-fronted, Lists-right, Call-right, Every-call, Every-reading}
@@ -160,9 +160,9 @@ lists-right (write bs) ws =
     (λ z. (write-room ws bs z, tt))
 
 -- GRANTS: a refused call leaves the list and the count
-grants-stay : (k : Keeping) (y : System) → eqb (refusal-in (kept-numbers (keeping k y))) 0 ≡ false →
+grants-stay : (k : Keeping) (y : System) → eqb (refusal-in (keeping-numbers (keeping k y))) 0 ≡ false →
     (kept-grants k y ≡ y .grants) × (kept-count k y ≡ y .count)
-unfolding keeping kept-numbers kept-grants kept-count refusal-in grant-reply grant-list grant-count revoke-reply revoke-list revoke-count grant-numbers revoke-numbers headD
+unfolding keeping keeping-numbers kept-grants kept-count refusal-in grant-reply grant-list grant-count revoke-reply revoke-list revoke-count grant-numbers revoke-numbers headD
 grants-stay (grant p x q) y e =
     let k = grant-refused p x q (y .count) (length (y .grants)) (y .words) in
     let told = rw (first-number granting.Refused grant-numbers k (granting.Granted (suc (y .count))) (λ i. refl) refl) at e in

@@ -7,7 +7,7 @@ use native.Mathlib.Omega.{arith}
 use lib.ListN.{length, getD, take, drop, length-append}
 use lib.Seq.{take-at, drop-at, getD-append-add}
 use Rattle.store_types.specs.Limits.{no-tag, word-limit, most-tags}
-use Rattle.shape.specs.Tables.{entry}
+use Rattle.powers.specs.Tables.{entry}
 use Rattle.tree.specs.Forest.{Forest, nil, leaf, node, labels}
 use Rattle.tree.specs.Grown.{path}
 use Rattle.tree_laws.proofs.Ancestors.{getD-middle}

@@ -12,7 +12,8 @@ use lib.Seq.{getD-append-add}
 use Rattle.store_types.specs.Limits.{no-tag, label-limit}
 use Rattle.store_types.specs.Layout.{label-at}
 use Rattle.lists.proofs.Tests.{by-test}
-use Rattle.shape.specs.Tables.{entry, widths-of, highs-of, table-length}
+use Rattle.powers.specs.Tables.{entry, table-length}
+use Rattle.shape.specs.Tables.{widths-of, highs-of}
 use Rattle.shape.specs.Sums.{cut}
 use Rattle.shape.proofs.Sums.{cut-below}
 use Rattle.tree.specs.Good.{Good}

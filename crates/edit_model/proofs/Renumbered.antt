@@ -8,7 +8,7 @@ use native.Mathlib.Omega.{arith}
 use lib.ListN.{length, getD, take, drop, length-append, length-drop, length-map, List·getD-append}
 use lib.Seq.{length-take-le, getD-append-add, drop-drop}
 use Rattle.store_types.specs.Limits.{no-tag, most-tags}
-use Rattle.shape.specs.Tables.{entry}
+use Rattle.powers.specs.Tables.{entry}
 use Rattle.tree.specs.Forest.{labels}
 use Rattle.tree.specs.Grown.{path}
 use Rattle.tree_laws.proofs.Ancestors.{getD-middle}

@@ -17,8 +17,9 @@ use Rattle.lists.specs.Lists.{numbers}
 use Rattle.lists.proofs.Tests.{by-test}
 use Rattle.lists.proofs.Numbers.{length-numbers}
 use Rattle.lists.specs.Fronts.{in-front}
-use Rattle.shape.specs.Tables.{entry, widths-of}
-use Rattle.shape.proofs.TableLaws.{table-at}
+use Rattle.powers.specs.Tables.{entry}
+use Rattle.shape.specs.Tables.{widths-of}
+use Rattle.powers.proofs.TableLaws.{table-at}
 use Rattle.words.specs.Places.{up-word}
 use Rattle.tree.specs.Row.{member, insert-at}
 use Rattle.tree.specs.Forest.{size}

@@ -8,7 +8,8 @@ use lib.ListN.{length, take, drop, replicate, set}
 use Rattle.store_types.specs.Limits.{no-tag}
 use Rattle.store_types.specs.Layout.{at-s, at-r, at-height, at-count, at-first, at-stamp, header-words, at-next, at-prior, record-list, word-at, words-for, label-at, with-field}
 use Rattle.words.specs.Places.{behind, up-word, watched-label}
-use Rattle.shape.specs.Tables.{entry, widths-of, highs-of, table-length}
+use Rattle.powers.specs.Tables.{entry, table-length}
+use Rattle.shape.specs.Tables.{widths-of, highs-of}
 use Rattle.tree.specs.Forest.{labels}
 use Rattle.tree.specs.Grown.{path, in-node, height-for}
 use Rattle.calls.specs.Kind.{Kind, kind-word}

@@ -1,10 +1,14 @@
--- Labels written along next. Follows the code of crate renumber. Assumes nothing: these are definitions.
+-- Labels written along next. Follows the code of crates relabel and renumber. Assumes nothing: these are definitions.
 use mathlib.Core.Bool.{_||_, cond}
 use mathlib.Core.List.{List, [], _∷_}
 use Prim.Native.Nat.{ℕ, zero, suc, _+_}
 use lib.Dec.{leb, eqb}
 use Rattle.shape.specs.Sums.{cut}
-use Rattle.store_types.specs.Layout.{at-next, at-kind, field, label-at, with-label}
+use Rattle.store_types.specs.Layout.{at-next, at-kind, at-count, field, label-at, with-label, word-at}
+
+-- how many tags there are
+abbrev pub issued : List ℕ → ℕ
+issued ws = word-at ws at-count
 
 -- the words afterwards, and how many unmarked tags held another label before
 pub record Relabelled : Type 0 where

@@ -1,11 +1,11 @@
--- The splits of an insertion by the sizes of the ancestors of a place. Follows the code of crate renumber.
+-- The splits of an insertion by the sizes of the ancestors of a place. Follows the code of crate splits.
 -- Assumes nothing: these are definitions.
 use mathlib.Core.Bool.{_||_, cond}
 use mathlib.Core.List.{List}
 use Prim.Native.Nat.{ℕ, zero, suc, _+_}
 use lib.Dec.{leb, ltb}
 use Rattle.store_types.specs.Layout.{at-prior, field, label-at}
-use Rattle.shape.specs.Tables.{entry}
+use Rattle.powers.specs.Tables.{entry}
 
 -- the highest height from h on whose ancestor comes to its limit with k leaves more; `left` heights are left below the
 -- root, and `found` is the one below h

@@ -1,4 +1,1 @@
-pub mod TagRows
-pub mod OpenLaws
-pub mod JudgeLaws
 pub mod WholeLaws

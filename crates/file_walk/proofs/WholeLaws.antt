@@ -9,7 +9,8 @@ use lib.ListN.{length, replicate}
 use Rattle.store_types.specs.Limits.{most-levels, most-tags}
 use Rattle.store_types.specs.Layout.{at-version, at-s, at-r, at-height, at-count, at-first, header-words, word-at, words-for}
 use Rattle.words.proofs.Fields.{header-fits}
-use Rattle.shape.specs.Tables.{table, widths-of, table-length}
+use Rattle.powers.specs.Tables.{table, table-length}
+use Rattle.shape.specs.Tables.{widths-of}
 use Rattle.shape.specs.Packed.{Packed, widths-in, numbers-in}
 use Rattle.shape.specs.Needs.{Root-fits, Widths-fit, degree-fits, frame-passes, root-passes}
 use Rattle.shape.proofs.HeaderLaws.{frame-s, frame-r, frame-height, frame-levels, frame-count, frame-labels}
@@ -23,8 +24,9 @@ use Rattle.walk.specs.Needs.{Pass-fits, shape-in, start-with}
 use Rattle.walk.proofs.SoundLaws.{s-of, r-of, h-of, n-of, Frame, framed-fits, width-table, root-fits, ancestors-fit, pass-fits, root-refuses, pass-decides}
 use Rattle.file_model.specs.Judge.{met-before, in-order, judged}
 use Rattle.file_model.proofs.Rows.{length-file-words}
-use Rattle.file_walk.specs.Needs.{Said-by, order-left}
-use Rattle.file_walk.proofs.JudgeLaws.{header-said}
+use Rattle.file_pass.specs.Needs.{order-left}
+use Rattle.file_pass.proofs.JudgeLaws.{header-said}
+use Rattle.file_walk.specs.Needs.{Said-by}
 
 -- THE WORDS THAT A FILE SAYS have its header
 pub said-by : (bs : List ℕ) → Said-by (header-in bs) (file-words bs)

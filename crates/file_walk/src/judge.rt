@@ -1,117 +1,30 @@
-// The judging pass over the records of a file, and the whole judgement.
+// The whole judgement of a file: its header, and the pass over its records.
 ghost use mathlib.Core.Path.{_≡_};
 ghost use mathlib.Core.Bool.{cond};
 ghost use mathlib.Core.List.{List};
-ghost use Prim.Native.Nat.{ℕ, _-_, _≤_};
-ghost use lib.Dec.{eqb};
-ghost use lib.ListN.{length, getD};
-ghost use Rattle.store_types.specs.Layout.{at-first, header-words, word-at};
+ghost use Prim.Native.Nat.{ℕ, _≤_};
+ghost use lib.ListN.{length};
+ghost use Rattle.store_types.specs.Layout.{header-words};
 ghost use Rattle.store_types.specs.FileLayout.{file-bytes};
 ghost use Rattle.calls.specs.File.{count-in};
 ghost use Rattle.shape.specs.Needs.{frame-passes};
 ghost use Rattle.file_model.specs.Judge.{judged as judged-so};
-ghost use Rattle.file_walk.specs.Needs.{Judging-fits, first-state, passes-all, few-open, Judged-so, Said-by};
-use crate::tags;
-use number_set::SET_WORDS;
+ghost use Rattle.file_pass.specs.Needs.{Judging-fits, passes-all, Judged-so};
+ghost use Rattle.file_walk.specs.Needs.{few-open, Said-by};
+use file_pass::SOUND;
+use file_pass::TOO_DEEP;
+use file_pass::UNSOUND;
+use file_pass::pass;
 use shape::PACKED_LENGTH;
 use shape::TABLE_LENGTH;
 use store_types::Label;
-use store_types::TagId;
-use store_types::file;
 use walk::Extent;
-use walk::State;
-use words::Offset;
 
 // Places for begins that are open at once, and one for the tag behind them: for the 1,024 of usual books, and for half of
 // all tags that a book can have.
 const FEW_OPEN: usize = 1025;
 
 const MOST_OPEN: usize = 100001;
-
-// What a pass says of a file: that its book is sound; that more begins are open than there are places, which settles
-// nothing; or that it is not sound, by the number of its refusal.
-const SOUND: u32 = 0;
-
-const TOO_DEEP: u32 = 1;
-
-const UNSOUND: u32 = 2;
-
-// Where the innermost open begin stands; of no account where none is open.
-fn top_of(opens: &[u32], depth: usize) -> u32
-    requires { ⌜ depth ≤ length (now opens) ⌝ }
-    ensures { λ p. ⌜ p ≡ cond (eqb depth 0) 0 (getD (now (opens .entry)) (depth - 1) 0) ⌝ }
-{
-    if depth == 0 {
-        return 0;
-    }
-    opens[depth - 1]
-}
-
-// Before the first row.
-fn start(header: &[u32]) -> State
-    requires { ⌜ header-words ≤ length (now header) ⌝ }
-    ensures { λ v. ⌜ v ≡ first-state (word-at (now (header .entry)) at-first) ⌝ }
-{
-    let first = words::first_of(header);
-    State {
-        place: 0,
-        tag: first,
-        at: Offset::of(first),
-        prior: TagId::NONE,
-        parent: TagId::NONE,
-        marks: 0,
-        expect: 0,
-    }
-}
-
-// The pass: one row after the other. Where more begins are open than rows are left, not all can be closed; so no more are ever
-// open than half of the tags.
-fn pass(
-    bytes: &[u8],
-    header: &[u32],
-    size: Extent,
-    widths: [u64; TABLE_LENGTH],
-    tables: &[u64; PACKED_LENGTH],
-    opens: &mut [u32],
-) -> u32
-    requires { ⌜ Judging-fits (now bytes) (now header) (size .n) (size .under) widths (now tables) ⌝ }
-    ensures { λ q. ⌜ Judged-so q (passes-all (now (bytes .entry)) (now (tables .entry)) (size .under) (size .n)) (length (now (opens .entry))) (size .n) ⌝ }
-{
-    let pairs = walk_tags::pairs();
-    let mut met = [0u32; SET_WORDS];
-    let mut ends = widths;
-    let mut firsts = [0u32; TABLE_LENGTH];
-    let mut sizes = [0u32; TABLE_LENGTH];
-    let mut depth: usize = 0;
-    let mut v = start(header);
-    while v.place < size.n {
-        if ((size.n - v.place) as usize) < depth {
-            return UNSOUND;
-        }
-        if opens.len() <= depth {
-            return TOO_DEEP;
-        }
-        if !tags::number_fits(bytes, size.n, v, &mut met) {
-            return UNSOUND;
-        }
-        let label = Label(file_form::row_word(bytes, v.place, file::AT_LABEL));
-        if !tags::label_fits(label, size, v, tables, &mut ends, &mut firsts, &mut sizes) {
-            return UNSOUND;
-        }
-        if !tags::tag_fits(&pairs, bytes, size.n, v, top_of(opens, depth)) {
-            return UNSOUND;
-        }
-        let kind = file_form::row_field(bytes, v.place, words::AT_KIND);
-        // Before the place is written, so that what has been read of the row need not be read again.
-        let behind = tags::passed(bytes, ends[1], v);
-        depth = tags::opened(opens, depth, kind, v.place);
-        v = behind;
-    }
-    if walk::ends_well(header, size, v, tables, &ends, &firsts, &mut sizes) {
-        return SOUND;
-    }
-    UNSOUND
-}
 
 // With places for few open begins.
 fn with_few(

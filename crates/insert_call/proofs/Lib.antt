@@ -1,5 +1,1 @@
-pub mod Rows
-pub mod Tables
-pub mod Accepted
-pub mod Edits
 pub mod Replies

@@ -13,7 +13,7 @@ use Rattle.store_types.specs.Layout.{at-count, at-stamp, header-words, word-at}
 use Rattle.lists.specs.Lists.{first}
 use Rattle.lists.specs.Fronts.{in-front, replied, written}
 use Rattle.lists.proofs.Replied.{replied-refused}
-use Rattle.shape.specs.Tables.{table-length}
+use Rattle.powers.specs.Tables.{table-length}
 use Rattle.calls.specs.Kind.{Kind, kind-of}
 use Rattle.calls.specs.Store.{Store}
 use Rattle.calls.specs.Insert.{insert-refusal, insert-store, insert-sheet-refusal, insert-sheet-store}
@@ -28,8 +28,8 @@ use Rattle.walk_model.specs.Watch.{Tables-at, sizes-at}
 use Rattle.edit_model.specs.Insert.{row-edit, stamped}
 use Rattle.edit_model.proofs.Row.{Edit-right, row-right}
 use Rattle.store_refuse.proofs.Laws.{sound-said, words-first, refused-said, accepted-says}
-use Rattle.insert_call.specs.Needs.{Edits, Accepted}
-use Rattle.insert_call.proofs.Accepted.{says, some-kinds, accepted}
+use Rattle.insert_change.specs.Needs.{Edits, Accepted}
+use Rattle.insert_change.proofs.Accepted.{says, some-kinds, accepted}
 
 -- REFUSED: k is the refusal
 pub refused-all : (ws cs : List ℕ) (y : ℕ) {k : ℕ} → k ≡ insert-sheet-refused cs y ws → (k ≡ 0 → ⊥) → (Refused k ≡ insert-sheet-reply cs y ws) × (ws ≡ insert-sheet-words cs y ws)

@@ -9,7 +9,7 @@ ghost use Rattle.calls.specs.Kind.{kind-of};
 ghost use Rattle.calls.specs.Nesting.{new-facts};
 ghost use Rattle.edit_model.specs.Insert.{linked-place, linked-next, added-row, raised-words};
 ghost use Rattle.insert_link.specs.Needs.{New-row-fits};
-use load_tags::Row;
+use load_record::Row;
 use store_types::TagId;
 
 // Tag n is the first behind a place.

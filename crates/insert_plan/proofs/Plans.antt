@@ -14,7 +14,7 @@ use Rattle.lists.proofs.Tests.{by-test}
 use Rattle.store_types.specs.Layout.{at-count, at-next, at-height, field, label-at, with-label, word-at}
 use Rattle.words.specs.Places.{behind}
 use Rattle.words.proofs.PlaceLaws.{place-in}
-use Rattle.shape.specs.Tables.{entry, entry-limit, table-length}
+use Rattle.powers.specs.Tables.{entry, entry-limit, table-length}
 use Rattle.shape.specs.Packed.{widths-in, lows-in, highs-in, numbers-in, s-in, r-in}
 use Rattle.shape.specs.Sums.{cut}
 use Rattle.shape.proofs.Sums.{labels-cut, cut-small}
@@ -22,14 +22,17 @@ use Rattle.tree.specs.Grown.{in-splits, in-node, path, height-for}
 use Rattle.tree_laws.proofs.Spread.{some-power}
 use Rattle.tree_laws.proofs.PathLaws.{splits-most}
 use Rattle.calls.specs.Words.{follow}
-use Rattle.edit_model.specs.Relabel.{Relabelled, shift}
+use Rattle.edit_model.specs.Relabel.{Relabelled, issued, shift}
 use Rattle.edit_model.specs.Split.{Border, highest-full, left-border}
 use Rattle.edit_model.specs.Insert.{Plan, numbers-at, plain-plan, root-plan, split-plan, plan, applied}
 use Rattle.edit_model.proofs.Kept.{relabel-header}
-use Rattle.renumber.specs.declared.ancestors.Border as border-code
-use Rattle.renumber.specs.Needs.{issued, Row-there, Row-numbered, Path-fit, Numbers-fit, Border-is, path-numbered}
-use Rattle.renumber.proofs.Rows.{moved-one}
-use Rattle.renumber.proofs.Paths.{splits-lower, path-moved}
+use Rattle.relabel.specs.Needs.{Row-there, Row-numbered}
+use Rattle.relabel.proofs.Rows.{moved-one}
+use Rattle.splits.specs.declared.Border as border-code
+use Rattle.splits.specs.Needs.{Path-fit, Border-is}
+use Rattle.splits.proofs.Cuts.{splits-lower}
+use Rattle.renumber.specs.Needs.{Numbers-fit, path-numbered}
+use Rattle.renumber.proofs.Paths.{path-moved}
 use Rattle.insert_plan.specs.Parts.{border-record, next-label, inner-plan}
 use Rattle.insert_plan.specs.Needs.{Plain-reads, Node-fits, Split-fits, Plan-reads, Applicable}
 

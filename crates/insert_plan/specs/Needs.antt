@@ -5,11 +5,14 @@ use Prim.Native.Nat.{ℕ, pred, _+_, _≤_}
 use Rattle.store_types.specs.Limits.{most-tags}
 use Rattle.store_types.specs.Layout.{at-height, word-at, Records}
 use Rattle.words.specs.Places.{Tag-or-none, Place-there, behind}
-use Rattle.shape.specs.Tables.{entry, entry-limit, table-top}
+use Rattle.powers.specs.Tables.{entry, entry-limit, table-top}
 use Rattle.shape.specs.Packed.{widths-in, highs-in, numbers-in}
 use Rattle.shape.specs.Sums.{cut}
+use Rattle.edit_model.specs.Relabel.{issued}
 use Rattle.edit_model.specs.Insert.{Plan, numbers-at}
-use Rattle.renumber.specs.Needs.{issued, Row-there, Splits-fit, Path-fit, Numbers-fit}
+use Rattle.relabel.specs.Needs.{Row-there}
+use Rattle.splits.specs.Needs.{Splits-fit, Path-fit}
+use Rattle.renumber.specs.Needs.{Numbers-fit}
 
 -- A PLAN of k tags is made: a place y, the number of its parent, and the widths
 pub record Plain-reads (ws : List ℕ) (y k parent : ℕ) (tables : List ℕ) : Type 0 where

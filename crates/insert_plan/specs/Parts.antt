@@ -5,12 +5,12 @@ use Prim.Native.Nat.{ℕ, _+_}
 use lib.Dec.{eqb}
 use Rattle.store_types.specs.Limits.{no-tag}
 use Rattle.store_types.specs.Layout.{label-at}
-use Rattle.shape.specs.Tables.{entry}
+use Rattle.powers.specs.Tables.{entry}
 use Rattle.shape.specs.Packed.{widths-in, highs-in, s-in, r-in}
 use Rattle.shape.specs.Sums.{cut}
 use Rattle.edit_model.specs.Split.{Border, highest-full, left-border}
 use Rattle.edit_model.specs.Insert.{Plan, numbers-at, plain-plan, split-plan}
-use Rattle.renumber.specs.declared.ancestors.Border as border-code
+use Rattle.splits.specs.declared.Border as border-code
 use Rattle.insert_plan.specs.declared.Plan as code
 
 -- PLANS AND BORDERS: the structs of the code as the records of the mirror

@@ -3,18 +3,18 @@ ghost use mathlib.Core.Path.{_≡_};
 ghost use Prim.Native.Nat.{pred, _+_, _-_, _≤_};
 ghost use Rattle.store_types.specs.Layout.{at-height, word-at};
 ghost use Rattle.words.specs.Places.{Place-there};
-ghost use Rattle.shape.specs.Tables.{entry-limit};
+ghost use Rattle.powers.specs.Tables.{entry-limit};
 ghost use Rattle.shape.specs.Packed.{widths-in, highs-in, numbers-in, s-in, r-in};
 ghost use Rattle.tree.specs.Grown.{in-node};
+ghost use Rattle.edit_model.specs.Relabel.{issued};
 ghost use Rattle.edit_model.specs.Split.{left-border};
 ghost use Rattle.edit_model.specs.Insert.{plain-plan, split-plan, root-plan, applied};
-ghost use Rattle.renumber.specs.Needs.{issued};
 ghost use Rattle.insert_plan.specs.Parts.{plan-record, border-record, next-label, inner-plan};
 ghost use Rattle.insert_plan.specs.Needs.{Plain-reads, Node-fits, Split-fits, Root-reads, Plan-reads, Applicable};
 use renumber::Cursor;
-use renumber::ancestors::Border;
 use shape::PACKED_LENGTH;
 use shape::TABLE_LENGTH;
+use splits::Border;
 use store_types::TagId;
 
 // From the tag behind `left` on, `count` tags as trees of a height from a number on, complete but for the cursor's, which has
@@ -72,7 +72,7 @@ fn plain_plan(
         cursor: k,
         rest: 0,
         bound: shape::sum(parent, shape::tables::width(tables, 1)),
-        by: shape::cut(k * width),
+        by: shape::times(k, width),
     }
 }
 
@@ -83,7 +83,7 @@ fn in_node(h: usize, l: u64, k: u64, tables: &[u64; PACKED_LENGTH]) -> u64
     ensures { λ t. ⌜ t ≡ in-node (s-in (now (tables .entry))) (r-in (now (tables .entry))) h l k ⌝ }
 {
     let first = less(shape::tables::high(tables, h), l);
-    first + renumber::in_splits(less(k, first), h, tables)
+    first + splits::in_splits(less(k, first), h, tables)
 }
 
 // The ancestor of height h over l tags is split: its right siblings are shifted by the trees that it becomes but one. `border` is the
@@ -94,7 +94,7 @@ fn split_plan(h: usize, l: u64, k: u64, border: Border, tables: &[u64; PACKED_LE
 {
     let split = in_node(h, l, k, tables);
     let trees = (l + split) / shape::tables::low(tables, h);
-    let by = shape::cut(less(trees, 1) * shape::tables::width(tables, h));
+    let by = shape::times(less(trees, 1), shape::tables::width(tables, h));
     let end = shape::sum(
         shape::tables::number(tables, h + 1),
         shape::tables::width(tables, h + 1),
@@ -124,7 +124,7 @@ pub fn root_plan(
     ensures { λ p. ⌜ plan-record p ≡ root-plan (s-in (now (tables .entry))) (r-in (now (tables .entry))) h (issued (now (words .entry))) k (left-border (issued (now (words .entry))) (issued (now (words .entry))) (now (words .entry)) 0 (place .0)) ⌝ }
 {
     let n = words::count_of(words) as u64;
-    let border = renumber::ancestors::left_border(words, 0, place);
+    let border = splits::left_border(words, 0, place);
     let split = in_node(h, n, k as u64, tables);
     Plan {
         height: h,
@@ -151,13 +151,13 @@ pub fn inner_plan(
     ensures { λ p. ⌜ plan-record p ≡ inner-plan (now (words .entry)) (now (tables .entry)) (now (sizes .entry)) (issued (now (words .entry))) k (pred (word-at (now (words .entry)) at-height)) (place .0) ⌝ }
 {
     let under = words::height_of(words) as usize - 1;
-    let h = renumber::ancestors::highest_full(k, under, tables, sizes);
+    let h = splits::highest_full(k, under, tables, sizes);
     if h == 0 {
         let parent = shape::tables::number(tables, 1);
         return plain_plan(words, place, k as u64, parent, tables);
     }
     let low = shape::tables::number(tables, h);
-    let border = renumber::ancestors::left_border(words, low, place);
+    let border = splits::left_border(words, low, place);
     split_plan(h, sizes[h] as u64, k as u64, border, tables)
 }
 
@@ -176,5 +176,5 @@ pub fn apply(words: &mut [u32], p: Plan, tables: &[u64; PACKED_LENGTH]) -> u32
     };
     let q = renumber::number_path(words, p.height, first, start, p.count, cursor, tables);
     let next = q.next;
-    q.moved + renumber::shift(words, next, p.bound, p.by)
+    q.moved + relabel::shift(words, next, p.bound, p.by)
 }

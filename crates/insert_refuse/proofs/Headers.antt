@@ -8,8 +8,8 @@ use lib.ListN.{length}
 use Rattle.store_types.specs.Limits.{most-tags, most-levels}
 use Rattle.lists.proofs.Tests.{and-left}
 use Rattle.store_types.specs.Layout.{at-s, at-r, at-height, at-count, header-words, word-at, words-for}
-use Rattle.shape.proofs.TableLaws.{table-at}
-use Rattle.shape.specs.Tables.{entry, table}
+use Rattle.powers.proofs.TableLaws.{table-at}
+use Rattle.powers.specs.Tables.{entry, table}
 use Rattle.shape.specs.Needs.{Search-fits}
 use Rattle.words.proofs.Fields.{header-fits}
 use Rattle.shape.proofs.Fits.{Fits, degrees-product, highs-fit}

@@ -19,7 +19,8 @@ use Rattle.calls.specs.Store.{Store, label}
 use Rattle.calls.specs.Listing.{inside-tests, list-refusal, listed-tags, listed-labels}
 use Rattle.calls.specs.Words.{read}
 use Rattle.calls.specs.Replies.{on-store, refusal-over, store-or, said, load-words, list-refused, list-reply, list-tags, list-labels}
-use Rattle.console.specs.Line.{Parsed, unknown, plain, parsed, fields, number-of, number-or-front, all-letters, letter-kind, load-of, insert-of, mark-of, command-of, line-limit, load-word, list-word, element-word, text-word, mark-word}
+use Rattle.console_fields.specs.Field.{number-of, all-letters, letter-kind}
+use Rattle.console.specs.Line.{Parsed, unknown, plain, parsed, fields, number-or-front, load-of, insert-of, mark-of, command-of, line-limit, load-word, list-word, element-word, text-word, mark-word}
 use Rattle.reply_text.specs.Text.{reply-line, tag-lines, end-line}
 use Rattle.console.specs.Post.{Gives}
 use Rattle.reply_text.specs.Post.{Written}

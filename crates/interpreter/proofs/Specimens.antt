@@ -19,7 +19,8 @@ use Rattle.calls.specs.Held.{encloses}
 use Rattle.calls.specs.Listing.{is-listed, listed-tags, listed-labels, inside-tests, list-refusal}
 use Rattle.calls.specs.Words.{header, tag-record, words-of, follow, read-fact, header-width, read-book, read-store, header-in-range, read-in-range, read}
 use Rattle.calls.specs.Replies.{on-store, refusal-over, store-or, said, load-reply, load-words, insert-refused, insert-reply, insert-words, mark-reply, mark-words, load-numbers, insert-numbers, mark-numbers}
-use Rattle.console.specs.Line.{fields, is-digit, all-digits, value-from, well-begun, number-of, number-or-front, is-letter, all-letters, letter-kind, load-of, insert-of, mark-of, command-of, parsed}
+use Rattle.console_fields.specs.Field.{is-digit, all-digits, value-from, well-begun, number-of, is-letter, all-letters, letter-kind}
+use Rattle.console.specs.Line.{fields, number-or-front, load-of, insert-of, mark-of, command-of, parsed}
 use Rattle.reply_text.specs.Text.{decimal-from, decimal, spaced, reply-line, tag-line, tag-lines, end-line, unknown-line}
 use Rattle.reply_text.specs.Specimens.{bytes}
 use Rattle.line_reader.specs.Lines.{lines}

@@ -11,9 +11,9 @@ use lib.Dec.{leb, eqb}
 use lib.ListN.{length, getD}
 use Rattle.store_types.specs.Limits.{word-limit, most-levels}
 use Rattle.lists.specs.Lists.{numbers}
-use Rattle.shape.specs.Tables.{entry, table, Table-fits}
+use Rattle.powers.specs.Tables.{entry, table, Table-fits}
 use Rattle.shape.specs.Sums.{cut}
-use Rattle.shape.proofs.TableLaws.{table-at, table-bound}
+use Rattle.powers.proofs.TableLaws.{table-at, table-bound}
 use Rattle.shape.proofs.Fits.{Fits, lows-below, widths-fit}
 use Rattle.tree.specs.Forest.{spread}
 use Rattle.tree.specs.Book.{labels-of, base, load-under, loaded}

@@ -28,7 +28,8 @@ use Rattle.calls.specs.Replies.{load-reply, load-words}
 use Rattle.calls_laws.proofs.Tests.{passes, Degrees, degrees-of}
 use Rattle.calls_laws.proofs.Fields.{length-words}
 use Rattle.calls_laws.proofs.Steps.{Load-accepted, accepted-load}
-use Rattle.shape.specs.Tables.{table, widths-of}
+use Rattle.powers.specs.Tables.{table}
+use Rattle.shape.specs.Tables.{widths-of}
 use Rattle.shape.specs.Needs.{Widths-fit}
 use Rattle.load_refuse.specs.Refusals.{refusal-before}
 use Rattle.load_tags.specs.Tags.{Tags-fit, Tags-written, Trees-fit, labels-new}

@@ -10,7 +10,7 @@ use lib.Dec.{leb, eqb, ltb}
 use lib.ListN.{length, getD, set, length-set}
 use lib.Seq.{getD-set-same, getD-set-other}
 use Rattle.lists.proofs.Tests.{by-test}
-use Rattle.shape.specs.Tables.{entry, table-length, table-top}
+use Rattle.powers.specs.Tables.{entry, table-length, table-top}
 use Rattle.tree.specs.Forest.{labels, spread}
 use Rattle.tree_laws.proofs.Spread.{some-power}
 use Rattle.shape.specs.Sums.{cut}

@@ -1,4 +1,4 @@
--- Where the nodes of a load begin (document 01, "The tree"), place by place. Follows the code of crate load_tags. Assumes nothing:
+-- Where the nodes of a load begin (document 01, "The tree"), place by place. Follows the code of crate load_nodes. Assumes nothing:
 -- these are definitions.
 use mathlib.Core.Path.{_≡_}
 use mathlib.Core.Bool.{cond}
@@ -6,7 +6,7 @@ use mathlib.Core.List.{List}
 use Prim.Native.Nat.{ℕ, zero, suc, _+_, _*_, _≤_, _<_}
 use lib.Dec.{leb, eqb}
 use lib.ListN.{length, set}
-use Rattle.shape.specs.Tables.{entry, table-length}
+use Rattle.powers.specs.Tables.{entry, table-length}
 use Rattle.shape.specs.Sums.{cut}
 
 -- behind a node over `each` leaves that begins at place i of n, the place where the next one of its height begins: n where there is

@@ -16,9 +16,10 @@ use Rattle.store_types.specs.Layout.{header-words, at-next, at-prior, at-mate, 
 use Rattle.calls.specs.Kind.{Kind, begin, end, text, code, kind-word}
 use Rattle.calls.specs.Store.{Fact, fact-in}
 use Rattle.calls_laws.proofs.Nesting.{Ends, Step, begins, ends, stands}
-use Rattle.load_tags.specs.declared.Row as rows
-use Rattle.load_tags.specs.Tags.{next-of, prior-of, tag-written, open-behind, Between, Beside}
-use Rattle.load_tags.proofs.OneTag.{beside-both, One-more, inner-more, end-more, end-mates, end-opens, begin-opens, text-opens}
+use Rattle.load_record.specs.declared.Row as rows
+use Rattle.load_record.specs.Record.{next-of, prior-of, tag-written, open-behind, Beside}
+use Rattle.load_tags.specs.Tags.{Between}
+use Rattle.load_record.proofs.OneTag.{beside-both, One-more, inner-more, end-more, end-mates, end-opens, begin-opens, text-opens}
 
 -- THE OPEN BEGINS: o, and those around it
 pub data Open (fs : List Fact) : (o y : ℕ) → Type 0 where

@@ -27,9 +27,10 @@ use Rattle.calls_laws.proofs.Reader.{getD-map}
 use Rattle.walk_model.proofs.Found.{code-back}
 use Rattle.edit_model.specs.Insert.{new-record, with-records}
 use Rattle.edit_model.proofs.RowRecords.{row-next, row-prior, records-put}
-use Rattle.load_tags.specs.declared.Row as rows
-use Rattle.load_tags.specs.Tags.{next-of, prior-of, whole-row, next-number, prior-number, Kind-number, tag-written, open-behind, facts-new, Tag-fits, Tags-fit, Row-fits, Between, Tags-written}
-use Rattle.load_tags.proofs.OneTag.{beside-none}
+use Rattle.load_record.specs.declared.Row as rows
+use Rattle.load_record.specs.Record.{next-of, prior-of, Kind-number, tag-written, open-behind, Tag-fits}
+use Rattle.load_tags.specs.Tags.{whole-row, next-number, prior-number, facts-new, Tags-fit, Row-fits, Between, Tags-written}
+use Rattle.load_record.proofs.OneTag.{beside-none}
 use Rattle.load_tags.proofs.Filled.{Open, here, out, Filled, none-open, begun, turned}
 
 -- THE FACTS OF NEW TAGS: their kinds, and no marks

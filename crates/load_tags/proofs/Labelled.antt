@@ -13,8 +13,8 @@ use Rattle.store_types.specs.Limits.{label-limit}
 use Rattle.lists.specs.Lists.{numbers}
 use Rattle.lists.proofs.Tests.{by-test}
 use Rattle.lists.proofs.Numbers.{length-numbers}
-use Rattle.shape.specs.Tables.{entry, table, Table-fits, table-length, table-top}
-use Rattle.shape.proofs.TableLaws.{noughts, table-at, table-bound}
+use Rattle.powers.specs.Tables.{entry, table, Table-fits, table-length, table-top}
+use Rattle.powers.proofs.TableLaws.{noughts, table-at, table-bound}
 use Rattle.shape.proofs.Sums.{cut-small}
 use Rattle.tree.specs.Forest.{labels, leaves, spread}
 use Rattle.tree_laws.proofs.Labels.{length-labels}
@@ -23,33 +23,8 @@ use Rattle.calls_laws.proofs.Reader.{getD-map}
 use Rattle.shape.specs.Sums.{cut}
 use Rattle.load_model.specs.Begins.{begun, First-begins}
 use Rattle.load_model.proofs.Steps.{Abreast, Tables-say, abreast-first, abreast-next, begun-all, abreast-label}
-use Rattle.load_tags.specs.Tags.{labels-new, gap, Gaps-of, Trees-fit, Widths-rise, Entries-fit}
-
--- THE GAPS, height by height
-pub gaps-none : (r : ℕ) (w : List ℕ) → Gaps-of r 0 w (replicate table-length 0)
-gaps-none r w =
-    record { size = refl; entries = record { each = λ k. rw (noughts table-length k) (omega arith) }; each = λ h l. absurd (omega arith) }
-
-pub room-below : (r u h : ℕ) (w : List ℕ) → Widths-rise r u w → h < u → r * entry w h ≤ entry w (h + 1)
-room-below r u h w rise l = rw add-one (rise .grows h l)
-
-pub room-small : (r u h : ℕ) (w : List ℕ) → Widths-rise r u w → h < u → r * entry w h < 18446744073709551616
-room-small r u h w rise l = omega (arith, room-below r u h w rise l, rise .entries .each (h + 1))
-
-pub gaps-more : (r u h : ℕ) (w gs : List ℕ) → Widths-rise r u w → h < u → Gaps-of r h w gs → Gaps-of r (h + 1) w (set gs h (entry w (h + 1) - r * entry w h))
-unfolding gap
-gaps-more r u h w gs rise l g =
-    record {
-      size = length-set gs h _ ∙ g .size;
-      entries = record {
-        each = λ k. by-test (eqb k h)
-            (λ e. rw (eqb-true k h e, getD-set-same gs h (entry w (h + 1) - r * entry w h) 0 (omega (arith, rise .height, g .size))) (omega (arith, rise .entries .each (h + 1))))
-            (λ e. rw (getD-set-other gs h k (entry w (h + 1) - r * entry w h) 0 (eqb-false k h e)) (g .entries .each k));
-      };
-      each = λ k m. by-test (eqb k h)
-          (λ e. rw (eqb-true k h e, add-one h) (getD-set-same gs h (entry w (suc h) - r * entry w h) 0 (omega (arith, rise .height, g .size))))
-          (λ e. let apart = eqb-false k h e in getD-set-other gs h k (entry w (h + 1) - r * entry w h) 0 apart ∙ g .each k (omega arith));
-    }
+use Rattle.load_nodes.specs.Gaps.{gap, Gaps-of, Widths-rise, Entries-fit}
+use Rattle.load_tags.specs.Tags.{labels-new, Trees-fit}
 
 module _ (r n u : ℕ) (w : List ℕ) (h : Trees-fit r n u w) where
   low : u ≤ table-top

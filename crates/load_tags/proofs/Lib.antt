@@ -1,6 +1,3 @@
-pub mod OneTag
-pub mod Inside
 pub mod Filled
 pub mod Filling
-pub mod Nodes
 pub mod Labelled

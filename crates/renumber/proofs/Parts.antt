@@ -10,7 +10,7 @@ use lib.Dec.{eqb}
 use lib.ListN.{length, length-map}
 use Rattle.lists.proofs.Tests.{by-test}
 use Rattle.store_types.specs.Limits.{label-limit}
-use Rattle.shape.specs.Tables.{entry}
+use Rattle.powers.specs.Tables.{entry}
 use Rattle.tree.specs.Forest.{labels, spread, parts}
 use Rattle.tree_laws.proofs.Labels.{length-labels}
 use Rattle.tree_laws.proofs.Spread.{parts-none, parts-one, parts-more, spread-suc, leaves-below, parts-in, some-power, lower-power}
@@ -20,9 +20,10 @@ use Rattle.shape.specs.Sums.{cut}
 use Rattle.shape.proofs.Sums.{cut-small, labels-cut}
 use Rattle.edit_model.specs.Relabel.{Relabelled, relabel, along}
 use Rattle.edit_model.proofs.Relabels.{relabel-append-words, relabel-append-moved}
-use Rattle.renumber.specs.Needs.{Row-there, Trees-fit, Row-numbered, Part-size, leaves-numbered, trees-numbered}
+use Rattle.relabel.specs.Needs.{Row-there, Row-numbered, leaves-numbered}
+use Rattle.renumber.specs.Needs.{Trees-fit, Part-size, trees-numbered}
 use Rattle.calls_laws.proofs.Reader.{length-follow}
-use Rattle.renumber.proofs.Rows.{Same-next, follow-same, relabel-keeps-next, take-follow, drop-follow, relabel-none, follow-add, moved-most, leaf-widths, On-way, on}
+use Rattle.relabel.proofs.Rows.{Same-next, follow-same, relabel-keeps-next, take-follow, drop-follow, relabel-none, follow-add, moved-most, leaf-widths, On-way, on}
 
 -- so many parts of e tags over what is left of a row, each a tree of height j
 unfoldable pub parts-numbered : (ws widths : List ℕ) → (r j e p a x left : ℕ) → Relabelled

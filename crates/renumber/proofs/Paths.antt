@@ -3,13 +3,13 @@
 use mathlib.Core.Path.{_≡_, refl, ap, sym, _∙_}
 use mathlib.Core.List.{List, _++_, map, map-append}
 use Prim.Native.Nat.{ℕ, zero, suc, pred, _+_, _*_, _-_, _/_, _^_, _≤_, _<_}
-use native.Mathlib.Nat.{suc-mul, one-mul, mul-le-mul, mul-le-mul-right, add-comm, div-le-self}
+use native.Mathlib.Nat.{suc-mul, mul-le-mul, add-comm, div-le-self}
 use native.Mathlib.Omega.{arith}
 use lib.ListN.{length, length-map}
 use Rattle.store_types.specs.Limits.{label-limit}
 use Rattle.words.proofs.Fields.{room-same}
-use Rattle.shape.specs.Tables.{entry, entry-limit}
-use Rattle.shape.specs.Packed.{widths-in, lows-in, s-in, r-in}
+use Rattle.powers.specs.Tables.{entry, entry-limit}
+use Rattle.shape.specs.Packed.{widths-in, s-in, r-in}
 use Rattle.shape.specs.Sums.{cut}
 use Rattle.shape.proofs.Sums.{cut-small, cut-added, labels-cut}
 use Rattle.tree.specs.Forest.{Forest, node, labels, joined, spread}
@@ -22,22 +22,13 @@ use Rattle.tree_laws.proofs.PathLaws.{Path-parts, path-before, path-below, path
 use Rattle.calls.specs.Words.{follow}
 use Rattle.calls_laws.proofs.Reader.{length-follow}
 use Rattle.edit_model.specs.Relabel.{Relabelled, relabel, along}
-use Rattle.renumber.specs.declared.PathParts.{PathParts}
-use Rattle.renumber.specs.Needs.{Row-there, Trees-fit, Row-numbered, Splits-fit, Path-fit, Numbers-fit, Parts-are, leaves-numbered, trees-numbered, path-numbered}
-use Rattle.renumber.proofs.Rows.{Same-next, follow-same, along-same, relabel-keeps-next, take-follow, drop-follow, follow-add, along-add, moved-most, leaf-widths}
+use Rattle.splits.specs.declared.PathParts.{PathParts}
+use Rattle.relabel.specs.Needs.{Row-there, Row-numbered, leaves-numbered}
+use Rattle.splits.specs.Needs.{Path-fit, Parts-are}
+use Rattle.splits.proofs.Cuts.{splits-lower}
+use Rattle.renumber.specs.Needs.{Trees-fit, Numbers-fit, trees-numbered, path-numbered}
+use Rattle.relabel.proofs.Rows.{Same-next, follow-same, along-same, relabel-keeps-next, take-follow, drop-follow, follow-add, along-add, moved-most, leaf-widths}
 use Rattle.renumber.proofs.Parts.{relabel-joined, trees-keep-next, trees-moved}
-
--- A LIMIT LESS THE LEAST LEAVES is what a split takes
-pub split-takes : (s r j hi lo : ℕ) → 1 ≤ s → hi ≡ s * r ^ j → lo ≡ r ^ j → hi ≡ lo + (s - 1) * r ^ j
-split-takes s r j hi lo some e f =
-    let one-more : s ≡ suc (s - 1) = omega arith in
-    omega (arith, ap (λ (m : ℕ). m * r ^ j) one-more, suc-mul (s - 1) (r ^ j))
-
-pub split-some : (s r j : ℕ) → 2 ≤ s → 2 ≤ r → 1 ≤ (s - 1) * r ^ j
-split-some s r j s-least r-least =
-    let least = some-power r j r-least in
-    let more : 1 ≤ s - 1 = omega arith in
-    omega (arith, mul-le-mul-right (r ^ j) more, one-mul (r ^ j))
 
 -- height 0: leaves
 pub path-leaves : (ws t : List ℕ) (j c e a x k : ℕ) → j ≡ 0 → leaves-numbered ws (entry (widths-in t) 0) a x k ≡ path-numbered ws t j c e a x k
@@ -178,44 +169,6 @@ module _ (ws t : List ℕ) (i c e a x before own after : ℕ) (r-least : 2 ≤ r
         next = right .next ∙ rw (far, words-said, along-add before (own + after) ws x, along-add own after ws (along before ws x)) (along-same after (second .words) ws _ second-keeps);
       }
 
--- THE PARTS in numbers, where each is the least leaves of a node of height j
-pub record Cut-up (s r j count c e each : ℕ) : Type 0 where
-  pub some : 1 ≤ each
-  pub each-is : each ≡ r ^ j
-  pub fits : pred c / each * each + (each + e) ≤ count
-  pub above : pred c / each * each ≤ c
-  pub within : c ≤ pred c / each * each + each
-  pub split : in-splits s r (pred j) e ≤ e
-  pub most : count ≤ 200000
-
-pub cut-up : {j count c e each : ℕ} {t : List ℕ} → 1 ≤ j → Path-fit j count c e t → each ≡ entry (lows-in t) j → Cut-up (s-in t) (r-in t) j count c e each
-cut-up {j} {count} {c} {e} {each} {t} low h is = go j low h (is ∙ h .splits .lows j (omega arith))
-  where
-    go : (j : ℕ) → 1 ≤ j → Path-fit j count c e t → each ≡ r-in t ^ j → Cut-up (s-in t) (r-in t) j count c e each
-    go zero low h power = absurd (omega arith)
-    go (suc i) low h power =
-        let d = path-below (s-in t) (h .splits .degree-r) (h .path) in
-        record {
-          some = omega (arith, some-power (r-in t) (suc i) (h .splits .degree-r));
-          each-is = power;
-          fits = rw power (d .fits);
-          above = rw power (omega (arith, d .above));
-          within = rw power (d .within);
-          split = d .splits-fit;
-          most = h .most;
-        }
-
--- tables that suffice for a height do for those below it
-pub splits-lower : {j : ℕ} {t : List ℕ} → Splits-fit j t → (i : ℕ) → i ≤ j → Splits-fit i t
-splits-lower h i l =
-    record {
-      degree-s = h .degree-s;
-      degree-r = h .degree-r;
-      height = omega (arith, h .height);
-      lows = λ k m. h .lows k (omega arith);
-      highs = λ k m. h .highs k (omega arith);
-    }
-
 -- WHAT EACH PART ASKS. A row behind its first a tags, by words with the same next
 pub row-behind : {ws vs : List ℕ} {x y : ℕ} (a b : ℕ) → Row-there ws x (a + b) → Same-next vs ws → length vs ≡ length ws → y ≡ along a ws x → Row-there vs y b
 row-behind {ws} {vs} {x} {y} a b h same long e =
@@ -334,7 +287,7 @@ pub cut-fits : {q : ℕ} (y : ℕ) → q ≡ cut y → q ≤ entry-limit
 cut-fits y e = rw e (omega (arith, cut-small y))
 
 -- and it can be
-pub trees-small : {j count c e : ℕ} {t : List ℕ} {q : PathParts} → Path-fit j count c e t → 1 ≤ j → Parts-are (s-in t) (r-in t) j count c e q → (v : ℕ) → v ≤ entry-limit → q .trees * v < 18446744073709551616
+pub trees-small : {j count c e : ℕ} {t : List ℕ} {q : PathParts} → Path-fit j count c e t → 1 ≤ j → Parts-are (s-in t) (r-in t) j count c e q → (v : ℕ) → v ≤ entry-limit → q .trees * v < 2 ^ 64
 trees-small {j} {count} {c} {e} {t} {q} h low p v narrow =
     let some = some-power (r-in t) j (h .splits .degree-r) in
     let few : q .trees ≤ 200000 = omega (arith, p .trees, div-le-self (pred c) (r-in t ^ j), h .path .high, h .path .whole, h .most) in

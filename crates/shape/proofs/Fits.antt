@@ -8,7 +8,7 @@ use borrow.Author.Tests.{leb-true}
 use Rattle.store_types.specs.Limits.{label-limit, most-levels}
 use Rattle.tree.specs.Book.{base, power-width}
 use Rattle.calls.specs.Store.{labels-fit, power-fits}
-use Rattle.shape.specs.Tables.{Table-fits}
+use Rattle.powers.specs.Tables.{Table-fits}
 
 -- f is 4 to 256
 pub degrees-product : {s r : ℕ} → 2 ≤ s → s ≤ 16 → 2 ≤ r → r ≤ 16 → (4 ≤ s * r) × (s * r ≤ 256)

@@ -1,5 +1,3 @@
-pub mod TableLaws
-pub mod PowerLaws
 pub mod Fits
 pub mod HeaderLaws
 pub mod Sums

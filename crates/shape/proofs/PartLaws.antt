@@ -7,7 +7,7 @@ use native.Mathlib.Decide.{ℕ-discrete}
 use native.Mathlib.Omega.{arith}
 use lib.ListN.{length, getD, set, drop, length-set, length-drop}
 use lib.Seq.{getD-take, getD-drop, getD-set-same, getD-set-other, ext-getD, length-take-le}
-use Rattle.shape.specs.Tables.{table-length}
+use Rattle.powers.specs.Tables.{table-length}
 use Rattle.shape.specs.Packed.{part, With-part, With-numbers, Packed}
 
 pub part-entry : (t : List ℕ) (k h : ℕ) → h < table-length → getD t (table-length * k + h) 0 ≡ getD (part k t) h 0

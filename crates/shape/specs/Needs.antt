@@ -7,7 +7,7 @@ use lib.Dec.{ltb, leb, eqb}
 use lib.ListN.{length, getD}
 use Rattle.store_types.specs.Limits.{most-tags}
 use Rattle.store_types.specs.Layout.{at-version, at-s, at-r, at-height, header-words, word-at}
-use Rattle.shape.specs.Tables.{entry, table-length, entry-limit, Table-fits}
+use Rattle.powers.specs.Tables.{entry, table-length, entry-limit, Table-fits}
 use Rattle.calls.specs.Store.{labels-fit}
 use Rattle.calls.specs.Words.{header-width, header-in-range}
 

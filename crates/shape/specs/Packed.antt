@@ -4,7 +4,7 @@ use mathlib.Core.Path.{_≡_}
 use mathlib.Core.List.{List}
 use Prim.Native.Nat.{ℕ, _*_, _<_}
 use lib.ListN.{take, drop}
-use Rattle.shape.specs.Tables.{entry, table-length}
+use Rattle.powers.specs.Tables.{entry, table-length}
 
 unfoldable pub part : (which : ℕ) → List ℕ → List ℕ
 part which t = take table-length (drop (table-length * which) t)

@@ -1,18 +1,16 @@
 // The shape of a store, s, r and H: the tables by height that they give, and the limits of the header and of the root
 // (document 01, "The book in words", "The tree").
-pub mod powers;
 pub mod tables;
 
 ghost use mathlib.Core.Path.{_≡_};
-ghost use Prim.Native.Nat.{_+_, _*_, _-_, _≤_};
-ghost use Rattle.shape.specs.Tables.{Table-fits, entry-limit, widths-of, table as power-table};
+ghost use Prim.Native.Nat.{_+_, _*_, _-_, _^_, _≤_, _<_};
+ghost use Rattle.powers.specs.Tables.{Table-fits, entry-limit, table as power-table};
+ghost use Rattle.shape.specs.Tables.{widths-of};
 ghost use Rattle.shape.specs.Sums.{cut as label-part};
 ghost use Rattle.shape.specs.Packed.{Packed};
 ghost use Rattle.calls.specs.Store.{power-fits};
 ghost use Rattle.shape.specs.Needs.{Root-fits, Widths-fit, Search-fits, Least-room, Tables-fit, frame-passes, root-passes, degree-fits};
-
-// Every table by height has so many entries.
-pub const TABLE_LENGTH: usize = 24;
+pub use powers::TABLE_LENGTH;
 
 // Four tables in one array.
 pub const PACKED_LENGTH: usize = 4 * TABLE_LENGTH;
@@ -62,6 +60,14 @@ pub fn sum(label: u64, width: u64) -> u64
     ensures { λ l. ⌜ l ≡ label-part (label + width) ⌝ }
 {
     cut(label + width)
+}
+
+// How far so many nodes of a width reach.
+pub fn times(count: u64, width: u64) -> u64
+    requires { ⌜ count * width < 2 ^ 64 ⌝ }
+    ensures { λ l. ⌜ l ≡ label-part (count * width) ⌝ }
+{
+    cut(count * width)
 }
 
 // Whether labels of a tree of height h fit: b^h is at most 2^32.

@@ -1,7 +1,7 @@
 // Four tables by height in one array: widths, least leaves, limits, and the numbers of a place's ancestors.
 ghost use mathlib.Core.Path.{_≡_};
 ghost use Prim.Native.Nat.{_<_};
-ghost use Rattle.shape.specs.Tables.{entry as entry-of, table-length};
+ghost use Rattle.powers.specs.Tables.{entry as entry-of, table-length};
 ghost use Rattle.shape.specs.Packed.{Packed, With-part, With-numbers, part, widths-in, lows-in, highs-in, numbers-in};
 use crate::PACKED_LENGTH;
 use crate::TABLE_LENGTH;

@@ -44,8 +44,8 @@ pub data Keeping : Type 0 where
   revoke : (party section : ℕ) → Keeping
   lend : List Grant → (count : ℕ) → Keeping
 
--- a change of the store; a reading; a party's call; the reading of a file; and load and the reading of a file where the caller lends
--- the count of grants too, which they end
+-- a change of the store; a reading; a call on the grants; a party's call; the reading of a file; and load and the reading of a file
+-- where the caller lends the count of grants too, which they end
 pub data Call : Type 0 where
   changes : Change → Call
   reads : Reading → Call
@@ -63,10 +63,10 @@ pub data Finding : Type 0 where
   filed : WriteReply → Finding
 
 -- what became of the grants
-pub data Kept : Type 0 where
-  granted : GrantReply → Kept
-  revoked : RevokeReply → Kept
-  lent : Kept
+pub data Keeping-reply : Type 0 where
+  granted : GrantReply → Keeping-reply
+  revoked : RevokeReply → Keeping-reply
+  lent : Keeping-reply
 
 -- a reading's reply comes with what the lists then hold that its caller lent
 pub data Reply : Type 0 where
@@ -74,7 +74,7 @@ pub data Reply : Type 0 where
   inserted : InsertReply → Reply
   marked : MarkReply → Reply
   found : Finding → (lists : List (List ℕ)) → Reply
-  kept : Kept → Reply
+  kept : Keeping-reply → Reply
   acted : PartyReply → Reply
 
 -- the papers' numbers of a reply: 0 and its values, or the refusal alone
@@ -84,17 +84,17 @@ finding-numbers (answered q) = question-numbers q
 finding-numbers (listed q) = list-numbers q
 finding-numbers (filed q) = write-numbers q
 
-unfoldable pub kept-numbers : Kept → List ℕ
-kept-numbers (granted q) = grant-numbers q
-kept-numbers (revoked q) = revoke-numbers q
-kept-numbers lent = 0 ∷ []
+unfoldable pub keeping-numbers : Keeping-reply → List ℕ
+keeping-numbers (granted q) = grant-numbers q
+keeping-numbers (revoked q) = revoke-numbers q
+keeping-numbers lent = 0 ∷ []
 
 unfoldable pub numbers-of : Reply → List ℕ
 numbers-of (loaded q) = load-numbers q
 numbers-of (inserted q) = insert-numbers q
 numbers-of (marked q) = mark-numbers q
 numbers-of (found q ls) = finding-numbers q
-numbers-of (kept q) = kept-numbers q
+numbers-of (kept q) = keeping-numbers q
 numbers-of (acted q) = party-numbers q
 
 -- the first number is the refusal, 0 where the call is accepted: stale is no refusal, of a question and of a party's call alike
@@ -131,7 +131,7 @@ reading-lists (list x ts ls) ws = list-tags x ws ts ls ∷ list-labels x ws ts l
 reading-lists (write bs) ws = write-bytes ws bs ∷ []
 
 -- grants
-unfoldable pub keeping : Keeping → System → Kept
+unfoldable pub keeping : Keeping → System → Keeping-reply
 keeping (grant p x q) y = granted (grant-reply p x q (y .count) (y .grants) (y .words))
 keeping (revoke p x) y = revoked (revoke-reply p x (y .count) (y .grants))
 keeping (lend gs c) y = lent

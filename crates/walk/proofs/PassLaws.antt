@@ -11,7 +11,7 @@ use native.Mathlib.Omega.{arith}
 use borrow.Author.Tests.{eq-eqb, ne-eqb, lt-ltb, le-ltb, ltb-true, eqb-true, not-true, not-false}
 use lib.Dec.{leb, eqb}
 use lib.ListN.{length, getD, replicate}
-use Rattle.shape.specs.Tables.{table-length}
+use Rattle.powers.specs.Tables.{table-length}
 use Rattle.store_types.specs.Limits.{no-tag, label-limit}
 use Rattle.store_types.specs.Layout.{at-first, at-stamp, at-up, at-kind, word-at, field, label-at}
 use Rattle.words.specs.Offsets.{offset-of}

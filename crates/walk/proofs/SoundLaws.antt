@@ -11,8 +11,9 @@ use borrow.Author.Tests.{leb-true, not-true, not-false}
 use lib.ListN.{length, getD, replicate}
 use Rattle.store_types.specs.Limits.{most-levels, word-limit}
 use Rattle.store_types.specs.Layout.{at-s, at-r, at-height, at-count, header-words, word-at, Records}
-use Rattle.shape.proofs.TableLaws.{table-at, table-bound}
-use Rattle.shape.specs.Tables.{table, widths-of, lows-of, highs-of, entry-limit, Table-fits, table-length}
+use Rattle.powers.proofs.TableLaws.{table-at, table-bound}
+use Rattle.powers.specs.Tables.{table, entry-limit, Table-fits, table-length}
+use Rattle.shape.specs.Tables.{widths-of, lows-of, highs-of}
 use Rattle.shape.proofs.Fits.{Fits, product-range, widths-fit, lows-fit, highs-fit}
 use Rattle.calls.specs.Store.{labels-fit}
 use Rattle.calls.specs.Sound.{degrees-fit}

@@ -6,7 +6,7 @@ use native.Mathlib.Nat.{div-mul-le-self}
 use native.Mathlib.Omega.{arith}
 use lib.ListN.{set, replicate}
 use Rattle.store_types.specs.Limits.{word-limit}
-use Rattle.shape.specs.Tables.{entry, entry-limit, table-length}
+use Rattle.powers.specs.Tables.{entry, entry-limit, table-length}
 use Rattle.walk_model.specs.Watch.{ancestor-numbers}
 
 -- what is added to the number above goes no further than the label

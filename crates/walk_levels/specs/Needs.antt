@@ -6,7 +6,7 @@ use Prim.Native.Nat.{ℕ, _≤_}
 use lib.Dec.{eqb}
 use lib.ListN.{getD}
 use Rattle.store_types.specs.Limits.{label-limit}
-use Rattle.shape.specs.Tables.{entry-limit, entry, table-under}
+use Rattle.powers.specs.Tables.{entry-limit, entry, table-under}
 use Rattle.shape.specs.Packed.{widths-in, lows-in, highs-in, numbers-in}
 use Rattle.walk_model.specs.Levels.{Tables, Levels, Settled, closes, settle, place-label, all-close}
 

@@ -5,7 +5,7 @@ ghost use lib.ListN.{replicate};
 ghost use Rattle.shape.specs.Packed.{widths-in};
 ghost use Rattle.walk_model.specs.Watch.{ancestor-numbers};
 ghost use Rattle.walk_levels.specs.Needs.{Ancestors-fit};
-ghost use Rattle.shape.specs.Tables.{table-length};
+ghost use Rattle.powers.specs.Tables.{table-length};
 use shape::PACKED_LENGTH;
 use shape::TABLE_LENGTH;
 use store_types::Label;

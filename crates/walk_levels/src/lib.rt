@@ -7,7 +7,7 @@ ghost use Prim.Native.Nat.{_+_, _-_, _≤_, _<_};
 ghost use lib.Dec.{eqb};
 ghost use lib.ListN.{getD};
 ghost use Rattle.walk_model.specs.Watch.{settle-sizes, close-sizes};
-ghost use Rattle.shape.specs.Tables.{entry-limit, table-length};
+ghost use Rattle.powers.specs.Tables.{entry-limit, table-length};
 ghost use Rattle.shape.specs.Packed.{widths-in, lows-in, highs-in, numbers-in};
 ghost use Rattle.shape.specs.Sums.{cut};
 ghost use Rattle.walk_levels.specs.Needs.{Levels-fit, Tables-fit, levels-of, closes-from, settle-from, close-from, expected-label};

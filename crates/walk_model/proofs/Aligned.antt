@@ -13,7 +13,7 @@ use lib.ListN.{length, length-set}
 use lib.Seq.{getD-set-same, getD-set-other}
 use Rattle.lists.proofs.Tests.{and-left, and-right, by-test}
 use Rattle.store_types.specs.Limits.{label-limit}
-use Rattle.shape.specs.Tables.{entry, table-length}
+use Rattle.powers.specs.Tables.{entry, table-length}
 use Rattle.shape.specs.Sums.{cut}
 use Rattle.shape.proofs.Sums.{cut-below}
 use Rattle.walk_model.specs.Levels.{Tables, Levels, Settled, closes, settle, place-label}

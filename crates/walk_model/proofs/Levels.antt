@@ -6,7 +6,7 @@ use Prim.Native.Nat.{ℕ, zero, suc, _+_, _*_, _^_, _≤_, _<_}
 use native.Mathlib.Omega.{arith}
 use lib.ListN.{length, getD, getD-replicate, length-replicate}
 use Rattle.store_types.specs.Limits.{label-limit}
-use Rattle.shape.specs.Tables.{entry, table-length}
+use Rattle.powers.specs.Tables.{entry, table-length}
 use Rattle.shape.specs.Sums.{cut}
 use Rattle.shape.proofs.Sums.{cut-below, cut-all}
 use Rattle.tree.specs.Forest.{Forest, nil, leaf, node, leaves, size, labels}

@@ -11,7 +11,7 @@ use lib.ListN.{length}
 use Rattle.store_types.specs.Limits.{no-tag}
 use Rattle.lists.proofs.Tests.{and-left, and-right, and-both}
 use Rattle.store_types.specs.Layout.{at-stamp, at-next, at-prior, at-kind, word-at, field, label-at}
-use Rattle.shape.specs.Tables.{entry}
+use Rattle.powers.specs.Tables.{entry}
 use Rattle.shape.specs.Sums.{cut}
 use Rattle.calls.specs.Words.{follow}
 use Rattle.walk_model.specs.Levels.{all-close, labels-pass}

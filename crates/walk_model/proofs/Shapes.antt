@@ -12,8 +12,9 @@ use Rattle.store_types.specs.Limits.{label-limit, most-tags, most-levels}
 use Rattle.store_types.specs.Layout.{at-version, at-s, at-r, at-height, at-count, header-words, word-at, words-for}
 use Rattle.lists.proofs.Tests.{and-left, and-right, and-both}
 use Rattle.words.proofs.Fields.{header-fits}
-use Rattle.shape.proofs.TableLaws.{table-at, length-table}
-use Rattle.shape.specs.Tables.{widths-of, lows-of, highs-of, table-length}
+use Rattle.powers.proofs.TableLaws.{table-at, length-table}
+use Rattle.powers.specs.Tables.{table-length}
+use Rattle.shape.specs.Tables.{widths-of, lows-of, highs-of}
 use Rattle.shape.specs.Needs.{frame-passes}
 use Rattle.tree.specs.Book.{base}
 use Rattle.tree.specs.Promise.{Widths}

@@ -14,7 +14,7 @@ use Rattle.lists.specs.Lists.{how-many}
 use Rattle.lists.proofs.Tests.{and-left, and-right, by-test}
 use Rattle.store_types.specs.Limits.{label-limit}
 use Rattle.store_types.specs.Layout.{at-height, at-count, at-first, word-at, label-at}
-use Rattle.shape.specs.Tables.{entry, table-length}
+use Rattle.powers.specs.Tables.{entry, table-length}
 use Rattle.shape.specs.Sums.{cut}
 use Rattle.shape.proofs.Sums.{cut-below, cut-most}
 use Rattle.tree.specs.Good.{Good}

@@ -10,7 +10,7 @@ use borrow.Author.Tests.{eqb-true}
 use lib.Dec.{ltb, eqb}
 use lib.ListN.{length}
 use Rattle.lists.proofs.Tests.{and-left, and-right, by-test}
-use Rattle.shape.specs.Tables.{entry}
+use Rattle.powers.specs.Tables.{entry}
 use Rattle.shape.specs.Sums.{cut}
 use Rattle.tree.specs.Good.{Good}
 use Rattle.tree.specs.Forest.{Forest, nil, leaves, labels}

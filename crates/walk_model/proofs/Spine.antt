@@ -11,7 +11,7 @@ use lib.Dec.{ltb, leb, eqb}
 use lib.ListN.{length, set, length-append, length-set}
 use lib.Seq.{getD-set-same, getD-set-other}
 use Rattle.lists.proofs.Tests.{and-left, and-right, and-both}
-use Rattle.shape.specs.Tables.{entry, table-length}
+use Rattle.powers.specs.Tables.{entry, table-length}
 use Rattle.shape.specs.Sums.{cut}
 use Rattle.shape.proofs.Sums.{cut-added}
 use Rattle.tree.specs.Good.{Good}

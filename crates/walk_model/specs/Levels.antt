@@ -5,7 +5,7 @@ use mathlib.Core.List.{List, [], _∷_}
 use Prim.Native.Nat.{ℕ, zero, suc, _+_}
 use lib.Dec.{ltb, leb, eqb}
 use lib.ListN.{set, replicate}
-use Rattle.shape.specs.Tables.{entry, table-length}
+use Rattle.powers.specs.Tables.{entry, table-length}
 use Rattle.shape.specs.Sums.{cut}
 
 -- by height: the width of a tree, the least leaves of a node, and its limit

@@ -7,7 +7,8 @@ use lib.Dec.{ltb, leb, eqb}
 use lib.ListN.{replicate}
 use Rattle.store_types.specs.Limits.{no-tag}
 use Rattle.store_types.specs.Layout.{at-s, at-r, at-height, at-count, at-first, at-stamp, at-next, at-prior, at-mate, at-up, at-kind, word-at, field, label-at}
-use Rattle.shape.specs.Tables.{entry, widths-of, lows-of, highs-of, table-length}
+use Rattle.powers.specs.Tables.{entry, table-length}
+use Rattle.shape.specs.Tables.{widths-of, lows-of, highs-of}
 use Rattle.shape.specs.Sums.{cut}
 use Rattle.shape.specs.Needs.{frame-passes}
 use Rattle.walk_model.specs.Levels.{Tables, Levels, Settled, place-label, all-close}

@@ -9,7 +9,8 @@ use lib.Dec.{ltb, eqb}
 use lib.ListN.{set, replicate}
 use Rattle.store_types.specs.Layout.{at-height, at-count, word-at, label-at}
 use Rattle.words.specs.Places.{watched-label}
-use Rattle.shape.specs.Tables.{entry, entry-limit, widths-of, lows-of, highs-of, table-length}
+use Rattle.powers.specs.Tables.{entry, entry-limit, table-length}
+use Rattle.shape.specs.Tables.{widths-of, lows-of, highs-of}
 use Rattle.shape.specs.Packed.{Packed, numbers-in}
 use Rattle.shape.specs.Sums.{cut}
 use Rattle.walk_model.specs.Levels.{Levels}

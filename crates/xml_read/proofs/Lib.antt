@@ -1,5 +1,2 @@
-pub mod PieceLaws
-pub mod Outcomes
-pub mod EndLaws
 pub mod Nestings
 pub mod Sheet

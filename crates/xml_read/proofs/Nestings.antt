@@ -20,15 +20,15 @@ use Rattle.xml.specs.Reader as reader
 use Rattle.xml_laws.specs.Steps.{is-stuck}
 use Rattle.xml_laws.proofs.Dispatch.{step-read, step-refused, next-tag}
 use Rattle.xml_laws.proofs.Within.{Tag-within, tag-within}
-use Rattle.xml_read.specs.declared.Cursor.{Cursor}
-use Rattle.xml_read.specs.declared.Part.{Part}
-use Rattle.xml_read.specs.declared.Part.the-variants.{On, Refused}
+use Rattle.xml_pieces.specs.declared.Cursor.{Cursor}
+use Rattle.xml_pieces.specs.declared.Part.{Part}
+use Rattle.xml_pieces.specs.declared.Part.the-variants.{On, Refused}
 use Rattle.xml_tag.specs.declared.TagRead.the-variants as tag
 use Rattle.xml_tag.specs.Post.{tag-found}
-use Rattle.xml_read.specs.Pieces.{goes-on, opens-element}
-use Rattle.xml_read.specs.Outcome.{in-text, finish, outcome, behind, In-text, Reached, Reads-on, Closes, Ended}
-use Rattle.xml_read.proofs.PieceLaws.{dropped, some-used, no-end}
-use Rattle.xml_read.proofs.Outcomes.{finish-kind, refused-on}
+use Rattle.xml_pieces.specs.Pieces.{goes-on, opens-element}
+use Rattle.xml_pieces.specs.Outcome.{in-text, finish, outcome, behind, In-text, Reached, Reads-on, Closes, Ended}
+use Rattle.xml_pieces.proofs.PieceLaws.{dropped, some-used, no-end}
+use Rattle.xml_pieces.proofs.Outcomes.{finish-kind, refused-on}
 
 -- READERS ONE BEHIND THE OTHER
 pub stays : (bs : List ℕ) (d : ℕ) (c : Cursor) (ls : List ℕ) → In-text bs c → Reads-on bs d c (c .at) ls ls (On c)

@@ -20,11 +20,12 @@ use Rattle.xml.specs.declared.SheetReply.{SheetReply}
 use Rattle.xml.specs.declared.SheetReply.the-variants as answer
 use Rattle.xml_laws.proofs.Dispatch.{step-refused, next-unopened}
 use Rattle.xml_laws.proofs.Sheets.{refused-some}
-use Rattle.xml_read.specs.declared.Cursor.{Cursor}
-use Rattle.xml_read.specs.declared.Part.{Part}
-use Rattle.xml_read.specs.declared.Part.the-variants.{On, Refused}
-use Rattle.xml_read.specs.Pieces.{goes-on}
-use Rattle.xml_read.specs.Outcome.{in-text, done, failed, finish, outcome, behind, Reached, Reads-on, Ended, whole-part, whole-reply, Read-whole}
+use Rattle.xml_pieces.specs.declared.Cursor.{Cursor}
+use Rattle.xml_pieces.specs.declared.Part.{Part}
+use Rattle.xml_pieces.specs.declared.Part.the-variants.{On, Refused}
+use Rattle.xml_pieces.specs.Pieces.{goes-on}
+use Rattle.xml_pieces.specs.Outcome.{in-text, done, failed, finish, outcome, behind, Reached, Reads-on, Ended}
+use Rattle.xml_read.specs.Whole.{whole-part, whole-reply, Read-whole}
 
 -- WHAT A READING WAS, by what it came to
 record Accepted (ls ns : List ℕ) (n : ℕ) (q : Reading) : Type 0 where

@@ -1,40 +1,16 @@
 // The reader of a sheet (document 02, CR 1): content holds elements and an element holds content.
-mod kinds;
 mod nesting;
-mod pieces;
 
 ghost use mathlib.Core.Path.{_≡_};
 ghost use Rattle.xml.specs.Replies.{sheet-reply, sheet-list};
-ghost use Rattle.xml_read.specs.Outcome.{Read-whole, whole-part};
+ghost use Rattle.xml_read.specs.Whole.{Read-whole, whole-part};
 use nesting::content;
 use store_types::refusals;
 use xml::MOST_DEPTH;
 use xml::SheetReply;
-
-// Where a reader stands in the text, how many kinds it has given, and whether it stands in a text: IN_TEXT or NOT_IN_TEXT, a word
-// and no bool, because a struct with padding is slow to copy.
-pub struct Cursor {
-    pub at: usize,
-    pub count: usize,
-    pub in_text: usize,
-}
-
-pub const IN_TEXT: usize = 1;
-
-pub const NOT_IN_TEXT: usize = 0;
-
-// Where a reader has come to, or the refusal.
-pub enum Part {
-    On(Cursor),
-    Refused(u32),
-}
-
-// A construct that is neither an element nor an end tag: where it ends, or the refusal.
-pub enum Piece {
-    Text(usize),
-    Comment(usize),
-    Refused(u32),
-}
+use xml_pieces::Cursor;
+use xml_pieces::NOT_IN_TEXT;
+use xml_pieces::Part;
 
 // What content comes to where it is the whole text: an end tag that is left closes nothing.
 fn whole(text: &[u8], part: Part) -> SheetReply
@@ -61,7 +37,7 @@ fn read(text: &[u8], kinds: &mut [u8]) -> SheetReply
         count: 0,
         in_text: NOT_IN_TEXT,
     };
-    let classes = xml_scan::classes::table();
+    let classes = xml_classes::table();
     let part = content(text, from, kinds, MOST_DEPTH, &classes);
     whole(text, part)
 }

@@ -13,8 +13,9 @@ use lib.Seq.{drop-cons}
 use Rattle.lists.specs.Fronts.{starts-with}
 use Rattle.xml.specs.Bytes.{class-of, is-char, is-space, is-name-start, is-name-char, less-than, ampersand, bracket, cdata-closes}
 use Rattle.xml.specs.Scan.{later, data-length}
-use Rattle.xml_scan.specs.Post.{data-test, is-usual}
-use Rattle.xml_scan.proofs.ByteTests.{char-class, usual-not-other, usual-not-forbidden, usual-small}
+use Rattle.xml_classes.specs.Classes.{is-usual}
+use Rattle.xml_scan.specs.Post.{data-test}
+use Rattle.xml_classes.proofs.ByteTests.{char-class, usual-not-other, usual-not-forbidden, usual-small}
 
 -- THE SCAN by the test: a is that data ends, b that it goes on
 abbrev tested : (a b : Bool) → ℕ

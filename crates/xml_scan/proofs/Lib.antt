@@ -1,4 +1,3 @@
-pub mod ByteTests
 pub mod StringSteps
 pub mod References
 pub mod RunSteps

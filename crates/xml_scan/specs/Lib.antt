@@ -1,2 +1,1 @@
 pub mod Post
-pub mod Classes

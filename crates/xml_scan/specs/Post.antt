@@ -5,7 +5,7 @@ use mathlib.Core.Option.{Option, none, some}
 use Prim.Native.Nat.{ℕ, _+_}
 use lib.Dec.{eqb}
 use Rattle.lists.specs.Fronts.{starts-with}
-use Rattle.xml.specs.Bytes.{is-char, is-space, is-name-char, less-than, ampersand, cdata-closes}
+use Rattle.xml.specs.Bytes.{is-char, less-than, ampersand, cdata-closes}
 use Rattle.xml_scan.specs.declared.Found.{Found}
 use Rattle.xml_scan.specs.declared.Found.the-variants.{At, Nothing}
 
@@ -17,10 +17,6 @@ found a (some n) = At (a + n)
 -- a byte that may stand in a value by itself, if it is not its quote and not &
 unfoldable pub is-plain : ℕ → Bool
 is-plain c = is-char c && not (eqb c less-than)
-
--- a byte of which most text is made: it may stand anywhere in character data
-unfoldable pub is-usual : ℕ → Bool
-is-usual c = is-space c || is-name-char c
 
 -- 0 where data goes on behind the first byte of a text, 1 where it ends before it, 2 where it is broken there
 unfoldable pub data-test : List ℕ → ℕ

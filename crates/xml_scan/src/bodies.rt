@@ -1,16 +1,16 @@
 // What runs up to a closer: the bodies of comments and CDATA sections, values of attributes, character data.
 use crate::Found;
-use crate::classes::FORBIDDEN;
-use crate::classes::OTHER;
-use crate::classes::class_of;
-use crate::classes::is_char;
 use crate::runs::words_end;
 use crate::strings::reference;
 use crate::strings::stands;
+use xml_classes::FORBIDDEN;
+use xml_classes::OTHER;
+use xml_classes::class_of;
+use xml_classes::is_char;
 ghost use mathlib.Core.Path.{_≡_};
 ghost use Prim.Native.Nat.{_≤_, _<_};
 ghost use lib.ListN.{length, drop};
-ghost use Rattle.xml_scan.specs.Classes.{Classes};
+ghost use Rattle.xml_classes.specs.Classes.{Classes};
 ghost use Rattle.xml.specs.Scan.{body-length, value-length, data-length};
 ghost use Rattle.xml_scan.specs.Post.{found, is-plain, data-test};
 

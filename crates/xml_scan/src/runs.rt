@@ -1,15 +1,14 @@
 // Runs of bytes of one class or some: spaces, names, and both.
-use crate::classes::is_name_char;
-use crate::classes::is_name_start;
-use crate::classes::is_space;
-use crate::classes::is_usual;
+use xml_classes::is_name_char;
+use xml_classes::is_name_start;
+use xml_classes::is_space;
+use xml_classes::is_usual;
 ghost use mathlib.Core.Path.{_≡_};
 ghost use Prim.Native.Nat.{_+_, _≤_};
 ghost use lib.ListN.{length, drop};
 ghost use Rattle.xml.specs.Bytes.{is-space, is-name-char};
-ghost use Rattle.xml_scan.specs.Classes.{Classes};
+ghost use Rattle.xml_classes.specs.Classes.{Classes, is-usual};
 ghost use Rattle.xml.specs.Scan.{run, name-length};
-ghost use Rattle.xml_scan.specs.Post.{is-usual};
 
 // Where the spaces from a place on end.
 pub fn blank_end(text: &[u8], from: usize, classes: &[u8; 256]) -> usize

@@ -7,7 +7,7 @@ ghost use mathlib.Core.Path.{_≡_};
 ghost use Prim.Native.Nat.{_≤_};
 ghost use lib.ListN.{length, drop};
 ghost use Rattle.xml.specs.Grammar.{is-quote};
-ghost use Rattle.xml_scan.specs.Classes.{Classes};
+ghost use Rattle.xml_classes.specs.Classes.{Classes};
 ghost use Rattle.xml.specs.Scan.{attribute-at};
 ghost use Rattle.xml_tag.specs.Post.{attribute-found};
 pub use tags::tag;

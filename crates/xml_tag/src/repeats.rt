@@ -6,7 +6,7 @@ ghost use mathlib.Core.Path.{_≡_};
 ghost use Prim.Native.Nat.{_≤_, _-_};
 ghost use lib.ListN.{length, drop};
 ghost use Rattle.lists.specs.Lists.{same};
-ghost use Rattle.xml_scan.specs.Classes.{Classes};
+ghost use Rattle.xml_classes.specs.Classes.{Classes};
 ghost use Rattle.xml.specs.Scan.{repeats};
 ghost use Rattle.xml_tag.specs.Filter.{filter-place};
 use xml_scan::runs::blank_end;

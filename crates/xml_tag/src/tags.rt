@@ -10,7 +10,7 @@ ghost use mathlib.Core.Path.{_≡_};
 ghost use mathlib.Core.List.{[]};
 ghost use Prim.Native.Nat.{_≤_, _<_};
 ghost use lib.ListN.{length, drop};
-ghost use Rattle.xml_scan.specs.Classes.{Classes};
+ghost use Rattle.xml_classes.specs.Classes.{Classes};
 ghost use Rattle.xml.specs.Scan.{tail-at, tag-at};
 ghost use Rattle.xml_tag.specs.Post.{end-found, tag-found};
 use xml_scan::runs::blank_end;

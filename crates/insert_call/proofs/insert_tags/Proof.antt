@@ -5,7 +5,7 @@ use native.Mathlib.Omega.{arith}
 use lib.ListN.{length}
 use Rattle.store_types.specs.Layout.{header-words}
 use Rattle.words.proofs.Fields.{header-long}
-use Rattle.insert_call.proofs.Accepted.{records-said}
+use Rattle.insert_change.proofs.Accepted.{records-said}
 use Rattle.insert_call.proofs.Replies.{stamp-fits, accepted-all}
 use Rattle.insert_call.proofs.insert_tags.Statement.{statement}
 use Rattle.insert_call.proofs.insert_tags.Tie as tie

@@ -19,14 +19,11 @@ width-requires-2 c κs = search needs
 sum-requires : tie.Need-sum-requires
 sum-requires c κs = let asked = c .before .before .before .before .pre in (asked .parent-fits, rw (c .width2 .ensures) (asked .widths 1))
 
-mul-cut : tie.Need-mul-cut
-mul-cut c =
+times-requires : tie.Need-times-requires
+times-requires c κs =
     let read = c .before .before .before in
     let asked = read .before .before .pre in
     omega (arith, times-width most-tags (asked .few) (read .width .ensures) (asked .widths 0))
-
-cut-requires : tie.Need-cut-requires
-cut-requires c κs = search needs
 
 returns : tie.Need-returns
 unfolding plan-record
@@ -35,7 +32,7 @@ returns c =
     let wide = end .before in
     let next = wide .before in
     let read = next .before in
-    plain-made _ _ _ _ _ (read .before .before .pre .parent-is) (read .width .ensures) (wide .width2 .ensures) (next .next-label .ensures) (end .sum .ensures) (c .cut .ensures)
+    plain-made _ _ _ _ _ (read .before .before .pre .parent-is) (read .width .ensures) (wide .width2 .ensures) (next .next-label .ensures) (end .sum .ensures) (c .times .ensures)
 
 pub plain-plan-spec : {M : Type 1} → statement M
 plain-plan-spec =
@@ -45,6 +42,5 @@ plain-plan-spec =
     next-label-requires
     width-requires-2
     sum-requires
-    mul-cut
-    cut-requires
+    times-requires
     returns)

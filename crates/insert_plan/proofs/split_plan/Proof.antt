@@ -25,18 +25,15 @@ less-requires c κs = search needs
 width-requires : tie.Need-width-requires
 width-requires c κs = search needs
 
-mul-cut : tie.Need-mul-cut
-mul-cut c =
+times-requires : tie.Need-times-requires
+times-requires c κs =
     let low = c .before .before in
     let node = low .before in
     let few : c .before .less .result ≤ 400000 = omega (arith, c .before .less .ensures, trees-few (node .before .pre) (node .in-node .ensures) (low .low .result)) in
     omega (arith, times-width 400000 few (c .width .ensures) (node .before .pre .widths _))
 
-cut-requires : tie.Need-cut-requires
-cut-requires c κs = search needs
-
 -- from where the shift is known back to where the node's tags are
-abbrev begun : tie.After-cut → tie.After-in-node
+abbrev begun : tie.After-times → tie.After-in-node
 begun c = c .before .before .before .before
 
 add-number : tie.Need-add-number
@@ -60,11 +57,11 @@ sum-requires c κs =
 number-requires-2 : tie.Need-number-requires-2
 number-requires-2 c κs = search needs
 
-add-t11 : tie.Need-add-t11
-add-t11 c = search needs
+add-t12 : tie.Need-add-t12
+add-t12 c = search needs
 
-cast-t13 : tie.Need-cast-t13
-cast-t13 c = search needs
+cast-t15 : tie.Need-cast-t15
+cast-t15 c = search needs
 
 add-t16 : tie.Need-add-t16
 add-t16 c =
@@ -87,7 +84,7 @@ returns c =
     let node = low .before in
     let args = node .before .args in
     split-made _ _ _ _ (args .h) (args .l) (args .k) (border-record (args .border)) (node .in-node .ensures) (low-is (node .before .pre) (node .in-node .ensures) (low .low .ensures))
-    (width .before .less .ensures) (width .width .ensures) (shift .cut .ensures) (next .number .ensures) (wide .width2 .ensures) (end .sum .ensures) (own .number2 .ensures) (c .less2 .ensures)
+    (width .before .less .ensures) (width .width .ensures) (shift .times .ensures) (next .number .ensures) (wide .width2 .ensures) (end .sum .ensures) (own .number2 .ensures) (c .less2 .ensures)
 
 pub split-plan-spec : {M : Type 1} → statement M
 split-plan-spec =
@@ -99,16 +96,15 @@ split-plan-spec =
     div-trees
     less-requires
     width-requires
-    mul-cut
-    cut-requires
+    times-requires
     add-number
     number-requires
     add-width
     width-requires-2
     sum-requires
     number-requires-2
-    add-t11
-    cast-t13
+    add-t12
+    cast-t15
     add-t16
     less-requires-2
     returns)

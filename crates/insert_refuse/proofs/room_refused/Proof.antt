@@ -6,7 +6,7 @@ use native.Mathlib.Omega.{arith}
 use lib.ListN.{length}
 use Rattle.store_types.specs.Limits.{most-tags}
 use Rattle.store_types.specs.Layout.{at-s, at-r, at-height, at-count, header-words, words-for, word-at}
-use Rattle.tree.specs.Grown.{height-for}
+use Rattle.insert_refuse.specs.Parts.{height-after}
 use Rattle.insert_refuse.proofs.Headers.{Ranges, ranges, header-room}
 use Rattle.insert_refuse.proofs.Refusals.{room-many, room-short, room-below, room-fits, room-none}
 use Rattle.insert_refuse.proofs.room_refused.Statement.{statement}
@@ -42,7 +42,7 @@ returns : tie.Need-returns
 returns c =
     let n = c .before in
     let begun = n .before .before in
-    room-many _ (begun .pre .0) _ (omega (arith, n .count-of .ensures, fits begun .few, c .if1 .taken))
+    (room-many _ (begun .pre .0) _ (omega (arith, n .count-of .ensures, fits begun .few, c .if1 .taken)), λ z. absurd (omega arith))
 
 -- n and k are no more than the most
 few : (c : tie.Else1) → let a = c .before .before .before .args in word-at (a .words .now) at-count + a .k ≤ most-tags
@@ -63,7 +63,7 @@ words-for-requires c κs = search needs
 returns-2 : tie.Need-returns-2
 returns-2 c =
     let n = c .before .before .before in
-    room-short _ (n .before .before .pre .0) _ (few (c .before .before)) (rw (c .before .words-for .ensures, n .count-of .ensures) at (c .if2 .taken))
+    (room-short _ (n .before .before .pre .0) _ (few (c .before .before)) (rw (c .before .words-for .ensures, n .count-of .ensures) at (c .if2 .taken)), λ z. absurd (omega arith))
 
 -- words remain for n and k
 remain : (c : tie.Else2) → let a = start c .args in words-for header-words (word-at (a .words .now) at-count + a .k) ≤ length (a .words .now)
@@ -72,7 +72,7 @@ remain c = rw (c .before .words-for .ensures, counted c .count-of .ensures) at (
 -- H with them
 height-is : (c : tie.After-height-with) →
     let a = start (c .before) .args in
-    c .height-with .result ≡ height-for (a .k) (word-at (a .words .now) at-s) (word-at (a .words .now) at-r) (word-at (a .words .now) at-count + a .k) (word-at (a .words .now) at-height)
+    c .height-with .result ≡ height-after (a .words .now) (a .k)
 height-is c =
     let a = start (c .before) .args in
     let n = counted (c .before) .count-of .ensures in
@@ -91,7 +91,7 @@ returns-3 : tie.Need-returns-3
 returns-3 c =
     let top = c .before .before in
     let begun = start (top .before) in
-    room-below _ (begun .pre .0) _ (few (top .before .before .before)) (remain (top .before)) (height-is top) (c .if3 .taken ∙ c .before .height-of .ensures)
+    (room-below _ (begun .pre .0) _ (few (top .before .before .before)) (remain (top .before)) (height-is top) (c .if3 .taken ∙ c .before .height-of .ensures), λ z. height-is top)
 
 shared-slice-read-s : tie.Need-shared-slice-read-s
 shared-slice-read-s c = omega (arith, long (start (c .before .before .before .before)))
@@ -111,14 +111,14 @@ returns-4 c =
     let read = c .before .before in
     let top = passed read in
     let begun = start (top .before) in
-    room-fits _ (begun .pre .0) _ (few (top .before .before .before)) (remain (top .before)) (height-is top) (higher read) (c .before .height-fits .ensures) (c .if4 .taken)
+    (room-fits _ (begun .pre .0) _ (few (top .before .before .before)) (remain (top .before)) (height-is top) (higher read) (c .before .height-fits .ensures) (c .if4 .taken), λ z. height-is top)
 
 returns-5 : tie.Need-returns-5
 returns-5 c =
     let read = c .before .before in
     let top = passed read in
     let begun = start (top .before) in
-    room-none _ (begun .pre .0) _ (few (top .before .before .before)) (remain (top .before)) (height-is top) (higher read) (c .before .height-fits .ensures) (c .if4 .left)
+    (room-none _ (begun .pre .0) _ (few (top .before .before .before)) (remain (top .before)) (height-is top) (higher read) (c .before .height-fits .ensures) (c .if4 .left), λ z. absurd (omega arith))
 
 pub room-refused-spec : {M : Type 1} → statement M
 room-refused-spec =

@@ -5,7 +5,7 @@ use mathlib.Core.Bool.{true≢false}
 use Prim.Native.Nat.{_-_, _≤_}
 use native.Mathlib.Omega.{arith}
 use Rattle.store_types.specs.Limits.{no-tag}
-use Rattle.load_tags.specs.Tags.{Around-known}
+use Rattle.load_record.specs.Record.{Around-known}
 use Rattle.load_tags.proofs.Filling.{Filling, row-starts, tag-fits, row-turns, row-ends}
 use Rattle.load_tags.proofs.write_row.Statement.{statement}
 use Rattle.load_tags.proofs.write_row.Tie as tie

@@ -7,7 +7,9 @@ use Prim.Native.Nat.{ℕ, _-_, _≤_, _<_}
 use lib.ListN.{length, getD}
 use Rattle.store_types.specs.Limits.{no-tag, label-limit}
 use Rattle.load_model.proofs.Steps.{Abreast}
-use Rattle.load_tags.specs.Tags.{gap, labels-new, Around-known}
+use Rattle.load_record.specs.Record.{Around-known}
+use Rattle.load_nodes.specs.Gaps.{gap}
+use Rattle.load_tags.specs.Tags.{labels-new}
 use Rattle.load_tags.proofs.Filling.{Filling, book-fits, book-kind, row-starts, tag-fits, row-turns, book-ends}
 use Rattle.load_tags.proofs.Labelled.{lows-fit, lows-small, small, labels-start, labels-begun, labels-next, label-new}
 use native.Mathlib.Omega.{arith}

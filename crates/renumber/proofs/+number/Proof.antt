@@ -4,17 +4,17 @@
 use mathlib.Core.Path.{_≡_, _∙_}
 use Prim.Native.Nat.{ℕ, _^_, _-_, _≤_, _<_}
 use native.Mathlib.Omega.{arith}
-use Rattle.shape.specs.Tables.{entry-limit}
+use Rattle.powers.specs.Tables.{entry-limit}
 use Rattle.shape.specs.Packed.{widths-in, r-in}
 use Rattle.renumber.specs.Needs.{trees-numbered}
-use Rattle.renumber.proofs.Rows.{On-way, start, arrived}
+use Rattle.relabel.proofs.Rows.{On-way, start, arrived}
 use Rattle.renumber.proofs.Parts.{parts-numbered, Parts-left, parts-start, parts-end, trees-zero, row-part, each-power, each-some, each-parts, fit-below, Next-part, next-part, part-counted, part-on}
 use borrow.Fn.Kinds.{In}
 use borrow.Fn.PlainCycle.{Measures, is, falls, and}
 use Rattle.renumber.proofs.number.Reads as number
 use Rattle.renumber.proofs.number.Kinds as number-kinds
 use Rattle.renumber.proofs.+number.Lts-number as number-lts
-use Rattle.renumber.proofs.number_leaves.Reads as number-leaves-reads
+use Rattle.relabel.proofs.number_leaves.Reads as number-leaves-reads
 use Rattle.renumber.proofs.part_size.Reads as part-size-reads
 use Rattle.shape.proofs.sum.Reads as sum-reads
 use Rattle.shape.proofs.tables.low.Reads as low-reads

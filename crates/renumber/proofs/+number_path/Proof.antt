@@ -3,7 +3,7 @@
 use Prim.Native.Nat.{ℕ, _+_, _*_, _<_, _≤_}
 use native.Mathlib.Omega.{arith}
 use mathlib.Core.Path.{_≡_, _∙_}
-use Rattle.shape.specs.Tables.{entry, entry-limit}
+use Rattle.powers.specs.Tables.{entry, entry-limit}
 use Rattle.shape.specs.Packed.{widths-in}
 use Rattle.shape.specs.Sums.{cut}
 use Rattle.renumber.proofs.Paths.{path-leaves, placed-at, next-at, cut-fits, trees-small, left-asks, own-asks, right-asks, parts-moved, path-done}
@@ -13,10 +13,10 @@ use Rattle.renumber.proofs.number_path.Reads as number-path
 use Rattle.renumber.proofs.number_path.Kinds as number-path-kinds
 use Rattle.renumber.proofs.+number_path.Lts-number_path as number-path-lts
 use Rattle.renumber.proofs.number.Reads as number-reads
-use Rattle.renumber.proofs.number_leaves.Reads as number-leaves-reads
-use Rattle.renumber.proofs.path_parts.Reads as path-parts-reads
-use Rattle.shape.proofs.cut.Reads as cut-reads
+use Rattle.relabel.proofs.number_leaves.Reads as number-leaves-reads
+use Rattle.splits.proofs.path_parts.Reads as path-parts-reads
 use Rattle.shape.proofs.sum.Reads as sum-reads
+use Rattle.shape.proofs.times.Reads as times-reads
 use Rattle.shape.proofs.tables.width.Reads as width-reads
 use Rattle.renumber.proofs.+number_path.{statement}
 use Rattle.renumber.proofs.+number_path.Tie.{close}
@@ -33,7 +33,7 @@ number-path-below t =
     and 2 number-path-kinds.ps (falls 2 number-path-kinds.ps _<_ μ-number-path t) number-path.Pre
 
 abbrev given : ℕ → number-path-lts.Claims
-given t = (width-reads.Asked, width-reads.Learnt, number-leaves-reads.Asked, number-leaves-reads.Learnt, path-parts-reads.Asked, path-parts-reads.Learnt, cut-reads.Asked, cut-reads.Learnt, sum-reads.Asked, sum-reads.Learnt, number-reads.Asked, number-reads.Learnt, number-path-below t, number-path.Post)
+given t = (width-reads.Asked, width-reads.Learnt, number-leaves-reads.Asked, number-leaves-reads.Learnt, path-parts-reads.Asked, path-parts-reads.Learnt, times-reads.Asked, times-reads.Learnt, sum-reads.Asked, sum-reads.Learnt, number-reads.Asked, number-reads.Learnt, number-path-below t, number-path.Post)
 
 number-path-width-requires : (t : ℕ) → number-path-lts.Need-width-requires (given t) (number-path-at t) number-path.Post
 number-path-width-requires t c κs = omega arith
@@ -66,16 +66,16 @@ module _ (t : ℕ) where
   Placed = number-path-lts.After-sum (given t) (number-path-at t) number-path.Post
 
   abbrev head : Placed → number-path-lts.Start (given t) (number-path-at t) number-path.Post
-  head c = c .before .before .before .before .before .before .before
+  head c = c .before .before .before .before .before .before
 
   abbrev parted : Placed → number-path-lts.After-path-parts (given t) (number-path-at t) number-path.Post
-  parted c = c .before .before .before
+  parted c = c .before .before
 
   low : (c : Placed) → 1 ≤ head c .args .j
   low c = omega (arith, parted c .before .before .if1 .left)
 
   at-is : (c : Placed) → c .sum .result ≡ cut (head c .args .a + parted c .path-parts .result .trees * entry (widths-in (head c .args .tables .now)) (head c .args .j))
-  at-is c = placed-at _ _ _ (c .sum .ensures) (c .before .cut .ensures) (parted c .before .width2 .ensures)
+  at-is c = placed-at _ _ _ (c .sum .ensures) (c .before .times .ensures) (parted c .before .width2 .ensures)
 
   -- behind it, where the last part is numbered
   abbrev owned : number-path-lts.After-sum2 (given t) (number-path-at t) number-path.Post → number-path-lts.After-number-path (given t) (number-path-at t) number-path.Post
@@ -105,18 +105,15 @@ module _ (t : ℕ) where
   width-fits : (c : number-path-lts.After-width2 (given t) (number-path-at t) number-path.Post) → c .width2 .result ≤ entry-limit
   width-fits c = rw (c .width2 .ensures) (c .before .before .before .pre .1 .2 .widths _)
 
-number-path-mul-cut : (t : ℕ) → number-path-lts.Need-mul-cut (given t) (number-path-at t) number-path.Post
-number-path-mul-cut t c =
-    let read = c .before .before in
-    omega (arith, trees-small (read .before .before .before .pre .1 .1) (omega arith) (c .before .path-parts .ensures) (read .width2 .result) (width-fits t read))
-
-number-path-cut-requires : (t : ℕ) → number-path-lts.Need-cut-requires (given t) (number-path-at t) number-path.Post
-number-path-cut-requires t c κs = tt
+number-path-times-requires : (t : ℕ) → number-path-lts.Need-times-requires (given t) (number-path-at t) number-path.Post
+number-path-times-requires t c κs =
+    let read = c .before in
+    trees-small (read .before .before .before .pre .1 .1) (omega arith) (c .path-parts .ensures) (read .width2 .result) (width-fits t read)
 
 number-path-sum-requires : (t : ℕ) → number-path-lts.Need-sum-requires (given t) (number-path-at t) number-path.Post
 number-path-sum-requires t c κs =
-    let read = c .before .before .before in
-    (omega (arith, read .before .before .before .pre .1 .2 .number), cut-fits _ (c .cut .ensures))
+    let read = c .before .before in
+    (omega (arith, read .before .before .before .pre .1 .2 .number), cut-fits _ (c .times .ensures))
 
 number-path-number-requires : (t : ℕ) → number-path-lts.Need-number-requires (given t) (number-path-at t) number-path.Post
 number-path-number-requires t c κs =
@@ -147,13 +144,13 @@ number-path-number-requires-2 t c κs =
     let at = head t here .pre .1 in
     right-asks (at .0) (at .1) (at .2) (low t here) (parted t here .path-parts .ensures) (at-is t here) (left .number .ensures) (left .number .kept .0) (behind-is t c) (own .number-path .ensures) (own .number-path .kept .0)
 
-number-path-add-t31 : (t : ℕ) → number-path-lts.Need-add-t31 (given t) (number-path-at t) number-path.Post
-number-path-add-t31 t c =
+number-path-add-t30 : (t : ℕ) → number-path-lts.Need-add-t30 (given t) (number-path-at t) number-path.Post
+number-path-add-t30 t c =
     let right = c .before .before .before .before .before in
     omega (arith, all-moved t right, head t (placed t (right .before)) .pre .1 .0 .most)
 
-number-path-add-t32 : (t : ℕ) → number-path-lts.Need-add-t32 (given t) (number-path-at t) number-path.Post
-number-path-add-t32 t c =
+number-path-add-t31 : (t : ℕ) → number-path-lts.Need-add-t31 (given t) (number-path-at t) number-path.Post
+number-path-add-t31 t c =
     let right = c .before .before .before .before .before .before in
     omega (arith, all-moved t right, head t (placed t (right .before)) .pre .1 .0 .most)
 
@@ -183,15 +180,14 @@ pub +number-path-spec : {M : Type 1} → statement M
     (number-path-returns t)
     (number-path-width-requires-2 t)
     (number-path-path-parts-requires t)
-    (number-path-mul-cut t)
-    (number-path-cut-requires t)
+    (number-path-times-requires t)
     (number-path-sum-requires t)
     (number-path-number-requires t)
     (number-path-sub-number-path t)
     (number-path-number-path-requires t)
     (number-path-sum-requires-2 t)
     (number-path-number-requires-2 t)
+    (number-path-add-t30 t)
     (number-path-add-t31 t)
-    (number-path-add-t32 t)
     (number-path-same-length-2 t)
     (number-path-returns-2 t)

@@ -3,7 +3,7 @@ use borrow.Author.Needs.{needs}
 use mathlib.Core.Path.{refl, _∙_}
 use native.Mathlib.Nat.{mul-le-mul}
 use native.Mathlib.Omega.{arith}
-use Rattle.shape.proofs.PowerLaws.{pair-base}
+use Rattle.powers.proofs.PowerLaws.{pair-base}
 use Rattle.shape.proofs.tables_for.Statement.{statement}
 use Rattle.shape.proofs.tables_for.Tie as tie
 

@@ -4,7 +4,7 @@ use native.Mathlib.Nat.{mul-le-mul}
 use native.Mathlib.Omega.{arith}
 use borrow.Author.Needs.{needs}
 use Rattle.shape.specs.Tables.{widths-of}
-use Rattle.shape.proofs.PowerLaws.{pair-base}
+use Rattle.powers.proofs.PowerLaws.{pair-base}
 use Rattle.shape.proofs.widths.Statement.{statement}
 use Rattle.shape.proofs.widths.Tie as tie
 

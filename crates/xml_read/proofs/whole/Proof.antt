@@ -2,7 +2,7 @@
 use mathlib.Core.Path.{sym, ap}
 use borrow.Author.Needs.{needs}
 use borrow.Author.Tests.{lt-ltb, le-ltb}
-use Rattle.xml_read.specs.Outcome.{whole-part}
+use Rattle.xml_read.specs.Whole.{whole-part}
 use Rattle.xml_read.proofs.whole.Statement.{statement}
 use Rattle.xml_read.proofs.whole.Tie as tie
 

@@ -7,7 +7,8 @@ use native.Mathlib.Nat.{le-trans}
 use native.Mathlib.Omega.{arith}
 use lib.ListN.{length}
 use borrow.Author.Needs.{needs}
-use Rattle.console.specs.Line.{number-of, load-of}
+use Rattle.console_fields.specs.Field.{number-of}
+use Rattle.console.specs.Line.{load-of}
 use Rattle.console.proofs.Splits.{field-within, rest-length}
 use Rattle.console.proofs.Words.{reply-some, reply-none, gives-plain}
 use Rattle.console.proofs.Loads.{Ends, part, load-one, load-two, first-within, second-within, third-within, load-refused, load-bare, load-letters, load-not-letters}

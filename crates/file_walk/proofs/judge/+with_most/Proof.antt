@@ -2,15 +2,16 @@
 -- any measure will do. Assumes nothing.
 use borrow.Author.Needs.{needs}
 use native.Mathlib.Omega.{arith}
-use Rattle.file_walk.specs.Needs.{passes-all, most-open}
-use Rattle.file_walk.proofs.JudgeLaws.{most-judged, never-deep}
+use Rattle.file_pass.specs.Needs.{passes-all}
+use Rattle.file_walk.specs.Needs.{most-open}
+use Rattle.file_pass.proofs.JudgeLaws.{most-judged, never-deep}
 use Prim.Native.Nat.{ℕ, _<_}
 use borrow.Fn.Kinds.{In}
 use borrow.Fn.PlainCycle.{Measures, is, falls, and}
 use Rattle.file_walk.proofs.judge.with_most.Reads as with-most
 use Rattle.file_walk.proofs.judge.with_most.Kinds as with-most-kinds
 use Rattle.file_walk.proofs.judge.+with_most.Lts-with_most as with-most-lts
-use Rattle.file_walk.proofs.judge.pass.Reads as pass-reads
+use Rattle.file_pass.proofs.pass.Reads as pass-reads
 use Rattle.file_walk.proofs.judge.+with_most.{statement}
 use Rattle.file_walk.proofs.judge.+with_most.Tie.{close}
 

@@ -1,7 +1,8 @@
 -- `file_walk::judge::all_pass` meets its contract. Assumes nothing.
 use borrow.Author.Needs.{needs}
-use Rattle.file_walk.specs.Needs.{passes-all, few-open}
-use Rattle.file_walk.proofs.JudgeLaws.{few-judged, told-judged}
+use Rattle.file_pass.specs.Needs.{passes-all}
+use Rattle.file_walk.specs.Needs.{few-open}
+use Rattle.file_pass.proofs.JudgeLaws.{few-judged, told-judged}
 use Rattle.file_walk.proofs.judge.all_pass.Statement.{statement}
 use Rattle.file_walk.proofs.judge.all_pass.Tie as tie
 

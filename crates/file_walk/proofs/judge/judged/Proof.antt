@@ -5,7 +5,7 @@ use Prim.Native.Nat.{_-_}
 use native.Mathlib.Omega.{arith}
 use lib.ListN.{replicate}
 use Rattle.store_types.specs.Layout.{at-height}
-use Rattle.shape.specs.Tables.{table-length}
+use Rattle.powers.specs.Tables.{table-length}
 use Rattle.shape.specs.Packed.{Packed, numbers-in}
 use Rattle.shape.proofs.Fits.{lows-fit, highs-fit}
 use Rattle.shape.proofs.PartLaws.{packed-with}

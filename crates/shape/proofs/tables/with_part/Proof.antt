@@ -4,7 +4,7 @@ use mathlib.Core.Path.{refl}
 use Prim.Native.Nat.{_-_}
 use borrow.Author.Needs.{needs}
 use native.Mathlib.Omega.{arith}
-use Rattle.shape.specs.Tables.{table-length}
+use Rattle.powers.specs.Tables.{table-length}
 use Rattle.shape.proofs.PartLaws.{Writing, writing-more, writing-end}
 use Rattle.shape.proofs.tables.with_part.Statement.{statement}
 use Rattle.shape.proofs.tables.with_part.Tie as tie

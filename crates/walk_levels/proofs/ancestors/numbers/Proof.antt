@@ -3,7 +3,7 @@
 use Prim.Native.Nat.{_+_, _*_, _-_, _/_, _≤_}
 use native.Mathlib.Omega.{arith}
 use lib.ListN.{replicate}
-use Rattle.shape.specs.Tables.{table-length}
+use Rattle.powers.specs.Tables.{table-length}
 use Rattle.shape.specs.Packed.{widths-in}
 use Rattle.walk_model.specs.Watch.{ancestor-numbers}
 use Rattle.walk_levels.proofs.AncestorNumbers.{Descending, step-fits, descend-start, descend-on, descend-end}

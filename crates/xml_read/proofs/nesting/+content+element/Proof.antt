@@ -6,10 +6,10 @@ use lib.ListN.{length, drop}
 use mathlib.Core.List.{List}
 use mathlib.Core.Bool.{true}
 use Rattle.xml.specs.Scan.{tag-at}
-use Rattle.xml_read.specs.Pieces.{opens-element}
-use Rattle.xml_read.specs.Outcome.{In-text, Reads-on, Ended}
+use Rattle.xml_pieces.specs.Pieces.{opens-element}
+use Rattle.xml_pieces.specs.Outcome.{In-text, Reads-on, Ended}
 use mathlib.Core.Path.{_≡_, refl, sym, _∙_, ap}
-use Rattle.xml_read.specs.declared.Part.the-variants.{On}
+use Rattle.xml_pieces.specs.declared.Part.the-variants.{On}
 use Rattle.xml_read.proofs.Nestings.{stays, goes-further, turned, goes-within, refused-ended, ended-at, tag-whole, tag-broken, tag-refused, Found-tag, Places, places, found-deep, found-inside, found-lone, found-refused, found-element}
 use borrow.Fn.Kinds.{In}
 use borrow.Fn.PlainCycle.{Measures, is, falls, and}
@@ -19,13 +19,13 @@ use Rattle.xml_read.proofs.nesting.+content+element.Lts-content as cont
 use Rattle.xml_read.proofs.nesting.element.Reads as element
 use Rattle.xml_read.proofs.nesting.element.Kinds as element-kinds
 use Rattle.xml_read.proofs.nesting.+content+element.Lts-element as element-lts
-use Rattle.xml_read.proofs.nesting.closed.Reads as closed-reads
-use Rattle.xml_read.proofs.nesting.ending.Reads as ending-reads
-use Rattle.xml_read.proofs.nesting.goes_on.Reads as goes-on-reads
-use Rattle.xml_read.proofs.nesting.opened.Reads as opened-reads
-use Rattle.xml_read.proofs.nesting.opens_element.Reads as opens-element-reads
+use Rattle.xml_ends.proofs.closed.Reads as closed-reads
+use Rattle.xml_ends.proofs.ending.Reads as ending-reads
+use Rattle.xml_ends.proofs.goes_on.Reads as goes-on-reads
+use Rattle.xml_ends.proofs.opened.Reads as opened-reads
+use Rattle.xml_ends.proofs.opens_element.Reads as opens-element-reads
 use Rattle.xml_tag.proofs.tag.Reads as tag-reads
-use Rattle.xml_read.proofs.pieces.piece.Reads as piece-reads
+use Rattle.xml_pieces.proofs.pieces.piece.Reads as piece-reads
 use Rattle.xml_read.proofs.nesting.+content+element.{statement}
 use Rattle.xml_read.proofs.nesting.+content+element.Tie.{close}
 

@@ -6,7 +6,7 @@ use native.Mathlib.Omega.{arith}
 use borrow.Author.Needs.{needs}
 use lib.ListN.{length}
 use Rattle.xml.specs.Scan.{data-length}
-use Rattle.xml_scan.specs.Post.{is-usual}
+use Rattle.xml_classes.specs.Classes.{is-usual}
 use Rattle.xml_scan.proofs.Seeks.{Seeking, seeking-start, seeking-at, seeking-none, seeking-on, seeking-run}
 use Rattle.xml_scan.proofs.DataSteps.{data-over, data-ended, data-broken, data-on, data-usual}
 use Rattle.xml_scan.proofs.bodies.data_end.Statement.{statement}

@@ -1,0 +1,4 @@
+pub mod Rows
+pub mod Tables
+pub mod Accepted
+pub mod Edits

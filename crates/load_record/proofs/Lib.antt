@@ -1,0 +1,2 @@
+pub mod OneTag
+pub mod Inside
