@@ -7,7 +7,7 @@ use Prim.Native.String.{String}
 use lib.ListN.{replicate}
 use Rattle.store_types.specs.Limits.{no-tag}
 use Rattle.console.specs.Line.{Parsed, unknown, plain}
-use Rattle.reply_text.specs.Specimens.{bytes}
+use Rattle.lists.specs.Texts.{bytes}
 use Rattle.console.specs.declared.Command.the-variants.{Load, Insert, Mark, List as List-all}
 
 -- LINES, and what they ask for

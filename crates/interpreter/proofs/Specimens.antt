@@ -22,12 +22,12 @@ use Rattle.calls.specs.Replies.{on-store, refusal-over, store-or, said, load-re
 use Rattle.console_fields.specs.Field.{is-digit, all-digits, value-from, well-begun, number-of, is-letter, all-letters, letter-kind}
 use Rattle.console.specs.Line.{fields, number-or-front, load-of, insert-of, mark-of, command-of, parsed}
 use Rattle.reply_text.specs.Text.{decimal-from, decimal, spaced, reply-line, tag-line, tag-lines, end-line, unknown-line}
-use Rattle.reply_text.specs.Specimens.{bytes}
+use Rattle.lists.specs.Texts.{bytes}
 use Rattle.line_reader.specs.Lines.{lines}
 use Rattle.interpreter.specs.Answer.{first-words, load-text, insert-text, mark-text, listing, list-text, command-text, command-words, line-text, line-words}
 use Rattle.interpreter.specs.Session.{texts}
 use Rattle.interpreter.specs.Specimens.{inputs, prints}
 
 pub specimens : map (λ p. prints (bytes (p .input))) inputs ≡ map (λ p. bytes (p .printed)) inputs
-unfolding headD numbers member place insert-at all-below leaves labels joined leaf-row parts spread put split-height within-limits label-of base power-width under-from load-under loaded root-full root-split put-inside inserted split-of inserted-row split-of-row moved-among root-within book-within front-below spelled-nodes spelled first same how-many code is-kind kind-of kind-word is-begin is-end next-in prior-in labels-fit nests closing new-facts fits opened nested degrees-fit tree-sound row-sound stamp-sound sound words-for all-kinds kinds-tests early-tests load-refusal load-store insert-kinds position up-at book-after insert-store insert-moved insert-split labels-end place-tests room-tests insert-refusal within mark-facts mark-store new-marks mark-count section-tests section-refusal encloses is-listed those listed-tags listed-labels inside-tests list-refusal header tag-record flatMap words-of records-at field follow read-fact label-at header-width read-book read-store starts-with header-in-range read-in-range read in-front on-store refusal-over store-or said written replied load-reply load-words insert-refused insert-reply insert-words mark-reply mark-words load-numbers insert-numbers mark-numbers with-first fields is-digit all-digits value-from well-begun number-of number-or-front is-letter all-letters letter-kind load-of insert-of mark-of command-of parsed decimal-from decimal spaced reply-line tag-line tag-lines end-line unknown-line bytes lines first-words load-text insert-text mark-text listing list-text command-text command-words line-text line-words texts prints
+unfolding headD numbers member place insert-at all-below leaves labels joined leaf-row parts spread put split-height within-limits label-of base power-width under-from load-under loaded root-full root-split put-inside inserted split-of inserted-row split-of-row moved-among root-within book-within front-below spelled-nodes spelled first same how-many code is-kind kind-of kind-word is-begin is-end next-in prior-in labels-fit nests closing new-facts fits opened nested degrees-fit tree-sound row-sound stamp-sound sound words-for all-kinds kinds-tests early-tests load-refusal load-store insert-kinds position up-at book-after insert-store insert-moved insert-split labels-end place-tests room-tests insert-refusal within mark-facts mark-store new-marks mark-count section-tests section-refusal encloses is-listed those listed-tags listed-labels inside-tests list-refusal header tag-record flatMap words-of records-at field follow read-fact label-at header-width read-book read-store starts-with header-in-range read-in-range read in-front on-store refusal-over store-or said written replied load-reply load-words insert-refused insert-reply insert-words mark-reply mark-words load-numbers insert-numbers mark-numbers with-first fields is-digit all-digits value-from well-begun number-of number-or-front is-letter all-letters letter-kind load-of insert-of mark-of command-of parsed decimal-from decimal spaced reply-line tag-line tag-lines end-line unknown-line lines first-words load-text insert-text mark-text listing list-text command-text command-words line-text line-words texts prints
 specimens = refl

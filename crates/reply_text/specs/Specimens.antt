@@ -2,14 +2,8 @@
 -- are worked out by hand from document 01. Assumes nothing: these are definitions.
 use mathlib.Core.List.{List, [], _∷_}
 use Prim.Native.Nat.{ℕ}
-use Prim.Native.Char.{code}
-use Prim.Native.String.{String, [] as []ₛ, _∷_ as _∷ₛ_}
+use Prim.Native.String.{String}
 use Rattle.reply_text.specs.Text.{decimal, reply-line, tag-lines, end-line, unknown-line}
-
--- a text's bytes; each character here is one byte
-unfoldable pub bytes : String → List ℕ
-bytes []ₛ = []
-bytes (c ∷ₛ cs) = code c ∷ bytes cs
 
 -- REPLIES, and what is printed
 pub record Printing : Type 0 where

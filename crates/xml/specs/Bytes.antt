@@ -5,6 +5,7 @@ use mathlib.Core.List.{List, [], _∷_}
 use Prim.Native.Nat.{ℕ}
 use lib.Dec.{ltb, leb, eqb}
 use Rattle.lists.specs.Fronts.{starts-with}
+use Rattle.lists.specs.Texts.{bytes}
 
 -- production 2, Char: tab, line feed, carriage return, and 32 to 127; from 128 on all are forbidden here
 unfoldable pub is-char : ℕ → Bool
@@ -58,61 +59,56 @@ quotation = 34
 abbrev pub apostrophe : ℕ
 apostrophe = 39
 
--- < !--  and  -- >
 abbrev pub comment-opens : List ℕ
-comment-opens = less-than ∷ 33 ∷ hyphen ∷ hyphen ∷ []
+comment-opens = bytes "<!--"
 
 abbrev pub comment-closes : List ℕ
-comment-closes = hyphen ∷ hyphen ∷ greater-than ∷ []
+comment-closes = bytes "-->"
 
 -- what a comment holds only in its closer
 abbrev pub two-hyphens : List ℕ
-two-hyphens = hyphen ∷ hyphen ∷ []
+two-hyphens = bytes "--"
 
--- <![CDATA[  and  ]]>
 abbrev pub cdata-opens : List ℕ
-cdata-opens = less-than ∷ 33 ∷ 91 ∷ 67 ∷ 68 ∷ 65 ∷ 84 ∷ 65 ∷ 91 ∷ []
+cdata-opens = bytes "<![CDATA["
 
 abbrev pub cdata-closes : List ℕ
-cdata-closes = bracket ∷ bracket ∷ greater-than ∷ []
+cdata-closes = bytes "]]>"
 
--- </
 abbrev pub end-opens : List ℕ
-end-opens = less-than ∷ slash ∷ []
+end-opens = bytes "</"
 
--- >  and  />
 abbrev pub tag-closes : List ℕ
-tag-closes = greater-than ∷ []
+tag-closes = bytes ">"
 
 abbrev pub lone-closes : List ℕ
-lone-closes = slash ∷ greater-than ∷ []
+lone-closes = bytes "/>"
 
--- <!, which begins comments, CDATA sections and declarations
+-- what begins comments, CDATA sections and declarations
 abbrev pub declaration-opens : List ℕ
-declaration-opens = less-than ∷ 33 ∷ []
+declaration-opens = bytes "<!"
 
--- <?  and  <!DOCTYPE
 abbrev pub instruction-opens : List ℕ
-instruction-opens = less-than ∷ 63 ∷ []
+instruction-opens = bytes "<?"
 
 abbrev pub doctype-opens : List ℕ
-doctype-opens = less-than ∷ 33 ∷ 68 ∷ 79 ∷ 67 ∷ 84 ∷ 89 ∷ 80 ∷ 69 ∷ []
+doctype-opens = bytes "<!DOCTYPE"
 
--- the names of the five references of 4.6: lt gt amp apos quot
+-- the names of the five references of 4.6
 abbrev pub lt-name : List ℕ
-lt-name = 108 ∷ 116 ∷ []
+lt-name = bytes "lt"
 
 abbrev pub gt-name : List ℕ
-gt-name = 103 ∷ 116 ∷ []
+gt-name = bytes "gt"
 
 abbrev pub amp-name : List ℕ
-amp-name = 97 ∷ 109 ∷ 112 ∷ []
+amp-name = bytes "amp"
 
 abbrev pub apos-name : List ℕ
-apos-name = 97 ∷ 112 ∷ 111 ∷ 115 ∷ []
+apos-name = bytes "apos"
 
 abbrev pub quot-name : List ℕ
-quot-name = 113 ∷ 117 ∷ 111 ∷ 116 ∷ []
+quot-name = bytes "quot"
 
 -- whether a string stands somewhere in a list
 unfoldable pub contains : (string : List ℕ) → List ℕ → Bool

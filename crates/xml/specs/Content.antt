@@ -1,15 +1,15 @@
--- Content as the standard nests it (39, 43): content holds elements and an element holds content (document 02, CR 1).
+-- Content as the standard nests it ([39] element, [43] content): content holds elements and an element holds content (document 02, CR 1).
 -- Assumes nothing: these are definitions.
 use mathlib.Core.Bool.{Bool, true, false, _&&_, not}
 use mathlib.Core.List.{List, [], _∷_, _++_}
 use Prim.Native.Nat.{ℕ, zero, suc}
-use lib.Dec.{ltb, eqb}
-use Rattle.lists.specs.Lists.{all-hold}
+use lib.Dec.{ltb}
 use Rattle.lists.specs.Fronts.{starts-with}
-use Rattle.xml.specs.Bytes.{is-char, contains, less-than, ampersand, hyphen, two-hyphens, cdata-closes}
-use Rattle.xml.specs.Grammar.{Construct, datum, reference, cdata, comment, start, lone, stop, Tag, is-tag, is-blank, is-reference}
+use Rattle.xml.specs.Bytes.{cdata-closes}
+use Rattle.xml.specs.Grammar.{Construct, datum, reference, cdata, comment, start, lone, stop, is-construct, Tag, is-tag, is-blank}
 
--- an item is a construct that opens and closes nothing; the blank of an element stands in its end tag
+-- an item is a construct that leaves open what was open: data, a reference, a CDATA section, a comment, or the whole element of an
+-- empty-element tag; the blank of an element stands in its end tag
 pub data Content : Type 0 where
   nothing : Content
   item : Construct → Content → Content
@@ -20,14 +20,14 @@ constructs nothing = []
 constructs (item c rest) = c ∷ constructs rest
 constructs (element t inside b rest) = start t ∷ constructs inside ++ (stop (t .name) b ∷ constructs rest)
 
--- an item by itself, with so much depth left; start and end tags are none
+-- an item by itself, with so much depth left, of which an empty element takes one; start and end tags are none
 unfoldable pub item-right : (depth : ℕ) → Construct → Bool
-item-right d (datum c) = is-char c && (not (eqb c less-than) && not (eqb c ampersand))
-item-right d (reference n) = is-reference n
-item-right d (cdata cs) = all-hold is-char cs && not (contains cdata-closes cs)
-item-right d (comment cs) = all-hold is-char cs && not (contains two-hyphens (cs ++ (hyphen ∷ [])))
+item-right d (datum c) = is-construct (datum c)
+item-right d (reference n) = is-construct (reference n)
+item-right d (cdata cs) = is-construct (cdata cs)
+item-right d (comment cs) = is-construct (comment cs)
 item-right d (start t) = false
-item-right d (lone t) = is-tag t && ltb 0 d
+item-right d (lone t) = is-construct (lone t) && ltb 0 d
 item-right d (stop n b) = false
 
 -- each right by itself, and no element deeper than is left

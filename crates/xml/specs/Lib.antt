@@ -6,3 +6,4 @@ pub mod Reader
 pub mod Replies
 pub mod Promise
 pub mod Specimens
+pub mod RowSpecimens

@@ -1,6 +1,6 @@
 -- The reader of a sheet: construct after construct from the left, with the names of the open elements (document 02, CR 1).
 -- What it replies is what the grammar says: Promise.antt. Assumes nothing: these are definitions.
-use mathlib.Core.Bool.{Bool, true, false, _&&_, _||_, not, cond}
+use mathlib.Core.Bool.{Bool, true, false, _&&_, not, cond}
 use mathlib.Core.List.{List, [], _∷_, _++_}
 use mathlib.Core.Option.{Option, none, some}
 use Prim.Native.Nat.{ℕ, zero, suc, pred, _+_}
@@ -8,8 +8,8 @@ use lib.Dec.{ltb, eqb}
 use lib.ListN.{length, take, drop}
 use Rattle.lists.specs.Lists.{first}
 use Rattle.lists.specs.Fronts.{starts-with}
-use Rattle.xml.specs.Bytes.{is-char, is-space, less-than, greater-than, ampersand, comment-opens, comment-closes, two-hyphens, cdata-opens, cdata-closes, end-opens, tag-closes, instruction-opens, doctype-opens}
-use Rattle.xml.specs.Grammar.{Place, most-depth, brackets-behind, tail-of, at-place, top}
+use Rattle.xml.specs.Bytes.{is-char, is-space, less-than, greater-than, ampersand, comment-opens, comment-closes, two-hyphens, cdata-opens, cdata-closes, end-opens, tag-closes}
+use Rattle.xml.specs.Grammar.{Place, most-depth, brackets-behind, tail-of, at-place, top, not-a-sheet, too-deep, not-read, refused-opener}
 use Rattle.xml.specs.Scan.{run, reference-length, body-length, Sized-tag, tag-at}
 
 -- THE NEXT CONSTRUCT, by what the reader needs of it: how many bytes it has, and a start tag's name; or the refusal
@@ -21,16 +21,6 @@ pub data Step : Type 0 where
   opening : (name : List ℕ) → (used : ℕ) → Step
   lone : (used : ℕ) → Step
   closing : (used : ℕ) → Step
-
--- where no construct is completed, and where a whole tag stands too deep
-abbrev pub not-a-sheet : ℕ
-not-a-sheet = 12
-
-abbrev pub too-deep : ℕ
-too-deep = 13
-
-abbrev pub not-read : ℕ
-not-read = 14
 
 -- a CDATA section, which is a piece of a text
 unfoldable pub cdata-step : (body : Option ℕ) → Step
@@ -56,10 +46,6 @@ unfoldable pub tag-step : (depth : ℕ) → List ℕ → Option Sized-tag → St
 tag-step d cs none = stuck not-a-sheet
 tag-step d cs (some t) =
     cond (ltb d most-depth) (cond (t .lone) (lone (t .used)) (opening (take (t .name) (drop 1 cs)) (t .used))) (stuck too-deep)
-
--- <? or <!DOCTYPE
-unfoldable pub refused-opener : List ℕ → Bool
-refused-opener cs = starts-with instruction-opens cs || starts-with doctype-opens cs
 
 -- what begins with <
 unfoldable pub markup-step : Place → List ℕ → Step

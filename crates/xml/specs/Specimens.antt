@@ -5,6 +5,7 @@ use mathlib.Core.List.{List, [], _∷_, _++_}
 use Prim.Native.Nat.{ℕ, zero, suc}
 use lib.ListN.{length, replicate}
 use Rattle.lists.specs.Lists.{same}
+use Rattle.lists.specs.Texts.{bytes}
 use Rattle.xml.specs.Grammar.{most-depth}
 use Rattle.xml.specs.Replies.{sheet-reply, sheet-list, sheet-numbers}
 
@@ -29,129 +30,79 @@ many (suc n) bs = bs ++ many n bs
 
 -- as many open elements as there may be
 unfoldable pub deep : List ℕ
-deep = many most-depth (60 ∷ 97 ∷ 62 ∷ [])
+deep = many most-depth (bytes "<a>")
 
 abbrev pub specimen-table : List Specimen
 specimen-table =
-    -- (empty)
-    gives ([]) ([]) ∷
-    --
-    gives (32 ∷ []) (3 ∷ []) ∷
-    -- <a/>
-    gives (60 ∷ 97 ∷ 47 ∷ 62 ∷ []) (1 ∷ 2 ∷ []) ∷
-    -- <a></a>
-    gives (60 ∷ 97 ∷ 62 ∷ 60 ∷ 47 ∷ 97 ∷ 62 ∷ []) (1 ∷ 2 ∷ []) ∷
-    -- <a>x</a>
-    gives (60 ∷ 97 ∷ 62 ∷ 120 ∷ 60 ∷ 47 ∷ 97 ∷ 62 ∷ []) (1 ∷ 3 ∷ 2 ∷ []) ∷
-    -- <a>t<b/>u<!--c-->v<![CDATA[w]]>&gt;</a>
-    gives (60 ∷ 97 ∷ 62 ∷ 116 ∷ 60 ∷ 98 ∷ 47 ∷ 62 ∷ 117 ∷ 60 ∷ 33 ∷ 45 ∷ 45 ∷ 99 ∷ 45 ∷ 45 ∷ 62 ∷ 118 ∷ 60 ∷ 33 ∷ 91 ∷ 67 ∷ 68 ∷ 65 ∷ 84 ∷ 65 ∷ 91 ∷ 119 ∷ 93 ∷ 93 ∷ 62 ∷ 38 ∷ 103 ∷ 116 ∷ 59 ∷ 60 ∷ 47 ∷ 97 ∷ 62 ∷ []) (1 ∷ 3 ∷ 1 ∷ 2 ∷ 3 ∷ 3 ∷ 2 ∷ []) ∷
-    -- <!--->-->
-    gives (60 ∷ 33 ∷ 45 ∷ 45 ∷ 45 ∷ 62 ∷ 45 ∷ 45 ∷ 62 ∷ []) ([]) ∷
-    -- <!-- a--->
-    refuses (60 ∷ 33 ∷ 45 ∷ 45 ∷ 32 ∷ 97 ∷ 45 ∷ 45 ∷ 45 ∷ 62 ∷ []) 12 ∷
-    -- <!-->
-    refuses (60 ∷ 33 ∷ 45 ∷ 45 ∷ 62 ∷ []) 12 ∷
-    -- <!---->
-    gives (60 ∷ 33 ∷ 45 ∷ 45 ∷ 45 ∷ 45 ∷ 62 ∷ []) ([]) ∷
-    -- ]]
-    gives (93 ∷ 93 ∷ []) (3 ∷ []) ∷
-    -- ]]>
-    refuses (93 ∷ 93 ∷ 62 ∷ []) 12 ∷
-    -- ]]&gt;
-    gives (93 ∷ 93 ∷ 38 ∷ 103 ∷ 116 ∷ 59 ∷ []) (3 ∷ []) ∷
-    -- ]]<!---->>
-    gives (93 ∷ 93 ∷ 60 ∷ 33 ∷ 45 ∷ 45 ∷ 45 ∷ 45 ∷ 62 ∷ 62 ∷ []) (3 ∷ 3 ∷ []) ∷
-    -- <![CDATA[x]]>]]>
-    refuses (60 ∷ 33 ∷ 91 ∷ 67 ∷ 68 ∷ 65 ∷ 84 ∷ 65 ∷ 91 ∷ 120 ∷ 93 ∷ 93 ∷ 62 ∷ 93 ∷ 93 ∷ 62 ∷ []) 12 ∷
-    -- <![CDATA[]]>
-    gives (60 ∷ 33 ∷ 91 ∷ 67 ∷ 68 ∷ 65 ∷ 84 ∷ 65 ∷ 91 ∷ 93 ∷ 93 ∷ 62 ∷ []) (3 ∷ []) ∷
-    -- a<!-- -->b
-    gives (97 ∷ 60 ∷ 33 ∷ 45 ∷ 45 ∷ 32 ∷ 45 ∷ 45 ∷ 62 ∷ 98 ∷ []) (3 ∷ 3 ∷ []) ∷
-    -- ]]]>
-    refuses (93 ∷ 93 ∷ 93 ∷ 62 ∷ []) 12 ∷
-    -- <a b = "1" c='&lt;"]]>'/>
-    gives (60 ∷ 97 ∷ 32 ∷ 98 ∷ 32 ∷ 61 ∷ 32 ∷ 34 ∷ 49 ∷ 34 ∷ 32 ∷ 99 ∷ 61 ∷ 39 ∷ 38 ∷ 108 ∷ 116 ∷ 59 ∷ 34 ∷ 93 ∷ 93 ∷ 62 ∷ 39 ∷ 47 ∷ 62 ∷ []) (1 ∷ 2 ∷ []) ∷
-    -- <a b="1"c="2"/>
-    refuses (60 ∷ 97 ∷ 32 ∷ 98 ∷ 61 ∷ 34 ∷ 49 ∷ 34 ∷ 99 ∷ 61 ∷ 34 ∷ 50 ∷ 34 ∷ 47 ∷ 62 ∷ []) 12 ∷
-    -- <a b="1" b="2"/>
-    refuses (60 ∷ 97 ∷ 32 ∷ 98 ∷ 61 ∷ 34 ∷ 49 ∷ 34 ∷ 32 ∷ 98 ∷ 61 ∷ 34 ∷ 50 ∷ 34 ∷ 47 ∷ 62 ∷ []) 12 ∷
-    -- <a b="<"/>
-    refuses (60 ∷ 97 ∷ 32 ∷ 98 ∷ 61 ∷ 34 ∷ 60 ∷ 34 ∷ 47 ∷ 62 ∷ []) 12 ∷
-    -- <a></a >
-    gives (60 ∷ 97 ∷ 62 ∷ 60 ∷ 47 ∷ 97 ∷ 32 ∷ 62 ∷ []) (1 ∷ 2 ∷ []) ∷
-    -- <a></ a>
-    refuses (60 ∷ 97 ∷ 62 ∷ 60 ∷ 47 ∷ 32 ∷ 97 ∷ 62 ∷ []) 12 ∷
-    -- <a/ >
-    refuses (60 ∷ 97 ∷ 47 ∷ 32 ∷ 62 ∷ []) 12 ∷
-    -- <a></b><?c?>
-    refuses (60 ∷ 97 ∷ 62 ∷ 60 ∷ 47 ∷ 98 ∷ 62 ∷ 60 ∷ 63 ∷ 99 ∷ 63 ∷ 62 ∷ []) 12 ∷
-    -- </a>
-    refuses (60 ∷ 47 ∷ 97 ∷ 62 ∷ []) 12 ∷
-    -- <a>
-    refuses (60 ∷ 97 ∷ 62 ∷ []) 12 ∷
-    -- <a></ab>
-    refuses (60 ∷ 97 ∷ 62 ∷ 60 ∷ 47 ∷ 97 ∷ 98 ∷ 62 ∷ []) 12 ∷
-    -- <ab></a>
-    refuses (60 ∷ 97 ∷ 98 ∷ 62 ∷ 60 ∷ 47 ∷ 97 ∷ 62 ∷ []) 12 ∷
-    -- <a b="1" c="2" b="3"/>
-    refuses (60 ∷ 97 ∷ 32 ∷ 98 ∷ 61 ∷ 34 ∷ 49 ∷ 34 ∷ 32 ∷ 99 ∷ 61 ∷ 34 ∷ 50 ∷ 34 ∷ 32 ∷ 98 ∷ 61 ∷ 34 ∷ 51 ∷ 34 ∷ 47 ∷ 62 ∷ []) 12 ∷
-    -- <a b="1" bb="2"/>
-    gives (60 ∷ 97 ∷ 32 ∷ 98 ∷ 61 ∷ 34 ∷ 49 ∷ 34 ∷ 32 ∷ 98 ∷ 98 ∷ 61 ∷ 34 ∷ 50 ∷ 34 ∷ 47 ∷ 62 ∷ []) (1 ∷ 2 ∷ []) ∷
-    -- <?
-    refuses (60 ∷ 63 ∷ []) 14 ∷
-    -- <!DOCTYPEx
-    refuses (60 ∷ 33 ∷ 68 ∷ 79 ∷ 67 ∷ 84 ∷ 89 ∷ 80 ∷ 69 ∷ 120 ∷ []) 14 ∷
-    -- <!DOCTYP
-    refuses (60 ∷ 33 ∷ 68 ∷ 79 ∷ 67 ∷ 84 ∷ 89 ∷ 80 ∷ []) 12 ∷
-    -- <a><?b?></a>
-    refuses (60 ∷ 97 ∷ 62 ∷ 60 ∷ 63 ∷ 98 ∷ 63 ∷ 62 ∷ 60 ∷ 47 ∷ 97 ∷ 62 ∷ []) 14 ∷
-    -- <a <?b?>>
-    refuses (60 ∷ 97 ∷ 32 ∷ 60 ∷ 63 ∷ 98 ∷ 63 ∷ 62 ∷ 62 ∷ []) 12 ∷
-    -- <!-- <?
-    refuses (60 ∷ 33 ∷ 45 ∷ 45 ∷ 32 ∷ 60 ∷ 63 ∷ []) 12 ∷
-    -- ]]><?
-    refuses (93 ∷ 93 ∷ 62 ∷ 60 ∷ 63 ∷ []) 12 ∷
-    -- <![CDAT
-    refuses (60 ∷ 33 ∷ 91 ∷ 67 ∷ 68 ∷ 65 ∷ 84 ∷ []) 12 ∷
-    -- <!doctype
-    refuses (60 ∷ 33 ∷ 100 ∷ 111 ∷ 99 ∷ 116 ∷ 121 ∷ 112 ∷ 101 ∷ []) 12 ∷
-    -- &#65;
-    refuses (38 ∷ 35 ∷ 54 ∷ 53 ∷ 59 ∷ []) 12 ∷
-    -- &lt
-    refuses (38 ∷ 108 ∷ 116 ∷ []) 12 ∷
-    -- &amp;&apos;&quot;
-    gives (38 ∷ 97 ∷ 109 ∷ 112 ∷ 59 ∷ 38 ∷ 97 ∷ 112 ∷ 111 ∷ 115 ∷ 59 ∷ 38 ∷ 113 ∷ 117 ∷ 111 ∷ 116 ∷ 59 ∷ []) (3 ∷ []) ∷
-    -- <a b="&x;"/>
-    refuses (60 ∷ 97 ∷ 32 ∷ 98 ∷ 61 ∷ 34 ∷ 38 ∷ 120 ∷ 59 ∷ 34 ∷ 47 ∷ 62 ∷ []) 12 ∷
-    -- \x7f
-    gives (127 ∷ []) (3 ∷ []) ∷
-    -- \x00
-    refuses (0 ∷ []) 12 ∷
-    -- \x80
-    refuses (128 ∷ []) 12 ∷
-    -- \x0b
-    refuses (11 ∷ []) 12 ∷
-    -- \r\n
-    gives (13 ∷ 10 ∷ []) (3 ∷ []) ∷
-    -- <:/>
-    gives (60 ∷ 58 ∷ 47 ∷ 62 ∷ []) (1 ∷ 2 ∷ []) ∷
-    -- 64 times <a>, then <b/>
-    refuses (deep ++ (60 ∷ 98 ∷ 47 ∷ 62 ∷ [])) 13 ∷
-    -- 64 times <a>, then <b x="1">
-    refuses (deep ++ (60 ∷ 98 ∷ 32 ∷ 120 ∷ 61 ∷ 34 ∷ 49 ∷ 34 ∷ 62 ∷ [])) 13 ∷
-    -- 64 times <a>, then <b x="1" x="1">
-    refuses (deep ++ (60 ∷ 98 ∷ 32 ∷ 120 ∷ 61 ∷ 34 ∷ 49 ∷ 34 ∷ 32 ∷ 120 ∷ 61 ∷ 34 ∷ 49 ∷ 34 ∷ 62 ∷ [])) 12 ∷
-    -- 64 times <a>, then <b
-    refuses (deep ++ (60 ∷ 98 ∷ [])) 12 ∷
-    -- 64 times <a>, then <?
-    refuses (deep ++ (60 ∷ 63 ∷ [])) 14 ∷
-    -- 64 times <a>, then 64 times </a>
-    gives (deep ++ many most-depth (60 ∷ 47 ∷ 97 ∷ 62 ∷ [])) (replicate most-depth 1 ++ replicate most-depth 2) ∷
-    -- 63 times <a>, then <b/>, then 63 times </a>
-    gives (many 63 (60 ∷ 97 ∷ 62 ∷ []) ++ (60 ∷ 98 ∷ 47 ∷ 62 ∷ []) ++ many 63 (60 ∷ 47 ∷ 97 ∷ 62 ∷ [])) (replicate most-depth 1 ++ replicate most-depth 2) ∷
-    -- <a>x</a> with a list of 2, of 3 and of 5
-    lends (60 ∷ 97 ∷ 62 ∷ 120 ∷ 60 ∷ 47 ∷ 97 ∷ 62 ∷ []) (9 ∷ 9 ∷ []) (11 ∷ []) (9 ∷ 9 ∷ []) ∷
-    lends (60 ∷ 97 ∷ 62 ∷ 120 ∷ 60 ∷ 47 ∷ 97 ∷ 62 ∷ []) (9 ∷ 9 ∷ 9 ∷ []) (0 ∷ 3 ∷ []) (1 ∷ 3 ∷ 2 ∷ []) ∷
-    lends (60 ∷ 97 ∷ 62 ∷ 120 ∷ 60 ∷ 47 ∷ 97 ∷ 62 ∷ []) (9 ∷ 9 ∷ 9 ∷ 9 ∷ 9 ∷ []) (0 ∷ 3 ∷ []) (1 ∷ 3 ∷ 2 ∷ 9 ∷ 9 ∷ []) ∷
     -- the text's own refusal comes before a short list
-    lends (60 ∷ 97 ∷ 62 ∷ 120 ∷ []) [] (12 ∷ []) [] ∷ []
+    lends (bytes "<a>x") [] (12 ∷ []) [] ∷
+    -- (empty)
+    gives (bytes "") [] ∷
+    gives (bytes " ") (3 ∷ []) ∷
+    gives (bytes "<a/>") (1 ∷ 2 ∷ []) ∷
+    gives (bytes "<a></a>") (1 ∷ 2 ∷ []) ∷
+    gives (bytes "<a>x</a>") (1 ∷ 3 ∷ 2 ∷ []) ∷
+    gives (bytes "<a>t<b/>u<!--c-->v<![CDATA[w]]>&gt;</a>") (1 ∷ 3 ∷ 1 ∷ 2 ∷ 3 ∷ 3 ∷ 2 ∷ []) ∷
+    gives (bytes "<!--->-->") [] ∷
+    refuses (bytes "<!-- a--->") 12 ∷
+    refuses (bytes "<!-->") 12 ∷
+    gives (bytes "<!---->") [] ∷
+    gives (bytes "]]") (3 ∷ []) ∷
+    refuses (bytes "]]>") 12 ∷
+    gives (bytes "]]&gt;") (3 ∷ []) ∷
+    gives (bytes "]]<!---->>") (3 ∷ 3 ∷ []) ∷
+    refuses (bytes "<![CDATA[x]]>]]>") 12 ∷
+    gives (bytes "<![CDATA[]]>") (3 ∷ []) ∷
+    gives (bytes "a<!-- -->b") (3 ∷ 3 ∷ []) ∷
+    refuses (bytes "]]]>") 12 ∷
+    gives (bytes "<a b = \"1\" c='&lt;\"]]>'/>") (1 ∷ 2 ∷ []) ∷
+    refuses (bytes "<a b=\"1\"c=\"2\"/>") 12 ∷
+    refuses (bytes "<a b=\"1\" b=\"2\"/>") 12 ∷
+    refuses (bytes "<a b=\"<\"/>") 12 ∷
+    gives (bytes "<a></a >") (1 ∷ 2 ∷ []) ∷
+    refuses (bytes "<a></ a>") 12 ∷
+    refuses (bytes "<a/ >") 12 ∷
+    refuses (bytes "<a></b><?c?>") 12 ∷
+    refuses (bytes "</a>") 12 ∷
+    refuses (bytes "<a>") 12 ∷
+    refuses (bytes "<a></ab>") 12 ∷
+    refuses (bytes "<ab></a>") 12 ∷
+    refuses (bytes "<a b=\"1\" c=\"2\" b=\"3\"/>") 12 ∷
+    gives (bytes "<a b=\"1\" bb=\"2\"/>") (1 ∷ 2 ∷ []) ∷
+    refuses (bytes "<?") 14 ∷
+    refuses (bytes "<!DOCTYPEx") 14 ∷
+    refuses (bytes "<!DOCTYP") 12 ∷
+    refuses (bytes "<a><?b?></a>") 14 ∷
+    refuses (bytes "<a <?b?>>") 12 ∷
+    refuses (bytes "<!-- <?") 12 ∷
+    refuses (bytes "]]><?") 12 ∷
+    refuses (bytes "<![CDAT") 12 ∷
+    refuses (bytes "<!doctype") 12 ∷
+    refuses (bytes "&#65;") 12 ∷
+    refuses (bytes "&lt") 12 ∷
+    gives (bytes "&amp;&apos;&quot;") (3 ∷ []) ∷
+    refuses (bytes "<a b=\"&x;\"/>") 12 ∷
+    gives (bytes "\u{7f}") (3 ∷ []) ∷
+    refuses (bytes "\0") 12 ∷
+    refuses (bytes "\u{80}") 12 ∷
+    refuses (bytes "\u{b}") 12 ∷
+    gives (bytes "\r\n") (3 ∷ []) ∷
+    gives (bytes "<:/>") (1 ∷ 2 ∷ []) ∷
+    -- 64 times <a>, then <b/>
+    refuses (deep ++ (bytes "<b/>")) 13 ∷
+    -- 64 times <a>, then <b x="1">
+    refuses (deep ++ (bytes "<b x=\"1\">")) 13 ∷
+    -- 64 times <a>, then <b x="1" x="1">
+    refuses (deep ++ (bytes "<b x=\"1\" x=\"1\">")) 12 ∷
+    -- 64 times <a>, then <b
+    refuses (deep ++ (bytes "<b")) 12 ∷
+    -- 64 times <a>, then <?
+    refuses (deep ++ (bytes "<?")) 14 ∷
+    -- 64 times <a>, then 64 times </a>
+    gives (deep ++ many most-depth (bytes "</a>")) (replicate most-depth 1 ++ replicate most-depth 2) ∷
+    -- 63 times <a>, then <b/>, then 63 times </a>
+    gives (many 63 (bytes "<a>") ++ (bytes "<b/>") ++ many 63 (bytes "</a>")) (replicate most-depth 1 ++ replicate most-depth 2) ∷
+    -- <a>x</a> with a list of 2, of 3 and of 5
+    lends (bytes "<a>x</a>") (9 ∷ 9 ∷ []) (11 ∷ []) (9 ∷ 9 ∷ []) ∷
+    lends (bytes "<a>x</a>") (9 ∷ 9 ∷ 9 ∷ []) (0 ∷ 3 ∷ []) (1 ∷ 3 ∷ 2 ∷ []) ∷
+    lends (bytes "<a>x</a>") (9 ∷ 9 ∷ 9 ∷ 9 ∷ 9 ∷ []) (0 ∷ 3 ∷ []) (1 ∷ 3 ∷ 2 ∷ 9 ∷ 9 ∷ []) ∷ []

@@ -10,9 +10,9 @@ use lib.Seq.{drop-drop, drop-cons, drop-length}
 use Rattle.lists.specs.Fronts.{starts-with}
 use Rattle.lists.proofs.Fronts.{starts-both}
 use Rattle.xml.specs.Bytes.{is-space, end-opens, tag-closes}
-use Rattle.xml.specs.Grammar.{at-place, tail-of}
+use Rattle.xml.specs.Grammar.{at-place, tail-of, not-a-sheet}
 use Rattle.xml.specs.Scan.{run}
-use Rattle.xml.specs.Reader.{Step, next, end-step, gives, past, of-text, used, refused, preceded, at-end, read-from, not-a-sheet}
+use Rattle.xml.specs.Reader.{Step, next, end-step, gives, past, of-text, used, refused, preceded, at-end, read-from}
 use Rattle.xml.specs.Reader as reader
 use Rattle.xml_scan.specs.declared.Found.the-variants.{At, Nothing}
 use Rattle.xml_laws.specs.Steps.{is-stuck}

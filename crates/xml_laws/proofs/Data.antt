@@ -15,9 +15,9 @@ use Rattle.lists.proofs.Tests.{by-test, and-left, and-right, and-both, or-left-
 use Rattle.lists.specs.Fronts.{starts-with}
 use Rattle.lists.proofs.Fronts.{rest-of}
 use Rattle.xml.specs.Bytes.{is-char, less-than, greater-than, ampersand, bracket, comment-opens, cdata-opens, cdata-closes, end-opens, comment-closes, tag-closes, is-space}
-use Rattle.xml.specs.Grammar.{Place, at-place, brackets-behind, most-depth}
+use Rattle.xml.specs.Grammar.{Place, at-place, brackets-behind, most-depth, refused-opener, not-a-sheet}
 use Rattle.xml.specs.Scan.{run, later, data-length, reference-length, Sized-tag, tag-at}
-use Rattle.xml.specs.Reader.{Step, next, markup-step, comment-step, cdata-step, end-step, tag-step, reference-step, datum-step, used, past, of-text, text-kind, gives, Reading, accepted, refused, preceded, reading, read-from, refused-opener, not-a-sheet}
+use Rattle.xml.specs.Reader.{Step, next, markup-step, comment-step, cdata-step, end-step, tag-step, reference-step, datum-step, used, past, of-text, text-kind, gives, Reading, accepted, refused, preceded, reading, read-from}
 use Rattle.xml.specs.Reader as reader
 use Rattle.xml_laws.proofs.Readings.{stepped}
 

@@ -9,9 +9,9 @@ use Rattle.lists.specs.Lists.{first}
 use Rattle.lists.specs.Fronts.{starts-with}
 use Rattle.lists.proofs.Fronts.{rest-of, starts-no-longer}
 use Rattle.xml.specs.Bytes.{is-name-start, less-than, ampersand, two-hyphens, comment-opens, cdata-opens, cdata-closes, end-opens, declaration-opens, instruction-opens, doctype-opens}
-use Rattle.xml.specs.Grammar.{Place, at-place}
+use Rattle.xml.specs.Grammar.{Place, at-place, refused-opener, not-a-sheet, not-read}
 use Rattle.xml.specs.Scan.{name-length, reference-length, body-length, tag-at}
-use Rattle.xml.specs.Reader.{Step, next, markup-step, comment-step, cdata-step, end-step, tag-step, reference-step, used, past, of-text, gives, Reading, refused, preceded, reading, read-from, refused-opener, not-a-sheet, not-read}
+use Rattle.xml.specs.Reader.{Step, next, markup-step, comment-step, cdata-step, end-step, tag-step, reference-step, used, past, of-text, gives, Reading, refused, preceded, reading, read-from}
 use Rattle.xml.specs.Reader as reader
 use Rattle.xml_laws.specs.Steps.{is-stuck}
 use Rattle.xml_laws.proofs.Readings.{stepped}

@@ -12,6 +12,7 @@ pub mod Next
 pub mod Readings
 pub mod Within
 pub mod Sheets
+pub mod EverySheet
 pub mod Data
 pub mod Dispatch
 pub mod Standing

@@ -14,9 +14,9 @@ use lib.Seq.{take-append-seam, drop-append-seam, drop-append-add, drop-at}
 use Rattle.lists.specs.Lists.{all-hold, first}
 use Rattle.lists.proofs.Tests.{by-test, and-left, and-right, and-both}
 use Rattle.xml.specs.Bytes.{is-char, is-space, is-name-start, less-than, greater-than, ampersand, hyphen, bracket, comment-opens, comment-closes, two-hyphens, cdata-opens, cdata-closes, end-opens, tag-closes, lone-closes, instruction-opens, doctype-opens}
-use Rattle.xml.specs.Grammar.{reference-text, Construct, datum, reference, cdata, comment, start, lone, stop, Tag, is-name, is-blank, is-tag, attributes-text, tag-text, text-of, Place, may-stand, closes, most-depth}
+use Rattle.xml.specs.Grammar.{reference-text, Construct, datum, reference, cdata, comment, start, lone, stop, Tag, is-name, is-blank, is-tag, attributes-text, tag-text, text-of, Place, may-stand, closes, most-depth, refused-opener, not-a-sheet, too-deep, not-read, is-construct}
 use Rattle.xml.specs.Scan.{run, body-length, reference-length, Sized-tag, tag-at}
-use Rattle.xml.specs.Reader.{Step, next, markup-step, comment-step, cdata-step, end-step, tag-step, reference-step, datum-step, refused-opener, not-a-sheet, too-deep, not-read}
+use Rattle.xml.specs.Reader.{Step, next, markup-step, comment-step, cdata-step, end-step, tag-step, reference-step, datum-step}
 use Rattle.xml.specs.Reader as reader
 use Rattle.xml.specs.Promise.{Whole-tag}
 use Rattle.xml_laws.specs.Steps.{step-of, is-stuck, tag-construct, size-of, Tags-found, Tags-written, Tag-there, Constructs-found, Construct-there, Constructs-written, Number-right, Numbers-right}
@@ -60,13 +60,13 @@ sized-step l t more rest d e h =
     go true n = rw h
 
 tag-stands : (l : Bool) (t : Tag) (p : Place) → (is-tag t && ltb (length (p .opened)) most-depth) ≡ true → may-stand (tag-construct l t) p ≡ true
-unfolding tag-construct may-stand
+unfolding tag-construct may-stand is-construct
 tag-stands false t p h = h
 tag-stands true t p h = h
 
 -- FOUND. A byte of character data
 datum-found : (p : Place) (c : ℕ) (more : List ℕ) → may-stand (datum c) p ≡ true → next p (c ∷ more) ≡ reader.Step.datum c
-unfolding may-stand next datum-step
+unfolding may-stand is-construct next datum-step
 datum-found p c more h =
     let a : Bool = is-char c in
     let b : Bool = not (eqb c less-than) in
@@ -77,7 +77,7 @@ datum-found p c more h =
     rw (not-true (eqb c less-than) (and-left b d bd), not-true (eqb c ampersand) (and-right b d bd), and-left a (b && d) l, and-right (a && (b && d)) e h)
 
 reference-read : (p : Place) (n more : List ℕ) → may-stand (reference n) p ≡ true → next p (text-of (reference n) ++ more) ≡ step-of (reference n)
-unfolding may-stand next reference-step text-of step-of reference-text
+unfolding may-stand is-construct next reference-step text-of step-of reference-text
 reference-read p n more h = rw (reference-found n more h)
 
 -- how long what stands between an opener and a closer is with them
@@ -85,13 +85,13 @@ between-size : (opens cs closes : List ℕ) → length opens + (length cs + leng
 between-size opens cs closes = simp length-append
 
 cdata-read : (p : Place) (cs more : List ℕ) → may-stand (cdata cs) p ≡ true → next p (text-of (cdata cs) ++ more) ≡ step-of (cdata cs)
-unfolding may-stand next markup-step first starts-with cdata-step text-of step-of
+unfolding may-stand is-construct next markup-step first starts-with cdata-step text-of step-of
 cdata-read p cs more h =
     rw (append-assoc cs cdata-closes more, body-found (bracket ∷ bracket ∷ []) greater-than cs more (and-left (all-hold is-char cs) _ h) (cdata-within cs (not-true _ (and-right (all-hold is-char cs) _ h))))
     (ap reader.Step.piece (between-size cdata-opens cs cdata-closes))
 
 comment-read : (p : Place) (cs more : List ℕ) → may-stand (comment cs) p ≡ true → next p (text-of (comment cs) ++ more) ≡ step-of (comment cs)
-unfolding may-stand next markup-step first starts-with comment-step text-of step-of
+unfolding may-stand is-construct next markup-step first starts-with comment-step text-of step-of
 comment-read p cs more h =
     rw (append-assoc cs comment-closes more, body-found (hyphen ∷ []) hyphen cs (greater-than ∷ more) (and-left (all-hold is-char cs) _ h) (not-true _ (and-right (all-hold is-char cs) _ h)), drop-append-seam cs (comment-closes ++ more))
     (ap reader.Step.comment (between-size comment-opens cs comment-closes))
@@ -119,7 +119,7 @@ end-read (m ∷ ms) n b more c h =
     (ap reader.Step.closing (end-size n b))
 
 stop-read : (p : Place) (n b more : List ℕ) → may-stand (stop n b) p ≡ true → next p (text-of (stop n b) ++ more) ≡ step-of (stop n b)
-unfolding may-stand next markup-step first starts-with text-of
+unfolding may-stand is-construct next markup-step first starts-with text-of
 stop-read p n b more h = end-read (p .opened) n b more (and-left (closes n (p .opened)) _ h) (and-right (closes n (p .opened)) _ h)
 
 -- TOLD. What a step says of the rest: a construct that stands there, or the number of what does not
@@ -200,14 +200,14 @@ not-named : (p : Place) (x : ℕ) (cs : List ℕ) → is-name-start x ≡ false 
 not-named p x cs f r = not-sheet p (less-than ∷ x ∷ cs) r (unnamed x cs f)
 
 datum-told : (p : Place) (c : ℕ) (cs : List ℕ) → eqb c less-than ≡ false → eqb c ampersand ≡ false → Told p (c ∷ cs) (datum-step (p .brackets) c)
-unfolding datum-step may-stand text-of step-of
+unfolding datum-step may-stand is-construct text-of step-of
 datum-told p c cs e f =
     by-test (is-char c && not (eqb c greater-than && eqb (p .brackets) 2))
     (λ t. rw t (there (record { construct = datum c; more = cs; written = refl; stands = rw (e, f, and-true (is-char c)) t; step = refl })))
     (λ t. rw t (not-markup p c cs e))
 
 reference-told : (p : Place) (cs : List ℕ) → Told p (ampersand ∷ cs) (reference-step (reference-length (ampersand ∷ cs)))
-unfolding reference-step may-stand text-of step-of reference-text
+unfolding reference-step may-stand is-construct text-of step-of reference-text
 reference-told p cs =
     by-test (eqb (reference-length (ampersand ∷ cs)) 0)
     (λ e. rw (eqb-true (reference-length (ampersand ∷ cs)) 0 e) (not-markup p ampersand cs refl))
@@ -215,7 +215,7 @@ reference-told p cs =
     rw (← (r .size)) (there (record { construct = reference (r .name); more = r .more; written = r .written; stands = r .right; step = refl })))
 
 cdata-told : (p : Place) (body : List ℕ) → Told p (cdata-opens ++ body) (cdata-step (body-length cdata-closes body))
-unfolding cdata-step may-stand text-of step-of refused-opener starts-with is-name-start
+unfolding cdata-step may-stand is-construct text-of step-of refused-opener starts-with is-name-start
 cdata-told p body = go (body-length cdata-closes body) refl
   where
     go : (o : Option ℕ) → body-length cdata-closes body ≡ o → Told p (cdata-opens ++ body) (cdata-step o)
@@ -231,7 +231,7 @@ cdata-told p body = go (body-length cdata-closes body) refl
         })
 
 comment-told : (p : Place) (body : List ℕ) → Told p (comment-opens ++ body) (comment-step body (body-length two-hyphens body))
-unfolding comment-step may-stand text-of step-of refused-opener starts-with is-name-start
+unfolding comment-step may-stand is-construct text-of step-of refused-opener starts-with is-name-start
 comment-told p body = go (body-length two-hyphens body) refl
   where
     halts : Told p (comment-opens ++ body) (reader.Step.stuck not-a-sheet)
@@ -257,7 +257,7 @@ comment-told p body = go (body-length two-hyphens body) refl
 -- behind the innermost open name
 closing-told : (p : Place) (n : List ℕ) (ns : List (List ℕ)) (b more : List ℕ) → p .opened ≡ n ∷ ns → is-blank b ≡ true → stops is-space more ≡ true →
     Told p (end-opens ++ n ++ (b ++ more)) (end-step (n ∷ ns) (end-opens ++ n ++ (b ++ more)))
-unfolding may-stand closes is-blank text-of step-of refused-opener starts-with is-name-start
+unfolding may-stand is-construct closes is-blank text-of step-of refused-opener starts-with is-name-start
 closing-told p n ns b more o h s =
     rw (named-end n ns (b ++ more), run-found is-space b more h s, drop-append-seam b more)
     (by-test (starts-with tag-closes more)
@@ -310,7 +310,7 @@ tag-read l t p more h =
     read ∙ rw (tags-found l t more right) (sized-step l t more text (length (p .opened)) refl (and-right (is-tag t) _ h))
 
 pub constructs-found : Constructs-found
-unfolding Constructs-found may-stand tag-construct text-of step-of
+unfolding Constructs-found may-stand is-construct tag-construct text-of step-of
 constructs-found (datum c) p more h = datum-found p c more h
 constructs-found (reference n) p more h = reference-read p n more h
 constructs-found (cdata cs) p more h = cdata-read p cs more h

@@ -13,8 +13,8 @@ use lib.ListN.{length, drop, length-append}
 use lib.Seq.{drop-append-seam}
 use Rattle.lists.proofs.Tests.{by-test, and-left, and-right, and-both}
 use Rattle.lists.specs.Fronts.{starts-with}
-use Rattle.xml.specs.Grammar.{Construct, datum, reference, cdata, comment, start, lone, stop, text-of, texts, tag-text, reference-text, Place, may-stand, behind, tail-of, is-tag, all-stand, place-behind, kinds-from, most-depth}
-use Rattle.xml.specs.Reader.{Step, next, used, past, of-text, gives, Reading, accepted, refused, preceded, reading, at-end, read-from, refused-opener, not-a-sheet, too-deep, not-read}
+use Rattle.xml.specs.Grammar.{Construct, datum, reference, cdata, comment, start, lone, stop, text-of, texts, tag-text, reference-text, Place, may-stand, behind, tail-of, is-tag, all-stand, place-behind, kinds-from, most-depth, refused-opener, not-a-sheet, too-deep, not-read, is-construct}
+use Rattle.xml.specs.Reader.{Step, next, used, past, of-text, gives, Reading, accepted, refused, preceded, reading, at-end, read-from}
 use Rattle.xml.specs.Reader as reader
 use Rattle.xml.specs.Promise.{Stuck, Whole-tag}
 use Rattle.xml_laws.proofs.Next.{constructs-found, constructs-written, numbers-right}
@@ -104,7 +104,7 @@ tail-shorter [] = omega arith
 tail-shorter (n ∷ ns) = omega arith
 
 pub depth-kept : (c : Construct) (p : Place) → length (p .opened) ≤ most-depth → may-stand c p ≡ true → length (behind c p .opened) ≤ most-depth
-unfolding may-stand behind
+unfolding may-stand is-construct behind
 depth-kept (datum c) p h s = h
 depth-kept (reference n) p h s = h
 depth-kept (cdata cs) p h s = h

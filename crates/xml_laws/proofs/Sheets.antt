@@ -8,8 +8,8 @@ use Prim.Native.Nat.{ℕ}
 use native.Mathlib.Nat.{le-refl}
 use native.Mathlib.Omega.{arith}
 use lib.ListN.{length}
-use Rattle.xml.specs.Grammar.{top}
-use Rattle.xml.specs.Reader.{Reading, accepted, refused, read-sheet, not-a-sheet, too-deep, not-read}
+use Rattle.xml.specs.Grammar.{top, not-a-sheet, too-deep, not-read}
+use Rattle.xml.specs.Reader.{Reading, accepted, refused, read-sheet}
 use Rattle.xml.specs.Promise.{In-grammar, Outside, Sheets-right, One-kinds, One-number, Not-both, Either}
 use Rattle.xml_laws.proofs.Readings.{Read-so, Refused-so, Means, row-read, refused-read, means}
 

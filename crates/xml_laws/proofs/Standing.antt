@@ -4,7 +4,7 @@ use mathlib.Core.Bool.{true, false≢true}
 use mathlib.Core.List.{List, [], _∷_}
 use Prim.Native.Nat.{ℕ}
 use Rattle.lists.proofs.Tests.{and-left, and-right}
-use Rattle.xml.specs.Grammar.{Construct, stop, Place, closes, tail-of, may-stand, behind, all-stand}
+use Rattle.xml.specs.Grammar.{Construct, stop, Place, closes, tail-of, may-stand, behind, all-stand, is-construct}
 use Rattle.lists.proofs.Same.{same-equal}
 
 pub first-stands : (c : Construct) (cs : List Construct) (p : Place) → all-stand (c ∷ cs) p ≡ true → may-stand c p ≡ true
@@ -22,5 +22,5 @@ innermost n [] h = absurd (false≢true h)
 innermost n (m ∷ ms) h = ap (λ l. l ∷ ms) (sym (same-equal n m h))
 
 pub stop-closes : (n b : List ℕ) (p : Place) → may-stand (stop n b) p ≡ true → p .opened ≡ n ∷ tail-of (p .opened)
-unfolding may-stand
+unfolding may-stand is-construct
 stop-closes n b p h = innermost n (p .opened) (and-left (closes n (p .opened)) _ h)

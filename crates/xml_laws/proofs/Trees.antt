@@ -10,7 +10,7 @@ use lib.Dec.{ltb, eqb}
 use lib.ListN.{length}
 use Rattle.lists.proofs.Tests.{and-left, and-right, and-both}
 use Rattle.xml.specs.Bytes.{is-char, less-than, greater-than, ampersand}
-use Rattle.xml.specs.Grammar.{Construct, datum, reference, cdata, comment, start, lone, stop, Tag, is-tag, is-blank, Place, top, closes, tail-of, brackets-behind, may-stand, behind, all-stand, place-behind, most-depth}
+use Rattle.xml.specs.Grammar.{Construct, datum, reference, cdata, comment, start, lone, stop, Tag, is-tag, is-blank, Place, top, closes, tail-of, brackets-behind, may-stand, behind, all-stand, place-behind, most-depth, is-construct}
 use Rattle.xml.specs.Content.{Content, nothing, item, element, constructs, item-right, content-right}
 use Rattle.xml.specs.Promise.{In-grammar, Nested, Sheets-nest-as-trees}
 use Rattle.lists.proofs.Same.{same-refl}
@@ -78,22 +78,22 @@ tag-fits : (t : Tag) (p : Place) → (is-tag t && ltb (length (p .opened)) most-
 tag-fits t p h = ltb-true (length (p .opened)) most-depth (and-right (is-tag t) _ h)
 
 lone-item : (t : Tag) (p : Place) → may-stand (lone t) p ≡ true → item-right (left (p .opened)) (lone t) ≡ true
-unfolding may-stand item-right
+unfolding may-stand is-construct item-right
 lone-item t p h = and-both (and-left (is-tag t) _ h) (lt-ltb 0 (left (p .opened)) (omega (arith, tag-fits t p h)))
 
 datum-item : (c : ℕ) (p : Place) → may-stand (datum c) p ≡ true → item-right (left (p .opened)) (datum c) ≡ true
-unfolding may-stand item-right
+unfolding may-stand is-construct item-right
 datum-item c p h = and-left (is-char c && (not (eqb c less-than) && not (eqb c ampersand))) _ h
 
 -- an end tag ends the innermost open element
 with-end : (n b : List ℕ) (cs : List Construct) (p : Place) → may-stand (stop n b) p ≡ true → Spine (tail-of (p .opened)) cs → Spine (p .opened) (stop n b ∷ cs)
-unfolding may-stand
+unfolding may-stand is-construct
 with-end n b cs p h s =
     rw (stop-closes n b p h)
     (no-content (n ∷ tail-of (p .opened)) (stop n b ∷ cs) (record { blank = b; row = cs; written = refl; right = and-right (closes n (p .opened)) _ h; around = s }))
 
 spine : (row : List Construct) (p : Place) → all-stand row p ≡ true → place-behind row p .opened ≡ [] → Spine (p .opened) row
-unfolding place-behind behind may-stand item-right
+unfolding place-behind behind may-stand is-construct item-right
 spine [] p h e = rw e (no-content [] [] refl)
 spine (datum c ∷ cs) p h e = with-item (p .opened) (datum c) cs (datum-item c p (first-stands (datum c) cs p h)) (spine cs (behind (datum c) p) (rest-stands (datum c) cs p h) e)
 spine (reference n ∷ cs) p h e = with-item (p .opened) (reference n) cs (first-stands (reference n) cs p h) (spine cs (behind (reference n) p) (rest-stands (reference n) cs p h) e)
@@ -107,7 +107,7 @@ spine (stop n b ∷ cs) p h e = with-end n b cs p (first-stands (stop n b) cs p 
 
 -- the brackets before each byte of data are counted right
 stand-brackets : (row : List Construct) (p : Place) → all-stand row p ≡ true → brackets-right (p .brackets) row ≡ true
-unfolding brackets-right behind may-stand
+unfolding brackets-right behind may-stand is-construct
 stand-brackets [] p h = refl
 stand-brackets (datum c ∷ cs) p h =
     and-both (and-right (is-char c && (not (eqb c less-than) && not (eqb c ampersand))) _ (first-stands (datum c) cs p h)) (stand-brackets cs (behind (datum c) p) (rest-stands (datum c) cs p h))
@@ -144,7 +144,7 @@ abbrev Closing-at : (opened : List (List ℕ)) → List Construct → Type 0
 Closing-at os row = (b : ℕ) → brackets-right b row ≡ true → Closing row (record { opened = os; brackets = b })
 
 item-onto : (d : ℕ) (c : Construct) (row : List Construct) (os : List (List ℕ)) → item-right d c ≡ true → length os + d ≡ most-depth → Closing-at os row → Closing-at os (c ∷ row)
-unfolding item-right brackets-right may-stand behind
+unfolding item-right brackets-right may-stand is-construct behind
 item-onto d (datum c) row os r e k b h =
     let fits : Bool = not (eqb c greater-than && eqb b 2) in
     onto (datum c) row (record { opened = os; brackets = b }) (and-both r (and-left fits _ h)) (k (brackets-behind c b) (and-right fits _ h))
@@ -158,12 +158,12 @@ item-onto d (lone t) row os r e k b h =
 item-onto d (stop n bs) row os r e k b h = absurd (false≢true r)
 
 start-onto : (t : Tag) (row : List Construct) (os : List (List ℕ)) → is-tag t ≡ true → length os < most-depth → Closing-at (t .name ∷ os) row → Closing-at os (start t ∷ row)
-unfolding brackets-right may-stand behind
+unfolding brackets-right may-stand is-construct behind
 start-onto t row os r l k b h =
     onto (start t) row (record { opened = os; brackets = b }) (and-both r (lt-ltb (length os) most-depth l)) (k 0 h)
 
 stop-onto : (n bs : List ℕ) (row : List Construct) (os : List (List ℕ)) → is-blank bs ≡ true → Closing-at os row → Closing-at (n ∷ os) (stop n bs ∷ row)
-unfolding brackets-right may-stand behind closes tail-of
+unfolding brackets-right may-stand is-construct behind closes tail-of
 stop-onto n bs row os r k b h =
     onto (stop n bs) row (record { opened = n ∷ os; brackets = b }) (and-both (same-refl n) r) (k 0 h)
 

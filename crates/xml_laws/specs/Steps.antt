@@ -7,9 +7,9 @@ use mathlib.Core.Logic.{_↔_, _⊎_}
 use mathlib.Core.Option.{some}
 use Prim.Native.Nat.{ℕ, _≤_}
 use lib.ListN.{length}
-use Rattle.xml.specs.Grammar.{Construct, datum, reference, cdata, comment, start, lone, stop, Tag, text-of, is-tag, Place, may-stand, most-depth}
+use Rattle.xml.specs.Grammar.{Construct, datum, reference, cdata, comment, start, lone, stop, Tag, text-of, is-tag, Place, may-stand, most-depth, refused-opener, not-a-sheet, too-deep, not-read}
 use Rattle.xml.specs.Scan.{Sized-tag, tag-at}
-use Rattle.xml.specs.Reader.{Step, next, refused-opener, not-a-sheet, too-deep, not-read}
+use Rattle.xml.specs.Reader.{Step, next}
 use Rattle.xml.specs.Reader as reader
 use Rattle.xml.specs.Promise.{Whole-tag}
 

@@ -13,9 +13,9 @@ use lib.Seq.{drop-drop, drop-cons}
 use Rattle.lists.proofs.Tests.{by-test}
 use Rattle.lists.specs.Fronts.{starts-with}
 use Rattle.xml.specs.Bytes.{is-char, less-than, ampersand, two-hyphens, comment-opens, comment-closes, cdata-opens, cdata-closes, declaration-opens, instruction-opens, doctype-opens, end-opens}
-use Rattle.xml.specs.Grammar.{at-place}
+use Rattle.xml.specs.Grammar.{at-place, refused-opener, not-a-sheet, not-read}
 use Rattle.xml.specs.Scan.{data-length, reference-length, body-length}
-use Rattle.xml.specs.Reader.{Step, next, gives, past, of-text, used, read-from, comment-step, cdata-step, reference-step, refused-opener, not-a-sheet, not-read}
+use Rattle.xml.specs.Reader.{Step, next, gives, past, of-text, used, read-from, comment-step, cdata-step, reference-step}
 use Rattle.xml.specs.Reader as reader
 use Rattle.xml_laws.specs.Steps.{is-stuck}
 use Rattle.xml_laws.proofs.Bodies.{body-written}

@@ -13,9 +13,9 @@ use Rattle.lists.proofs.Tests.{and-left, and-right}
 use Rattle.lists.specs.Fronts.{starts-with}
 use Rattle.lists.proofs.Fronts.{rest-of}
 use Rattle.xml.specs.Bytes.{less-than, declaration-opens, instruction-opens}
-use Rattle.xml.specs.Grammar.{at-place, most-depth}
+use Rattle.xml.specs.Grammar.{at-place, most-depth, not-a-sheet, too-deep}
 use Rattle.xml.specs.Scan.{Sized-tag, tag-at}
-use Rattle.xml.specs.Reader.{Step, next, tag-step, gives, past, of-text, used, Reading, refused, preceded, read-from, not-a-sheet, too-deep}
+use Rattle.xml.specs.Reader.{Step, next, tag-step, gives, past, of-text, used, Reading, refused, preceded, read-from}
 use Rattle.xml.specs.Reader as reader
 use Rattle.xml_laws.specs.Steps.{is-stuck}
 use Rattle.xml_laws.proofs.Dispatch.{step-read, step-refused, next-tag}

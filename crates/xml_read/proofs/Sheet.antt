@@ -13,8 +13,8 @@ use Rattle.lists.proofs.Tests.{by-test}
 use Rattle.lists.specs.Fronts.{replied, written}
 use Rattle.lists.proofs.Replied.{replied-refused, written-refused}
 use Rattle.lists.proofs.Fronts.{sets-front}
-use Rattle.xml.specs.Grammar.{at-place, most-depth}
-use Rattle.xml.specs.Reader.{Reading, accepted, refused, read-from, read-sheet, at-end, not-a-sheet}
+use Rattle.xml.specs.Grammar.{at-place, most-depth, not-a-sheet}
+use Rattle.xml.specs.Reader.{Reading, accepted, refused, read-from, read-sheet, at-end}
 use Rattle.xml.specs.Replies.{sheet-refusal, kinds-in, sheet-reply, sheet-list, list-short}
 use Rattle.xml.specs.declared.SheetReply.{SheetReply}
 use Rattle.xml.specs.declared.SheetReply.the-variants as answer

@@ -6,7 +6,8 @@ use Prim.Native.Nat.{ℕ}
 use lib.Dec.{ltb}
 use lib.ListN.{length}
 use lib.Seq.{sets}
-use Rattle.xml.specs.Reader.{Reading, accepted, refused, read-sheet, not-a-sheet}
+use Rattle.xml.specs.Grammar.{not-a-sheet}
+use Rattle.xml.specs.Reader.{Reading, accepted, refused, read-sheet}
 use Rattle.xml.specs.declared.SheetReply.{SheetReply}
 use Rattle.xml.specs.declared.SheetReply.the-variants as answer
 use Rattle.xml_pieces.specs.declared.Part.{Part}
