@@ -6,7 +6,7 @@ use Prim.Native.Nat.{ℕ, zero, suc}
 use lib.Dec.{ltb}
 use Rattle.lists.specs.Fronts.{starts-with}
 use Rattle.xml.specs.Bytes.{cdata-closes}
-use Rattle.xml.specs.Grammar.{Construct, datum, reference, cdata, comment, start, lone, stop, is-construct, Tag, is-tag, is-blank}
+use Rattle.xml.specs.Grammar.{Construct, datum, reference, cdata, comment, start, empty-element, stop, is-construct, Tag, is-tag, is-blank}
 
 -- an item is a construct that leaves open what was open: data, a reference, a CDATA section, a comment, or the whole element of an
 -- empty-element tag; the blank of an element stands in its end tag
@@ -27,7 +27,7 @@ item-right d (reference n) = is-construct (reference n)
 item-right d (cdata cs) = is-construct (cdata cs)
 item-right d (comment cs) = is-construct (comment cs)
 item-right d (start t) = false
-item-right d (lone t) = is-construct (lone t) && ltb 0 d
+item-right d (empty-element t) = is-construct (empty-element t) && ltb 0 d
 item-right d (stop n b) = false
 
 -- each right by itself, and no element deeper than is left
@@ -45,7 +45,7 @@ data-front (reference n ∷ cs) = []
 data-front (cdata bs ∷ cs) = []
 data-front (comment bs ∷ cs) = []
 data-front (start t ∷ cs) = []
-data-front (lone t ∷ cs) = []
+data-front (empty-element t ∷ cs) = []
 data-front (stop n b ∷ cs) = []
 
 -- ]]> stands nowhere in data that stands together

@@ -37,18 +37,18 @@ reference-text cs = ampersand ∷ cs ++ (semicolon ∷ [])
 -- [10] AttValue: between two " or between two ', in any number, bytes but < & and that quote, and References. Here what stands
 -- between the quotes; a Reference is one of the five
 pub data Value : Type 0 where
-  closed : Value
+  no-more : Value
   byte : (c : ℕ) → Value → Value
   named : (name : List ℕ) → Value → Value
 
 unfoldable pub value-text : Value → List ℕ
-value-text closed = []
+value-text no-more = []
 value-text (byte c v) = c ∷ value-text v
 value-text (named cs v) = reference-text cs ++ value-text v
 
 -- each byte is a Char [2] and none of < & and the quote; each name is one of the five
 unfoldable pub is-value : (quote : ℕ) → Value → Bool
-is-value q closed = true
+is-value q no-more = true
 is-value q (byte c v) = (is-char c && (not (eqb c less-than) && (not (eqb c ampersand) && not (eqb c q)))) && is-value q v
 is-value q (named cs v) = is-reference cs && is-value q v
 
@@ -57,26 +57,26 @@ unfoldable pub is-quote : ℕ → Bool
 is-quote c = eqb c quotation || eqb c apostrophe
 
 -- [41] Attribute: Name Eq AttValue, where [25] Eq is S? = S?. The gap is the S that [40] and [44] have before each Attribute;
--- `before` and `behind` are the S? on both sides of =
+-- `before` and `after` are the S? on both sides of =
 pub record Attribute : Type 0 where
   pub gap : List ℕ
   pub name : List ℕ
   pub before : List ℕ
-  pub behind : List ℕ
+  pub after : List ℕ
   pub quote : ℕ
   pub value : Value
 
 -- an attribute from its name on, and with its gap
 unfoldable pub bare-text : Attribute → List ℕ
 bare-text a =
-    a .name ++ (a .before ++ (equals ∷ a .behind ++ (a .quote ∷ value-text (a .value) ++ (a .quote ∷ []))))
+    a .name ++ (a .before ++ (equals ∷ a .after ++ (a .quote ∷ value-text (a .value) ++ (a .quote ∷ []))))
 
 unfoldable pub attribute-text : Attribute → List ℕ
 attribute-text a = a .gap ++ bare-text a
 
 unfoldable pub is-attribute : Attribute → Bool
 is-attribute a =
-    (is-gap (a .gap) && is-name (a .name)) && ((is-blank (a .before) && is-blank (a .behind))
+    (is-gap (a .gap) && is-name (a .name)) && ((is-blank (a .before) && is-blank (a .after))
     && (is-quote (a .quote) && is-value (a .quote) (a .value)))
 
 unfoldable pub attributes-text : List Attribute → List ℕ
@@ -116,7 +116,7 @@ pub data Construct : Type 0 where
   cdata : (bytes : List ℕ) → Construct
   comment : (bytes : List ℕ) → Construct
   start : Tag → Construct
-  lone : Tag → Construct
+  empty-element : Tag → Construct
   stop : (name blank : List ℕ) → Construct
 
 -- what a construct is written as:
@@ -132,7 +132,7 @@ text-of (reference n) = reference-text n
 text-of (cdata cs) = cdata-opens ++ (cs ++ cdata-closes)
 text-of (comment cs) = comment-opens ++ (cs ++ comment-closes)
 text-of (start t) = tag-text t ++ tag-closes
-text-of (lone t) = tag-text t ++ lone-closes
+text-of (empty-element t) = tag-text t ++ lone-closes
 text-of (stop n b) = end-opens ++ (n ++ (b ++ tag-closes))
 
 unfoldable pub texts : List Construct → List ℕ
@@ -150,7 +150,7 @@ is-construct (reference n) = is-reference n
 is-construct (cdata cs) = all-hold is-char cs && not (contains cdata-closes cs)
 is-construct (comment cs) = all-hold is-char cs && not (contains two-hyphens (cs ++ (hyphen ∷ [])))
 is-construct (start t) = is-tag t
-is-construct (lone t) = is-tag t
+is-construct (empty-element t) = is-tag t
 is-construct (stop n b) = is-blank b
 
 -- WHERE A CONSTRUCT STANDS: the names of the open elements, innermost first, and how many ] of character data stand right
@@ -163,8 +163,8 @@ pub record Place : Type 0 where
 abbrev pub most-depth : ℕ
 most-depth = 64
 
-unfoldable pub brackets-behind : (c brackets : ℕ) → ℕ
-brackets-behind c b = cond (eqb c bracket) (cond (eqb b 0) 1 2) 0
+unfoldable pub brackets-after : (c brackets : ℕ) → ℕ
+brackets-after c b = cond (eqb c bracket) (cond (eqb b 0) 1 2) 0
 
 -- [39] element: STag, content, ETag, and its constraint "Element Type Match": an end tag has its start tag's name
 unfoldable pub closes : (name : List ℕ) → (opened : List (List ℕ)) → Bool
@@ -180,10 +180,10 @@ may-stand (reference n) p = is-construct (reference n)
 may-stand (cdata cs) p = is-construct (cdata cs)
 may-stand (comment cs) p = is-construct (comment cs)
 may-stand (start t) p = is-construct (start t) && ltb (length (p .opened)) most-depth
-may-stand (lone t) p = is-construct (lone t) && ltb (length (p .opened)) most-depth
+may-stand (empty-element t) p = is-construct (empty-element t) && ltb (length (p .opened)) most-depth
 may-stand (stop n b) p = closes n (p .opened) && is-construct (stop n b)
 
--- elements that are open around what stands behind an end tag
+-- elements that are open around what stands after an end tag
 unfoldable pub tail-of : List (List ℕ) → List (List ℕ)
 tail-of [] = []
 tail-of (n ∷ ns) = ns
@@ -191,24 +191,24 @@ tail-of (n ∷ ns) = ns
 abbrev pub at-place : (opened : List (List ℕ)) → Place
 at-place os = record { opened = os; brackets = 0 }
 
--- the place behind a construct
-unfoldable pub behind : Construct → Place → Place
-behind (datum c) p = record { opened = p .opened; brackets = brackets-behind c (p .brackets) }
-behind (reference n) p = at-place (p .opened)
-behind (cdata cs) p = at-place (p .opened)
-behind (comment cs) p = at-place (p .opened)
-behind (start t) p = at-place (t .name ∷ p .opened)
-behind (lone t) p = at-place (p .opened)
-behind (stop n b) p = at-place (tail-of (p .opened))
+-- the place after a construct, and after a row of them
+unfoldable pub place-after : Construct → Place → Place
+place-after (datum c) p = record { opened = p .opened; brackets = brackets-after c (p .brackets) }
+place-after (reference n) p = at-place (p .opened)
+place-after (cdata cs) p = at-place (p .opened)
+place-after (comment cs) p = at-place (p .opened)
+place-after (start t) p = at-place (t .name ∷ p .opened)
+place-after (empty-element t) p = at-place (p .opened)
+place-after (stop n b) p = at-place (tail-of (p .opened))
 
 -- [43] content: constructs in any number and order, each where it may stand. The whole sheet is one content, no [1] document
 unfoldable pub all-stand : List Construct → Place → Bool
 all-stand [] p = true
-all-stand (c ∷ cs) p = may-stand c p && all-stand cs (behind c p)
+all-stand (c ∷ cs) p = may-stand c p && all-stand cs (place-after c p)
 
-unfoldable pub place-behind : List Construct → Place → Place
-place-behind [] p = p
-place-behind (c ∷ cs) p = place-behind cs (behind c p)
+unfoldable pub place-after-all : List Construct → Place → Place
+place-after-all [] p = p
+place-after-all (c ∷ cs) p = place-after-all cs (place-after c p)
 
 abbrev pub top : Place
 top = at-place []
@@ -235,5 +235,5 @@ kinds-from r (reference n ∷ cs) = let rest = kinds-from true cs in cond r rest
 kinds-from r (cdata bs ∷ cs) = let rest = kinds-from true cs in cond r rest (3 ∷ rest)
 kinds-from r (comment bs ∷ cs) = kinds-from false cs
 kinds-from r (start t ∷ cs) = 1 ∷ kinds-from false cs
-kinds-from r (lone t ∷ cs) = 1 ∷ 2 ∷ kinds-from false cs
+kinds-from r (empty-element t ∷ cs) = 1 ∷ 2 ∷ kinds-from false cs
 kinds-from r (stop n b ∷ cs) = 2 ∷ kinds-from false cs

@@ -10,7 +10,7 @@ use Rattle.lists.specs.Fronts.{in-front}
 use Rattle.calls.specs.Kind.{kind-of}
 use Rattle.calls.specs.Load.{all-kinds}
 use Rattle.calls.specs.Nesting.{nests}
-use Rattle.xml.specs.Grammar.{Construct, start, lone, text-of, texts, Tag, is-tag, Place, top, may-stand, all-stand, place-behind, kinds-from, most-depth, refused-opener, not-a-sheet, too-deep, not-read}
+use Rattle.xml.specs.Grammar.{Construct, start, empty-element, text-of, texts, Tag, is-tag, Place, top, may-stand, all-stand, place-after-all, kinds-from, most-depth, refused-opener, not-a-sheet, too-deep, not-read}
 use Rattle.xml.specs.Content.{Content, constructs, content-right, data-right}
 use Rattle.xml.specs.Reader.{accepted, refused, read-sheet}
 use Rattle.xml.specs.declared.SheetReply.the-variants.{Kinds, Refused}
@@ -21,7 +21,7 @@ pub record In-grammar (text kinds : List ℕ) : Type 0 where
   pub row : List Construct
   pub written : texts row ≡ text
   pub stand : all-stand row top ≡ true
-  pub closed : place-behind row top .opened ≡ []
+  pub closed : place-after-all row top .opened ≡ []
   pub give : kinds-from false row ≡ kinds
 
 -- no construct that may stand there begins the rest
@@ -33,7 +33,7 @@ pub record Whole-tag (rest : List ℕ) : Type 0 where
   pub tag : Tag
   pub more : List ℕ
   pub right : is-tag tag ≡ true
-  pub written : (text-of (start tag) ++ more ≡ rest) ⊎ (text-of (lone tag) ++ more ≡ rest)
+  pub written : (text-of (start tag) ++ more ≡ rest) ⊎ (text-of (empty-element tag) ++ more ≡ rest)
 
 -- OUTSIDE IT, with this number: constructs up to the first that cannot be completed, or to the end with an element open
 pub record Outside (text : List ℕ) (number : ℕ) : Type 0 where
@@ -41,10 +41,10 @@ pub record Outside (text : List ℕ) (number : ℕ) : Type 0 where
   pub rest : List ℕ
   pub parted : texts before ++ rest ≡ text
   pub stand : all-stand before top ≡ true
-  pub stuck : Stuck (place-behind before top) rest
-  pub not-whole : rest ≡ [] → place-behind before top .opened ≡ [] → ⊥
+  pub stuck : Stuck (place-after-all before top) rest
+  pub not-whole : rest ≡ [] → place-after-all before top .opened ≡ [] → ⊥
   pub fourteen : (number ≡ not-read) ↔ (refused-opener rest ≡ true)
-  pub thirteen : (number ≡ too-deep) ↔ ((length (place-behind before top .opened) ≡ most-depth) × Whole-tag rest)
+  pub thirteen : (number ≡ too-deep) ↔ ((length (place-after-all before top .opened) ≡ most-depth) × Whole-tag rest)
   pub only : (number ≡ not-a-sheet) ⊎ ((number ≡ too-deep) ⊎ (number ≡ not-read))
 
 -- the reader replies what the grammar says, for every text

@@ -9,17 +9,17 @@ use lib.ListN.{length, take, drop}
 use Rattle.lists.specs.Lists.{first}
 use Rattle.lists.specs.Fronts.{starts-with}
 use Rattle.xml.specs.Bytes.{is-char, is-space, less-than, greater-than, ampersand, comment-opens, comment-closes, two-hyphens, cdata-opens, cdata-closes, end-opens, tag-closes}
-use Rattle.xml.specs.Grammar.{Place, most-depth, brackets-behind, tail-of, at-place, top, not-a-sheet, too-deep, not-read, refused-opener}
+use Rattle.xml.specs.Grammar.{Place, most-depth, brackets-after, tail-of, at-place, top, not-a-sheet, too-deep, not-read, refused-opener}
 use Rattle.xml.specs.Scan.{run, reference-length, body-length, Sized-tag, tag-at}
 
 -- THE NEXT CONSTRUCT, by what the reader needs of it: how many bytes it has, and a start tag's name; or the refusal
 pub data Step : Type 0 where
   stuck : (number : ℕ) → Step
-  datum : (c : ℕ) → Step
+  one-byte : (c : ℕ) → Step
   piece : (used : ℕ) → Step
-  comment : (used : ℕ) → Step
+  aside : (used : ℕ) → Step
   opening : (name : List ℕ) → (used : ℕ) → Step
-  lone : (used : ℕ) → Step
+  whole : (used : ℕ) → Step
   closing : (used : ℕ) → Step
 
 -- a CDATA section, which is a piece of a text
@@ -28,10 +28,10 @@ cdata-step none = stuck not-a-sheet
 cdata-step (some m) = piece (length cdata-opens + (m + length cdata-closes))
 
 -- a comment: the first two hyphens behind its opener are those of its closer
-unfoldable pub comment-step : (behind : List ℕ) → (body : Option ℕ) → Step
+unfoldable pub comment-step : (after-opener : List ℕ) → (body : Option ℕ) → Step
 comment-step cs none = stuck not-a-sheet
 comment-step cs (some m) =
-    cond (starts-with comment-closes (drop m cs)) (comment (length comment-opens + (m + length comment-closes))) (stuck not-a-sheet)
+    cond (starts-with comment-closes (drop m cs)) (aside (length comment-opens + (m + length comment-closes))) (stuck not-a-sheet)
 
 -- an end tag, which has the innermost open name
 unfoldable pub end-step : (opened : List (List ℕ)) → List ℕ → Step
@@ -45,7 +45,7 @@ end-step (n ∷ ns) cs =
 unfoldable pub tag-step : (depth : ℕ) → List ℕ → Option Sized-tag → Step
 tag-step d cs none = stuck not-a-sheet
 tag-step d cs (some t) =
-    cond (ltb d most-depth) (cond (t .lone) (lone (t .used)) (opening (take (t .name) (drop 1 cs)) (t .used))) (stuck too-deep)
+    cond (ltb d most-depth) (cond (t .lone) (whole (t .used)) (opening (take (t .name) (drop 1 cs)) (t .used))) (stuck too-deep)
 
 -- what begins with <
 unfoldable pub markup-step : Place → List ℕ → Step
@@ -62,7 +62,7 @@ reference-step zero = stuck not-a-sheet
 reference-step (suc k) = piece (suc k)
 
 unfoldable pub datum-step : (brackets c : ℕ) → Step
-datum-step b c = cond (is-char c && not (eqb c greater-than && eqb b 2)) (datum c) (stuck not-a-sheet)
+datum-step b c = cond (is-char c && not (eqb c greater-than && eqb b 2)) (one-byte c) (stuck not-a-sheet)
 
 unfoldable pub next : Place → List ℕ → Step
 next p [] = stuck not-a-sheet
@@ -73,31 +73,31 @@ next p (c ∷ cs) =
 -- how many bytes it has
 unfoldable pub used : Step → ℕ
 used (stuck k) = 0
-used (datum c) = 1
+used (one-byte c) = 1
 used (piece u) = u
-used (comment u) = u
+used (aside u) = u
 used (opening n u) = u
-used (lone u) = u
+used (whole u) = u
 used (closing u) = u
 
 -- the place behind it
 unfoldable pub past : Step → Place → Place
 past (stuck k) p = p
-past (datum c) p = record { opened = p .opened; brackets = brackets-behind c (p .brackets) }
+past (one-byte c) p = record { opened = p .opened; brackets = brackets-after c (p .brackets) }
 past (piece u) p = at-place (p .opened)
-past (comment u) p = at-place (p .opened)
+past (aside u) p = at-place (p .opened)
 past (opening n u) p = at-place (n ∷ p .opened)
-past (lone u) p = at-place (p .opened)
+past (whole u) p = at-place (p .opened)
 past (closing u) p = at-place (tail-of (p .opened))
 
 -- whether a text goes on behind it
 unfoldable pub of-text : Step → Bool
 of-text (stuck k) = false
-of-text (datum c) = true
+of-text (one-byte c) = true
 of-text (piece u) = true
-of-text (comment u) = false
+of-text (aside u) = false
 of-text (opening n u) = false
-of-text (lone u) = false
+of-text (whole u) = false
 of-text (closing u) = false
 
 -- the kind of a text where one begins
@@ -107,11 +107,11 @@ text-kind r = cond r [] (3 ∷ [])
 -- the kinds that it gives: 1 begin, 2 end, 3 where a text begins
 unfoldable pub gives : (in-text : Bool) → Step → List ℕ
 gives r (stuck k) = []
-gives r (datum c) = text-kind r
+gives r (one-byte c) = text-kind r
 gives r (piece u) = text-kind r
-gives r (comment u) = []
+gives r (aside u) = []
 gives r (opening n u) = 1 ∷ []
-gives r (lone u) = 1 ∷ 2 ∷ []
+gives r (whole u) = 1 ∷ 2 ∷ []
 gives r (closing u) = 2 ∷ []
 
 -- THE READER: the kinds, or the refusal
@@ -126,11 +126,11 @@ preceded ks (refused n) = refused n
 -- what a construct comes to, with the reading of what stands behind it
 unfoldable pub reading : (in-text : Bool) → Step → (rest : Reading) → Reading
 reading r (stuck n) q = refused n
-reading r (datum c) q = preceded (gives r (datum c)) q
+reading r (one-byte c) q = preceded (gives r (one-byte c)) q
 reading r (piece u) q = preceded (gives r (piece u)) q
-reading r (comment u) q = preceded (gives r (comment u)) q
+reading r (aside u) q = preceded (gives r (aside u)) q
 reading r (opening n u) q = preceded (gives r (opening n u)) q
-reading r (lone u) q = preceded (gives r (lone u)) q
+reading r (whole u) q = preceded (gives r (whole u)) q
 reading r (closing u) q = preceded (gives r (closing u)) q
 
 -- at the end of the text no element is open

@@ -8,7 +8,7 @@ use lib.ListN.{replicate}
 use Rattle.lists.specs.Lists.{same}
 use Rattle.lists.specs.Texts.{bytes}
 use Rattle.xml.specs.Bytes.{quotation, apostrophe}
-use Rattle.xml.specs.Grammar.{Value, closed, byte, named, Attribute, Tag, Construct, datum, reference, cdata, comment, start, lone, stop, texts, top, may-stand, all-stand, place-behind, kinds-from}
+use Rattle.xml.specs.Grammar.{Value, no-more, byte, named, Attribute, Tag, Construct, datum, reference, cdata, comment, start, empty-element, stop, texts, top, may-stand, all-stand, place-after-all, kinds-from}
 
 -- a row that is a sheet, with its text and its kinds; one that stands and leaves an element open; and a construct that may not stand
 -- where it follows a row that stands
@@ -23,9 +23,9 @@ none-open (n ∷ ns) = false
 
 unfoldable pub row-holds : Row-specimen → Bool
 row-holds (is-sheet cs bs ks) =
-    all-stand cs top && (none-open (place-behind cs top .opened) && (same (texts cs) bs && same (kinds-from false cs) ks))
-row-holds (left-open cs) = all-stand cs top && not (none-open (place-behind cs top .opened))
-row-holds (no-place cs c) = all-stand cs top && not (may-stand c (place-behind cs top))
+    all-stand cs top && (none-open (place-after-all cs top .opened) && (same (texts cs) bs && same (kinds-from false cs) ks))
+row-holds (left-open cs) = all-stand cs top && not (none-open (place-after-all cs top .opened))
+row-holds (no-place cs c) = all-stand cs top && not (may-stand c (place-after-all cs top))
 
 -- constructs from texts
 abbrev all-data : String → List Construct
@@ -39,7 +39,7 @@ with-attributes as′ = record { name = bytes "a"; attributes = as′; blank = [
 
 -- one space, a name, =, and a value between two quotation marks
 abbrev attribute : (name : String) → Value → Attribute
-attribute s v = record { gap = bytes " "; name = bytes s; before = []; behind = []; quote = quotation; value = v }
+attribute s v = record { gap = bytes " "; name = bytes s; before = []; after = []; quote = quotation; value = v }
 
 abbrev a-start : Construct
 a-start = start (plain "a")
@@ -54,7 +54,7 @@ row-table =
     is-sheet (all-data " \t\r\n") (bytes " \t\r\n") (3 ∷ []) ∷
     is-sheet (all-data "x" ++ (reference (bytes "lt") ∷ cdata (bytes "w") ∷ all-data "y")) (bytes "x&lt;<![CDATA[w]]>y") (3 ∷ []) ∷
     is-sheet (cdata [] ∷ reference (bytes "gt") ∷ []) (bytes "<![CDATA[]]>&gt;") (3 ∷ []) ∷
-    is-sheet (all-data "x" ++ (lone (plain "a") ∷ all-data "y")) (bytes "x<a/>y") (3 ∷ 1 ∷ 2 ∷ 3 ∷ []) ∷
+    is-sheet (all-data "x" ++ (empty-element (plain "a") ∷ all-data "y")) (bytes "x<a/>y") (3 ∷ 1 ∷ 2 ∷ 3 ∷ []) ∷
     -- the five references
     is-sheet (reference (bytes "lt") ∷ []) (bytes "&lt;") (3 ∷ []) ∷
     is-sheet (reference (bytes "gt") ∷ []) (bytes "&gt;") (3 ∷ []) ∷
@@ -96,17 +96,17 @@ row-table =
     no-place [] (start (plain "")) ∷
     -- to a depth of 64
     left-open (replicate 64 a-start) ∷
-    left-open (replicate 63 a-start ++ (lone (plain "a") ∷ [])) ∷
+    left-open (replicate 63 a-start ++ (empty-element (plain "a") ∷ [])) ∷
     no-place (replicate 64 a-start) a-start ∷
-    no-place (replicate 64 a-start) (lone (plain "a")) ∷
+    no-place (replicate 64 a-start) (empty-element (plain "a")) ∷
     -- attributes: other names may share a front, none repeats, each has its gap and its value
-    is-sheet (lone (with-attributes (attribute "b" (byte 49 closed) ∷ attribute "bb" (named (bytes "lt") closed) ∷ [])) ∷ []) (bytes "<a b=\"1\" bb=\"&lt;\"/>") (1 ∷ 2 ∷ []) ∷
-    is-sheet (lone (with-attributes (record { gap = bytes "\n "; name = bytes "b"; before = bytes " "; behind = bytes "\t"; quote = apostrophe; value = byte 34 closed } ∷ [])) ∷ []) (bytes "<a\n b =\t'\"'/>") (1 ∷ 2 ∷ []) ∷
-    no-place [] (lone (with-attributes (attribute "b" closed ∷ attribute "b" (byte 49 closed) ∷ []))) ∷
-    no-place [] (start (with-attributes (attribute "b" closed ∷ attribute "c" closed ∷ attribute "b" closed ∷ []))) ∷
-    no-place [] (lone (with-attributes (record { gap = []; name = bytes "b"; before = []; behind = []; quote = quotation; value = closed } ∷ []))) ∷
-    no-place [] (lone (with-attributes (record { gap = bytes " "; name = bytes "b"; before = []; behind = []; quote = 120; value = closed } ∷ []))) ∷
-    no-place [] (lone (with-attributes (attribute "b" (byte 60 closed) ∷ []))) ∷
-    no-place [] (lone (with-attributes (attribute "b" (byte 38 closed) ∷ []))) ∷
-    no-place [] (lone (with-attributes (attribute "b" (byte quotation closed) ∷ []))) ∷
-    no-place [] (lone (with-attributes (attribute "b" (named (bytes "x") closed) ∷ []))) ∷ []
+    is-sheet (empty-element (with-attributes (attribute "b" (byte 49 no-more) ∷ attribute "bb" (named (bytes "lt") no-more) ∷ [])) ∷ []) (bytes "<a b=\"1\" bb=\"&lt;\"/>") (1 ∷ 2 ∷ []) ∷
+    is-sheet (empty-element (with-attributes (record { gap = bytes "\n "; name = bytes "b"; before = bytes " "; after = bytes "\t"; quote = apostrophe; value = byte 34 no-more } ∷ [])) ∷ []) (bytes "<a\n b =\t'\"'/>") (1 ∷ 2 ∷ []) ∷
+    no-place [] (empty-element (with-attributes (attribute "b" no-more ∷ attribute "b" (byte 49 no-more) ∷ []))) ∷
+    no-place [] (start (with-attributes (attribute "b" no-more ∷ attribute "c" no-more ∷ attribute "b" no-more ∷ []))) ∷
+    no-place [] (empty-element (with-attributes (record { gap = []; name = bytes "b"; before = []; after = []; quote = quotation; value = no-more } ∷ []))) ∷
+    no-place [] (empty-element (with-attributes (record { gap = bytes " "; name = bytes "b"; before = []; after = []; quote = 120; value = no-more } ∷ []))) ∷
+    no-place [] (empty-element (with-attributes (attribute "b" (byte 60 no-more) ∷ []))) ∷
+    no-place [] (empty-element (with-attributes (attribute "b" (byte 38 no-more) ∷ []))) ∷
+    no-place [] (empty-element (with-attributes (attribute "b" (byte quotation no-more) ∷ []))) ∷
+    no-place [] (empty-element (with-attributes (attribute "b" (named (bytes "x") no-more) ∷ []))) ∷ []

@@ -22,7 +22,7 @@ use Rattle.xml_laws.proofs.Within.{step-within}
 use Rattle.xml_pieces.specs.declared.Cursor.{Cursor}
 use Rattle.xml_pieces.specs.declared.Part.the-variants.{On, Refused}
 use Rattle.xml_pieces.specs.Pieces.{goes-on, closing-found}
-use Rattle.xml_pieces.specs.Outcome.{in-text, finish, outcome, behind, In-text, Reached, Closes}
+use Rattle.xml_pieces.specs.Outcome.{in-text, finish, outcome, cursor-at, In-text, Reached, Closes}
 use Rattle.xml_pieces.proofs.PieceLaws.{dropped, some-used}
 use Rattle.xml_pieces.proofs.Outcomes.{finish-kind}
 
@@ -140,11 +140,11 @@ module _ (bs n : List ℕ) (c : Cursor) (ls : List ℕ) (h : In-text bs c) (g : 
       go (closes u is) = let z : _≡_ {A = ℕ} 0 1 = cc (e ∙ ap (closing-found (c .at)) is) in absurd (omega arith)
       go (breaks is) = record { same = λ os. ap (finish (c .count) ls) (sym (ended-refused n os (in-text c) (drop (c .at) bs) g is)); reached = tt; long = refl }
 
-  pub ending-found : (e : ℕ) → At e ≡ closing-found (c .at) (end-step (n ∷ []) (drop (c .at) bs)) → Closes bs n c ls (set ls (c .count) 2) (On (behind e (c .count + 1) 0))
+  pub ending-found : (e : ℕ) → At e ≡ closing-found (c .at) (end-step (n ∷ []) (drop (c .at) bs)) → Closes bs n c ls (set ls (c .count) 2) (On (cursor-at e (c .count + 1) 0))
   unfolding closing-found outcome Reached used is-stuck
   ending-found e f = go (end-told n (drop (c .at) bs))
     where
-      go : Told (end-step (n ∷ []) (drop (c .at) bs)) → Closes bs n c ls (set ls (c .count) 2) (On (behind e (c .count + 1) 0))
+      go : Told (end-step (n ∷ []) (drop (c .at) bs)) → Closes bs n c ls (set ls (c .count) 2) (On (cursor-at e (c .count + 1) 0))
       go (breaks is) = let z : _≡_ {A = ℕ} 0 1 = cc (f ∙ ap (closing-found (c .at)) is) in absurd (omega arith)
       go (closes u is) =
           let far : e ≡ c .at + u = cc (f ∙ ap (closing-found (c .at)) is) in

@@ -6,7 +6,7 @@ ghost use Prim.Native.Nat.{_+_, _^_, _≤_, _<_};
 ghost use lib.ListN.{length, drop, set};
 ghost use Rattle.xml.specs.Reader.{end-step};
 ghost use Rattle.xml_classes.specs.Classes.{Classes};
-ghost use Rattle.xml_pieces.specs.Outcome.{behind, In-text, Closes};
+ghost use Rattle.xml_pieces.specs.Outcome.{cursor-at, In-text, Closes};
 ghost use Rattle.xml_pieces.specs.Pieces.{goes-on, opens-element, closing-found};
 use store_types::BEGIN;
 use store_types::END;
@@ -67,7 +67,7 @@ fn end_tag(text: &[u8], at: usize, name: &[u8], classes: &[u8; 256]) -> Found
 // A begin tag's kind; content goes on behind the tag.
 pub fn opened(here: Cursor, end: usize, kinds: &mut [u8]) -> Cursor
     requires { ⌜ here .count + 1 < 2 ^ 64 ⌝ }
-    ensures cursor { λ c. ⌜ c ≡ behind end (here .count + 1) 0 ⌝ }
+    ensures cursor { λ c. ⌜ c ≡ cursor-at end (here .count + 1) 0 ⌝ }
     ensures list { λ _. ⌜ now (kinds .exit) ≡ set (now (kinds .entry)) (here .count) 1 ⌝ }
 {
     let n = put_kind(kinds, here.count, BEGIN);
@@ -81,7 +81,7 @@ pub fn opened(here: Cursor, end: usize, kinds: &mut [u8]) -> Cursor
 // An end's kind: an end tag's, or the second of an empty-element tag's.
 pub fn closed(here: Cursor, end: usize, kinds: &mut [u8]) -> Part
     requires { ⌜ here .count + 1 < 2 ^ 64 ⌝ }
-    ensures part { λ q. ⌜ q ≡ Part.On (behind end (here .count + 1) 0) ⌝ }
+    ensures part { λ q. ⌜ q ≡ Part.On (cursor-at end (here .count + 1) 0) ⌝ }
     ensures list { λ _. ⌜ now (kinds .exit) ≡ set (now (kinds .entry)) (here .count) 2 ⌝ }
 {
     let n = put_kind(kinds, here.count, END);

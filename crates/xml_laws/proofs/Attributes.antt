@@ -59,13 +59,13 @@ in-stages cs =
     rw (three-tests, on-quote-at, drop-drop g n cs, ← drop-one (n + g) cs, drop-drop)
 
 -- each stage at what the grammar writes there
-equals-passed : (n e c : ℕ) (behind cs : List ℕ) → is-blank behind ≡ true → is-quote c ≡ true →
-    on-equals n e (behind ++ (c ∷ cs)) ≡ sized n (suc e + length behind) (value-length c 0 cs)
+equals-passed : (n e c : ℕ) (after cs : List ℕ) → is-blank after ≡ true → is-quote c ≡ true →
+    on-equals n e (after ++ (c ∷ cs)) ≡ sized n (suc e + length after) (value-length c 0 cs)
 unfolding on-equals on-quote is-blank stops
-equals-passed n e c behind cs b s =
+equals-passed n e c after cs b s =
     rw (
-      run-found is-space behind (c ∷ cs) b (rw (quote-not-space c s)),
-      drop-append-seam behind (c ∷ cs),
+      run-found is-space after (c ∷ cs) b (rw (quote-not-space c s)),
+      drop-append-seam after (c ∷ cs),
       s,
     )
 
@@ -79,7 +79,7 @@ pub record Right-attribute (a : Attribute) : Type 0 where
   pub gap : is-gap (a .gap) ≡ true
   pub name : is-name (a .name) ≡ true
   pub before : is-blank (a .before) ≡ true
-  pub behind : is-blank (a .behind) ≡ true
+  pub after : is-blank (a .after) ≡ true
   pub quote : is-quote (a .quote) ≡ true
   pub value : is-value (a .quote) (a .value) ≡ true
 
@@ -88,20 +88,20 @@ unfolding is-attribute
 attribute-right a h =
     let front = and-left (is-gap (a .gap) && is-name (a .name)) _ h in
     let back = and-right (is-gap (a .gap) && is-name (a .name)) _ h in
-    let blanks = and-left (is-blank (a .before) && is-blank (a .behind)) _ back in
-    let quoted = and-right (is-blank (a .before) && is-blank (a .behind)) _ back in
+    let blanks = and-left (is-blank (a .before) && is-blank (a .after)) _ back in
+    let quoted = and-right (is-blank (a .before) && is-blank (a .after)) _ back in
     record {
       gap = and-left (is-gap (a .gap)) _ front;
       name = and-right (is-gap (a .gap)) _ front;
       before = and-left (is-blank (a .before)) _ blanks;
-      behind = and-right (is-blank (a .before)) _ blanks;
+      after = and-right (is-blank (a .before)) _ blanks;
       quote = and-left (is-quote (a .quote)) _ quoted;
       value = and-right (is-quote (a .quote)) _ quoted;
     }
 
 pub right-attribute : (a : Attribute) → Right-attribute a → is-attribute a ≡ true
 unfolding is-attribute
-right-attribute a r = rw (r .gap, r .name, r .before, r .behind, r .quote, r .value)
+right-attribute a r = rw (r .gap, r .name, r .before, r .after, r .quote, r .value)
 
 -- what the scanner of attributes says of one
 abbrev pub attribute-size : Attribute → Sized
@@ -109,12 +109,12 @@ attribute-size a = record { name = length (a .name); whole = length (bare-text a
 
 -- an attribute and more, part by part
 pub bare-parts : (a : Attribute) (more : List ℕ) →
-    bare-text a ++ more ≡ a .name ++ (a .before ++ (equals ∷ a .behind ++ (a .quote ∷ value-text (a .value) ++ (a .quote ∷ more))))
+    bare-text a ++ more ≡ a .name ++ (a .before ++ (equals ∷ a .after ++ (a .quote ∷ value-text (a .value) ++ (a .quote ∷ more))))
 unfolding bare-text
 bare-parts a more = simp append-assoc
 
 bare-length : (a : Attribute) →
-    suc (suc (suc (length (a .name) + length (a .before)) + length (a .behind) + length (value-text (a .value)))) ≡ length (bare-text a)
+    suc (suc (suc (length (a .name) + length (a .before)) + length (a .after) + length (value-text (a .value)))) ≡ length (bare-text a)
 unfolding bare-text
 bare-length a = simp length-append (omega arith)
 
@@ -128,15 +128,15 @@ unfolding sized
 attribute-found a more h =
     let r = attribute-right a h in
     let quoted = value-text (a .value) ++ (a .quote ∷ more) in
-    let on = a .before ++ (equals ∷ a .behind ++ (a .quote ∷ quoted)) in
+    let on = a .before ++ (equals ∷ a .after ++ (a .quote ∷ quoted)) in
     rw (
       bare-parts a more,
       in-stages (a .name ++ on),
-      name-found (a .name) on (r .name) (equals-ends (a .before) (a .behind ++ (a .quote ∷ quoted)) (r .before)),
+      name-found (a .name) on (r .name) (equals-ends (a .before) (a .after ++ (a .quote ∷ quoted)) (r .before)),
       name-not-empty (a .name) (r .name),
       drop-append-seam (a .name) on,
-      name-passed (length (a .name)) (a .before) (a .behind ++ (a .quote ∷ quoted)) (r .before),
-      equals-passed (length (a .name)) (length (a .name) + length (a .before)) (a .quote) (a .behind) quoted (r .behind) (r .quote),
+      name-passed (length (a .name)) (a .before) (a .after ++ (a .quote ∷ quoted)) (r .before),
+      equals-passed (length (a .name)) (length (a .name) + length (a .before)) (a .quote) (a .after) quoted (r .after) (r .quote),
       value-found (a .quote) (a .value) more (r .quote) (r .value),
       ← (bare-length a),
     )
@@ -146,7 +146,7 @@ pub record Attribute-there (gap cs : List ℕ) (z : Sized) : Type 0 where
   pub attribute : Attribute
   pub more : List ℕ
   pub right : is-attribute attribute ≡ true
-  pub behind : attribute .gap ≡ gap
+  pub gap-is : attribute .gap ≡ gap
   pub written : bare-text attribute ++ more ≡ cs
   pub size : attribute-size attribute ≡ z
 
@@ -157,7 +157,7 @@ attribute-there a more cs z right written e =
       attribute = a;
       more = more;
       right = right;
-      behind = refl;
+      gap-is = refl;
       written = written;
       size = Option·some-injective (attribute-size a) z (sym (attribute-found a more right) ∙ rw written e);
     }
@@ -223,17 +223,17 @@ attribute-written gap cs z g e =
     let n = name-written cs (t .0) in
     let b = name-on (name-length cs) (n .more) z (ap (on-name (name-length cs)) (sym (name-left n)) ∙ t .1) in
     let q = b .on .quoted in
-    let a : Attribute = record { gap = gap; name = n .name; before = b .spaces .front; behind = b .on .spaces .front; quote = q .quote; value = q .value } in
+    let a : Attribute = record { gap = gap; name = n .name; before = b .spaces .front; after = b .on .spaces .front; quote = q .quote; value = q .value } in
     attribute-there
     a
     (q .more)
     cs
     z
-    (right-attribute a (record { gap = g; name = n .right; before = b .spaces .holds; behind = b .on .spaces .holds; quote = q .is-one; value = q .right }))
+    (right-attribute a (record { gap = g; name = n .right; before = b .spaces .holds; after = b .on .spaces .holds; quote = q .is-one; value = q .right }))
     (rw (bare-parts a (q .more), q .written, b .on .spaces .written, b .equal, b .spaces .written) (n .written))
     e
 
 -- with its gap, which the grammar counts to it
 pub gap-written : {gap cs : List ℕ} {z : Sized} (t : Attribute-there gap cs z) → attribute-text (t .attribute) ++ t .more ≡ gap ++ cs
 unfolding attribute-text bare-text
-gap-written {gap} t = rw (t .behind, append-assoc gap (bare-text (t .attribute)) (t .more), t .written)
+gap-written {gap} t = rw (t .gap-is, append-assoc gap (bare-text (t .attribute)) (t .more), t .written)

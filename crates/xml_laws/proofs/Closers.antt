@@ -9,18 +9,18 @@ use lib.Dec.{eqb}
 use Rattle.lists.proofs.Tests.{by-test}
 use Rattle.lists.specs.Fronts.{starts-with}
 use Rattle.xml.specs.Bytes.{bracket, greater-than}
-use Rattle.xml.specs.Grammar.{Construct, datum, reference, cdata, comment, start, lone, stop, brackets-behind}
+use Rattle.xml.specs.Grammar.{Construct, datum, reference, cdata, comment, start, empty-element, stop, brackets-after}
 use Rattle.xml.specs.Content.{data-front, data-right}
 
 -- what a row asks of its data where so many ] stand before it
 unfoldable pub brackets-right : (brackets : ℕ) → List Construct → Bool
 brackets-right b [] = true
-brackets-right b (datum c ∷ cs) = not (eqb c greater-than && eqb b 2) && brackets-right (brackets-behind c b) cs
+brackets-right b (datum c ∷ cs) = not (eqb c greater-than && eqb b 2) && brackets-right (brackets-after c b) cs
 brackets-right b (reference n ∷ cs) = brackets-right 0 cs
 brackets-right b (cdata bs ∷ cs) = brackets-right 0 cs
 brackets-right b (comment bs ∷ cs) = brackets-right 0 cs
 brackets-right b (start t ∷ cs) = brackets-right 0 cs
-brackets-right b (lone t ∷ cs) = brackets-right 0 cs
+brackets-right b (empty-element t ∷ cs) = brackets-right 0 cs
 brackets-right b (stop n bs ∷ cs) = brackets-right 0 cs
 
 eqb-symmetric : (a b : ℕ) → eqb a b ≡ eqb b a
@@ -41,7 +41,7 @@ unfolding data-right data-front starts-with
 parted c cs f same k = record { none = same 0 ∙ rw f (k .none); one = same 1 ∙ rw f (k .none); two = same 2 ∙ rw f (k .none) }
 
 data-counted : (c : ℕ) (cs : List Construct) → Counted cs → Counted (datum c ∷ cs)
-unfolding brackets-right brackets-behind data-right data-front starts-with
+unfolding brackets-right brackets-after data-right data-front starts-with
 data-counted c cs k =
     by-test (eqb c bracket)
     (λ e. rw (eqb-true c bracket e) (record { none = k .one; one = k .two; two = k .two }))
@@ -60,7 +60,7 @@ counted (reference n ∷ cs) = parted (reference n) cs refl (λ b. refl) (counte
 counted (cdata bs ∷ cs) = parted (cdata bs) cs refl (λ b. refl) (counted cs)
 counted (comment bs ∷ cs) = parted (comment bs) cs refl (λ b. refl) (counted cs)
 counted (start t ∷ cs) = parted (start t) cs refl (λ b. refl) (counted cs)
-counted (lone t ∷ cs) = parted (lone t) cs refl (λ b. refl) (counted cs)
+counted (empty-element t ∷ cs) = parted (empty-element t) cs refl (λ b. refl) (counted cs)
 counted (stop n bs ∷ cs) = parted (stop n bs) cs refl (λ b. refl) (counted cs)
 
 pub brackets-count : (row : List Construct) → brackets-right 0 row ≡ data-right row

@@ -15,7 +15,7 @@ use Rattle.lists.proofs.Tests.{by-test, and-left, and-right, and-both, or-left-
 use Rattle.lists.specs.Fronts.{starts-with}
 use Rattle.lists.proofs.Fronts.{rest-of}
 use Rattle.xml.specs.Bytes.{is-char, less-than, greater-than, ampersand, bracket, comment-opens, cdata-opens, cdata-closes, end-opens, comment-closes, tag-closes, is-space}
-use Rattle.xml.specs.Grammar.{Place, at-place, brackets-behind, most-depth, refused-opener, not-a-sheet}
+use Rattle.xml.specs.Grammar.{Place, at-place, brackets-after, most-depth, refused-opener, not-a-sheet}
 use Rattle.xml.specs.Scan.{run, later, data-length, reference-length, Sized-tag, tag-at}
 use Rattle.xml.specs.Reader.{Step, next, markup-step, comment-step, cdata-step, end-step, tag-step, reference-step, datum-step, used, past, of-text, text-kind, gives, Reading, accepted, refused, preceded, reading, read-from}
 use Rattle.xml.specs.Reader as reader
@@ -36,8 +36,8 @@ abbrev with-brackets : List (List ℕ) → ℕ → Place
 with-brackets os b = record { opened = os; brackets = b }
 
 -- a byte of data is one step
-datum-read : (os : List (List ℕ)) (b : ℕ) (c : ℕ) (cs : List ℕ) → (eqb c less-than || eqb c ampersand) ≡ false → datum-step b c ≡ reader.Step.datum c →
-    read-from (with-brackets os b) true 0 (c ∷ cs) ≡ read-from (with-brackets os (brackets-behind c b)) true 0 cs
+datum-read : (os : List (List ℕ)) (b : ℕ) (c : ℕ) (cs : List ℕ) → (eqb c less-than || eqb c ampersand) ≡ false → datum-step b c ≡ reader.Step.one-byte c →
+    read-from (with-brackets os b) true 0 (c ∷ cs) ≡ read-from (with-brackets os (brackets-after c b)) true 0 cs
 unfolding next past of-text used reading gives
 datum-read os b c cs e d =
     stepped (with-brackets os b) true c cs ∙ rw (or-left-false (eqb c less-than) (eqb c ampersand) e, or-right-false (eqb c less-than) (eqb c ampersand) e, d) (none-preceded _)
@@ -47,7 +47,7 @@ no-third : (t : Bool) → (t && false) ≡ false
 no-third true = refl
 no-third false = refl
 
-apart-datum : (b c : ℕ) (cs : List ℕ) → b ≤ 2 → is-char c ≡ true → apart b (c ∷ cs) ≡ true → datum-step b c ≡ reader.Step.datum c
+apart-datum : (b c : ℕ) (cs : List ℕ) → b ≤ 2 → is-char c ≡ true → apart b (c ∷ cs) ≡ true → datum-step b c ≡ reader.Step.one-byte c
 unfolding datum-step apart starts-with
 apart-datum zero c cs h i a = rw (i, no-third (eqb c greater-than))
 apart-datum (suc zero) c cs h i a = rw (i, no-third (eqb c greater-than))
@@ -57,8 +57,8 @@ apart-datum (suc (suc zero)) c cs h i a =
     (λ e. rw (i, e))
 apart-datum (suc (suc (suc b))) c cs h i a = absurd (omega arith)
 
-apart-behind : (b c : ℕ) (cs : List ℕ) → b ≤ 2 → apart b (c ∷ cs) ≡ true → starts-with cdata-closes (c ∷ cs) ≡ false → apart (brackets-behind c b) cs ≡ true
-unfolding brackets-behind apart starts-with
+apart-behind : (b c : ℕ) (cs : List ℕ) → b ≤ 2 → apart b (c ∷ cs) ≡ true → starts-with cdata-closes (c ∷ cs) ≡ false → apart (brackets-after c b) cs ≡ true
+unfolding brackets-after apart starts-with
 apart-behind zero c cs h a n =
     by-test (eqb c bracket) (λ e. rw e (ap not (rw (eqb-true c bracket e) at n))) (λ e. rw e)
 apart-behind (suc zero) c cs h a n =
@@ -71,18 +71,18 @@ apart-behind (suc (suc zero)) c cs h a n =
     (λ e. rw e)
 apart-behind (suc (suc (suc b))) c cs h a n = absurd (omega arith)
 
-brackets-two : (c b : ℕ) → brackets-behind c b ≤ 2
-unfolding brackets-behind
+brackets-two : (c b : ℕ) → brackets-after c b ≤ 2
+unfolding brackets-after
 brackets-two c b = by-test (eqb c bracket) (λ e. rw e (by-test (eqb b 0) (λ f. rw f (omega arith)) (λ f. rw f (omega arith)))) (λ e. rw e (omega arith))
 
 -- MARKUP does not look at brackets, and is no data
 is-datum : Step → Bool
 is-datum (reader.Step.stuck k) = false
-is-datum (reader.Step.datum c) = true
+is-datum (reader.Step.one-byte c) = true
 is-datum (reader.Step.piece u) = false
-is-datum (reader.Step.comment u) = false
+is-datum (reader.Step.aside u) = false
 is-datum (reader.Step.opening n u) = false
-is-datum (reader.Step.lone u) = false
+is-datum (reader.Step.whole u) = false
 is-datum (reader.Step.closing u) = false
 
 pick-no-datum : (t : Bool) (a b : Step) → is-datum a ≡ false → is-datum b ≡ false → is-datum (cond t a b) ≡ false
@@ -129,11 +129,11 @@ same-past : (os : List (List ℕ)) (b : ℕ) (r : Bool) (s : Step) (m : ℕ) (cs
     reading r s (read-from (past s (with-brackets os b)) (of-text s) m cs) ≡ reading r s (read-from (past s (at-place os)) (of-text s) m cs)
 unfolding is-datum reading past
 same-past os b r (reader.Step.stuck k) m cs e = refl
-same-past os b r (reader.Step.datum c) m cs e = absurd (true≢false e)
+same-past os b r (reader.Step.one-byte c) m cs e = absurd (true≢false e)
 same-past os b r (reader.Step.piece u) m cs e = refl
-same-past os b r (reader.Step.comment u) m cs e = refl
+same-past os b r (reader.Step.aside u) m cs e = refl
 same-past os b r (reader.Step.opening n u) m cs e = refl
-same-past os b r (reader.Step.lone u) m cs e = refl
+same-past os b r (reader.Step.whole u) m cs e = refl
 same-past os b r (reader.Step.closing u) m cs e = refl
 
 next-markup : (os : List (List ℕ)) (b : ℕ) (c : ℕ) (cs : List ℕ) → (eqb c less-than || eqb c ampersand) ≡ true →
@@ -196,7 +196,7 @@ run-read os b (c ∷ cs) u h a e =
     let char = and-left (is-char c) _ g in
     let whole = not-true _ (and-right (is-char c) _ g) in
     datum-read os b c cs f (apart-datum b c cs h char a)
-    ∙ run-read os (brackets-behind c b) cs (more .0) (brackets-two c b) (apart-behind b c cs h a whole) (more .1)
+    ∙ run-read os (brackets-after c b) cs (more .0) (brackets-two c b) (apart-behind b c cs h a whole) (more .1)
     ∙ ap (λ (k : ℕ). read-from (at-place os) true 0 (drop k (c ∷ cs))) (sym (more .2)))
     (λ g. let z : _≡_ {A = ℕ} 0 1 = cc (rw (f, g) at e) in absurd (omega arith)))
 
@@ -211,8 +211,8 @@ unfolding reading
 stuck-here p r c cs n e =
     stepped p r c cs ∙ ap (λ s. reading r s (read-from (past s p) (of-text s) 0 (drop (pred (used s)) cs))) e
 
-two-brackets : (b : ℕ) → brackets-behind bracket (brackets-behind bracket b) ≡ 2
-unfolding brackets-behind
+two-brackets : (b : ℕ) → brackets-after bracket (brackets-after bracket b) ≡ 2
+unfolding brackets-after
 two-brackets b = by-test (eqb b 0) (λ e. rw e) (λ e. rw e)
 
 -- the third byte of ]]>, behind two brackets
@@ -227,7 +227,7 @@ closer-refused os b c cs e =
     let rest = drop (length cdata-closes) (c ∷ cs) in
     rw (rest-of cdata-closes (c ∷ cs) e)
     (datum-read os b bracket (bracket ∷ greater-than ∷ rest) refl refl
-    ∙ datum-read os (brackets-behind bracket b) bracket (greater-than ∷ rest) refl refl
+    ∙ datum-read os (brackets-after bracket b) bracket (greater-than ∷ rest) refl refl
     ∙ rw (two-brackets b) (third-refused os rest))
 
 broken-refused : (os : List (List ℕ)) (b : ℕ) (cs : List ℕ) → b ≤ 2 → apart b cs ≡ true → data-length cs ≡ none →
@@ -242,27 +242,27 @@ broken-refused os b (c ∷ cs) h a e =
     by-test (is-char c)
     (λ i.
     datum-read os b c cs f (apart-datum b c cs h i a)
-    ∙ broken-refused os (brackets-behind c b) cs (brackets-two c b) (apart-behind b c cs h a s) (later-none (data-length cs) (rw (f, i, s) at e)))
+    ∙ broken-refused os (brackets-after c b) cs (brackets-two c b) (apart-behind b c cs h a s) (later-none (data-length cs) (rw (f, i, s) at e)))
     (λ i. forbidden-refused os b c cs f i)))
 
 -- A TEXT BEGINS, or goes on, with a step that is a piece of one; what is stuck is refused either way
 unfoldable pub text-of-steps : Step → Bool
 text-of-steps (reader.Step.stuck k) = true
-text-of-steps (reader.Step.datum c) = true
+text-of-steps (reader.Step.one-byte c) = true
 text-of-steps (reader.Step.piece u) = true
-text-of-steps (reader.Step.comment u) = false
+text-of-steps (reader.Step.aside u) = false
 text-of-steps (reader.Step.opening n u) = false
-text-of-steps (reader.Step.lone u) = false
+text-of-steps (reader.Step.whole u) = false
 text-of-steps (reader.Step.closing u) = false
 
 begins : (r : Bool) (s : Step) (q : Reading) → text-of-steps s ≡ true → reading r s q ≡ preceded (text-kind r) (reading true s q)
 unfolding reading text-of-steps preceded gives
 begins r (reader.Step.stuck k) q e = refl
-begins r (reader.Step.datum c) q e = ap (preceded (text-kind r)) (sym (none-preceded q))
+begins r (reader.Step.one-byte c) q e = ap (preceded (text-kind r)) (sym (none-preceded q))
 begins r (reader.Step.piece u) q e = ap (preceded (text-kind r)) (sym (none-preceded q))
-begins r (reader.Step.comment u) q e = absurd (false≢true e)
+begins r (reader.Step.aside u) q e = absurd (false≢true e)
 begins r (reader.Step.opening n u) q e = absurd (false≢true e)
-begins r (reader.Step.lone u) q e = absurd (false≢true e)
+begins r (reader.Step.whole u) q e = absurd (false≢true e)
 begins r (reader.Step.closing u) q e = absurd (false≢true e)
 
 pub text-begins : (p : Place) (r : Bool) (c : ℕ) (cs : List ℕ) → text-of-steps (next p (c ∷ cs)) ≡ true →

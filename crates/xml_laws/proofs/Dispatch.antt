@@ -20,11 +20,11 @@ use Rattle.xml_laws.proofs.Readings.{stepped}
 went : (r : Bool) (s : Step) (q : Reading) → is-stuck s ≡ false → reading r s q ≡ preceded (gives r s) q
 unfolding reading is-stuck
 went r (reader.Step.stuck k) q e = absurd (true≢false e)
-went r (reader.Step.datum c) q e = refl
+went r (reader.Step.one-byte c) q e = refl
 went r (reader.Step.piece u) q e = refl
-went r (reader.Step.comment u) q e = refl
+went r (reader.Step.aside u) q e = refl
 went r (reader.Step.opening n u) q e = refl
-went r (reader.Step.lone u) q e = refl
+went r (reader.Step.whole u) q e = refl
 went r (reader.Step.closing u) q e = refl
 
 pub step-read : (p : Place) (r : Bool) (cs : List ℕ) (s : Step) (u : ℕ) → next p cs ≡ s → is-stuck s ≡ false → used s ≡ suc u →

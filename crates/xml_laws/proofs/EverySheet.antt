@@ -15,7 +15,7 @@ use Rattle.lists.proofs.Fronts.{length-in-front}
 use Rattle.lists.proofs.Replied.{replied-refused, written-refused}
 use Rattle.lists.proofs.Tests.{by-test}
 use Rattle.xml.specs.Bytes.{lone-closes}
-use Rattle.xml.specs.Grammar.{Construct, datum, reference, cdata, comment, start, lone, stop, Tag, text-of, texts, tag-text, kinds-from, not-a-sheet, too-deep, not-read}
+use Rattle.xml.specs.Grammar.{Construct, datum, reference, cdata, comment, start, empty-element, stop, Tag, text-of, texts, tag-text, kinds-from, not-a-sheet, too-deep, not-read}
 use Rattle.xml.specs.declared.SheetReply.the-variants.{Kinds, Refused}
 use Rattle.xml.specs.Reader.{Reading, accepted, refused, read-sheet}
 use Rattle.xml.specs.Replies.{list-short, sheet-refusal, kinds-in, sheet-reply, sheet-list}
@@ -27,7 +27,7 @@ use Rattle.xml_laws.proofs.Sheets.{sheets-right, one-kinds, one-number,
 some-byte : (c : Construct) → 1 ≤ length (text-of c)
 some-byte c = omega (arith, ap length (begun c .are))
 
-two-bytes : (t : Tag) → 2 ≤ length (text-of (lone t))
+two-bytes : (t : Tag) → 2 ≤ length (text-of (empty-element t))
 unfolding text-of
 two-bytes t = omega (arith, length-append (tag-text t) lone-closes)
 
@@ -46,7 +46,7 @@ kinds-fewer r (cdata bs ∷ cs) =
     omega (arith, text-kinds r (kinds-from true cs), kinds-fewer true cs, some-byte (cdata bs), length-append (text-of (cdata bs)) (texts cs))
 kinds-fewer r (comment bs ∷ cs) = omega (arith, kinds-fewer false cs, length-append (text-of (comment bs)) (texts cs))
 kinds-fewer r (start t ∷ cs) = omega (arith, kinds-fewer false cs, some-byte (start t), length-append (text-of (start t)) (texts cs))
-kinds-fewer r (lone t ∷ cs) = omega (arith, kinds-fewer false cs, two-bytes t, length-append (text-of (lone t)) (texts cs))
+kinds-fewer r (empty-element t ∷ cs) = omega (arith, kinds-fewer false cs, two-bytes t, length-append (text-of (empty-element t)) (texts cs))
 kinds-fewer r (stop n b ∷ cs) = omega (arith, kinds-fewer false cs, some-byte (stop n b), length-append (text-of (stop n b)) (texts cs))
 
 pub room-enough : (text kinds : List ℕ) → In-grammar text kinds → length kinds ≤ length text

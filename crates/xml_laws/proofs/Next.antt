@@ -14,7 +14,7 @@ use lib.Seq.{take-append-seam, drop-append-seam, drop-append-add, drop-at}
 use Rattle.lists.specs.Lists.{all-hold, first}
 use Rattle.lists.proofs.Tests.{by-test, and-left, and-right, and-both}
 use Rattle.xml.specs.Bytes.{is-char, is-space, is-name-start, less-than, greater-than, ampersand, hyphen, bracket, comment-opens, comment-closes, two-hyphens, cdata-opens, cdata-closes, end-opens, tag-closes, lone-closes, instruction-opens, doctype-opens}
-use Rattle.xml.specs.Grammar.{reference-text, Construct, datum, reference, cdata, comment, start, lone, stop, Tag, is-name, is-blank, is-tag, attributes-text, tag-text, text-of, Place, may-stand, closes, most-depth, refused-opener, not-a-sheet, too-deep, not-read, is-construct}
+use Rattle.xml.specs.Grammar.{reference-text, Construct, datum, reference, cdata, comment, start, empty-element, stop, Tag, is-name, is-blank, is-tag, attributes-text, tag-text, text-of, Place, may-stand, closes, most-depth, refused-opener, not-a-sheet, too-deep, not-read, is-construct}
 use Rattle.xml.specs.Scan.{run, body-length, reference-length, Sized-tag, tag-at}
 use Rattle.xml.specs.Reader.{Step, next, markup-step, comment-step, cdata-step, end-step, tag-step, reference-step, datum-step}
 use Rattle.xml.specs.Reader as reader
@@ -65,7 +65,7 @@ tag-stands false t p h = h
 tag-stands true t p h = h
 
 -- FOUND. A byte of character data
-datum-found : (p : Place) (c : ℕ) (more : List ℕ) → may-stand (datum c) p ≡ true → next p (c ∷ more) ≡ reader.Step.datum c
+datum-found : (p : Place) (c : ℕ) (more : List ℕ) → may-stand (datum c) p ≡ true → next p (c ∷ more) ≡ reader.Step.one-byte c
 unfolding may-stand is-construct next datum-step
 datum-found p c more h =
     let a : Bool = is-char c in
@@ -94,7 +94,7 @@ comment-read : (p : Place) (cs more : List ℕ) → may-stand (comment cs) p ≡
 unfolding may-stand is-construct next markup-step first starts-with comment-step text-of step-of
 comment-read p cs more h =
     rw (append-assoc cs comment-closes more, body-found (hyphen ∷ []) hyphen cs (greater-than ∷ more) (and-left (all-hold is-char cs) _ h) (not-true _ (and-right (all-hold is-char cs) _ h)), drop-append-seam cs (comment-closes ++ more))
-    (ap reader.Step.comment (between-size comment-opens cs comment-closes))
+    (ap reader.Step.aside (between-size comment-opens cs comment-closes))
 
 -- an end tag of the innermost open name, by what stands behind the name
 named-end : (n : List ℕ) (ns : List (List ℕ)) (behind : List ℕ) →
@@ -134,7 +134,7 @@ not-stuck (reference n) = refl
 not-stuck (cdata cs) = refl
 not-stuck (comment cs) = refl
 not-stuck (start t) = refl
-not-stuck (lone t) = refl
+not-stuck (empty-element t) = refl
 not-stuck (stop n b) = refl
 
 told-there : {p : Place} {rest : List ℕ} {s : Step} → Told p rest s → is-stuck s ≡ false → Construct-there p rest s
@@ -250,7 +250,7 @@ comment-told p body = go (body-length two-hyphens body) refl
           more = more;
           written = ap (λ l. comment-opens ++ l) (append-assoc (b .bytes) comment-closes more ∙ ap (λ l. b .bytes ++ l) (sym split ∙ behind) ∙ b .written);
           stands = and-both (b .right) (rw (b .clear));
-          step = ap reader.Step.comment (rw (b .size) at (sym (between-size comment-opens (b .bytes) comment-closes)));
+          step = ap reader.Step.aside (rw (b .size) at (sym (between-size comment-opens (b .bytes) comment-closes)));
         })))
         (λ t. rw t halts)
 
@@ -316,7 +316,7 @@ constructs-found (reference n) p more h = reference-read p n more h
 constructs-found (cdata cs) p more h = cdata-read p cs more h
 constructs-found (comment cs) p more h = comment-read p cs more h
 constructs-found (start t) p more h = tag-read false t p more h
-constructs-found (lone t) p more h = tag-read true t p more h
+constructs-found (empty-element t) p more h = tag-read true t p more h
 constructs-found (stop n b) p more h = stop-read p n b more h
 
 tag-at-whole : (l : Bool) (t : Tag) (more rest : List ℕ) → is-tag t ≡ true → text-of (tag-construct l t) ++ more ≡ rest → tag-at rest ≡ none → ⊥

@@ -13,7 +13,7 @@ use lib.ListN.{length, drop, length-append}
 use lib.Seq.{drop-append-seam}
 use Rattle.lists.proofs.Tests.{by-test, and-left, and-right, and-both}
 use Rattle.lists.specs.Fronts.{starts-with}
-use Rattle.xml.specs.Grammar.{Construct, datum, reference, cdata, comment, start, lone, stop, text-of, texts, tag-text, reference-text, Place, may-stand, behind, tail-of, is-tag, all-stand, place-behind, kinds-from, most-depth, refused-opener, not-a-sheet, too-deep, not-read, is-construct}
+use Rattle.xml.specs.Grammar.{Construct, datum, reference, cdata, comment, start, empty-element, stop, text-of, texts, tag-text, reference-text, Place, may-stand, place-after, tail-of, is-tag, all-stand, place-after-all, kinds-from, most-depth, refused-opener, not-a-sheet, too-deep, not-read, is-construct}
 use Rattle.xml.specs.Reader.{Step, next, used, past, of-text, gives, Reading, accepted, refused, preceded, reading, at-end, read-from}
 use Rattle.xml.specs.Reader as reader
 use Rattle.xml.specs.Promise.{Stuck, Whole-tag}
@@ -50,7 +50,7 @@ begun (reference n) = record { first = _; rest = _; are = refl }
 begun (cdata cs) = record { first = _; rest = _; are = refl }
 begun (comment cs) = record { first = _; rest = _; are = refl }
 begun (start t) = record { first = _; rest = _; are = refl }
-begun (lone t) = record { first = _; rest = _; are = refl }
+begun (empty-element t) = record { first = _; rest = _; are = refl }
 begun (stop n b) = record { first = _; rest = _; are = refl }
 
 pub step-used : (c : Construct) → used (step-of c) ≡ length (text-of c)
@@ -60,17 +60,17 @@ step-used (reference n) = refl
 step-used (cdata cs) = refl
 step-used (comment cs) = refl
 step-used (start t) = refl
-step-used (lone t) = refl
+step-used (empty-element t) = refl
 step-used (stop n b) = refl
 
-step-past : (c : Construct) (p : Place) → past (step-of c) p ≡ behind c p
-unfolding step-of past behind
+step-past : (c : Construct) (p : Place) → past (step-of c) p ≡ place-after c p
+unfolding step-of past place-after
 step-past (datum c) p = refl
 step-past (reference n) p = refl
 step-past (cdata cs) p = refl
 step-past (comment cs) p = refl
 step-past (start t) p = refl
-step-past (lone t) p = refl
+step-past (empty-element t) p = refl
 step-past (stop n b) p = refl
 
 step-reading : (c : Construct) (r : Bool) (q : Reading) → reading r (step-of c) q ≡ preceded (gives r (step-of c)) q
@@ -80,7 +80,7 @@ step-reading (reference n) r q = refl
 step-reading (cdata cs) r q = refl
 step-reading (comment cs) r q = refl
 step-reading (start t) r q = refl
-step-reading (lone t) r q = refl
+step-reading (empty-element t) r q = refl
 step-reading (stop n b) r q = refl
 
 one-text : (r : Bool) (ks : List ℕ) → cond r ks (3 ∷ ks) ≡ cond r [] (3 ∷ []) ++ ks
@@ -94,7 +94,7 @@ step-kinds (reference n) r cs = one-text r _
 step-kinds (cdata bs) r cs = one-text r _
 step-kinds (comment bs) r cs = refl
 step-kinds (start t) r cs = refl
-step-kinds (lone t) r cs = refl
+step-kinds (empty-element t) r cs = refl
 step-kinds (stop n b) r cs = refl
 
 -- no construct that stands brings more elements than may be open
@@ -103,14 +103,14 @@ unfolding tail-of
 tail-shorter [] = omega arith
 tail-shorter (n ∷ ns) = omega arith
 
-pub depth-kept : (c : Construct) (p : Place) → length (p .opened) ≤ most-depth → may-stand c p ≡ true → length (behind c p .opened) ≤ most-depth
-unfolding may-stand is-construct behind
+pub depth-kept : (c : Construct) (p : Place) → length (p .opened) ≤ most-depth → may-stand c p ≡ true → length (place-after c p .opened) ≤ most-depth
+unfolding may-stand is-construct place-after
 depth-kept (datum c) p h s = h
 depth-kept (reference n) p h s = h
 depth-kept (cdata cs) p h s = h
 depth-kept (comment cs) p h s = h
 depth-kept (start t) p h s = ltb-true _ _ (and-right (is-tag t) (ltb (length (p .opened)) most-depth) s)
-depth-kept (lone t) p h s = h
+depth-kept (empty-element t) p h s = h
 depth-kept (stop n b) p h s = omega (arith, tail-shorter (p .opened))
 
 -- IN THE GRAMMAR and OUTSIDE IT, from a place on
@@ -118,7 +118,7 @@ pub record Read-so (p : Place) (r : Bool) (bs ks : List ℕ) : Type 0 where
   pub row : List Construct
   pub written : texts row ≡ bs
   pub stand : all-stand row p ≡ true
-  pub closed : place-behind row p .opened ≡ []
+  pub closed : place-after-all row p .opened ≡ []
   pub give : kinds-from r row ≡ ks
 
 pub record Refused-so (p : Place) (bs : List ℕ) (n : ℕ) : Type 0 where
@@ -126,9 +126,9 @@ pub record Refused-so (p : Place) (bs : List ℕ) (n : ℕ) : Type 0 where
   pub rest : List ℕ
   pub parted : texts before ++ rest ≡ bs
   pub stand : all-stand before p ≡ true
-  pub stuck : Stuck (place-behind before p) rest
-  pub not-whole : rest ≡ [] → place-behind before p .opened ≡ [] → ⊥
-  pub number : Number-right (place-behind before p) rest n
+  pub stuck : Stuck (place-after-all before p) rest
+  pub not-whole : rest ≡ [] → place-after-all before p .opened ≡ [] → ⊥
+  pub number : Number-right (place-after-all before p) rest n
 
 unfoldable pub Means : Place → Bool → List ℕ → Reading → Type 0
 Means p r bs (accepted ks) = Read-so p r bs ks
@@ -144,7 +144,7 @@ nothing-begun b more e = omega (arith, ap length (rw (b .are) at e))
 
 no-tag-there : Whole-tag [] → ⊥
 no-tag-there w =
-    ⊎-elim (nothing-begun (begun (start (w .tag))) (w .more)) (nothing-begun (begun (lone (w .tag))) (w .more)) (w .written)
+    ⊎-elim (nothing-begun (begun (start (w .tag))) (w .more)) (nothing-begun (begun (empty-element (w .tag))) (w .more)) (w .written)
 
 -- the number of a place is one
 pub one-number : (p : Place) (rest : List ℕ) (m n : ℕ) → Number-right p rest m → Number-right p rest n → m ≡ n
@@ -185,11 +185,11 @@ open-at-end (o ∷ os) h = refl
 is-stuck-number : (s : Step) → is-stuck s ≡ true → (n : ℕ) × (s ≡ reader.Step.stuck n)
 unfolding is-stuck
 is-stuck-number (reader.Step.stuck n) e = (n, refl)
-is-stuck-number (reader.Step.datum c) e = absurd (false≢true e)
+is-stuck-number (reader.Step.one-byte c) e = absurd (false≢true e)
 is-stuck-number (reader.Step.piece u) e = absurd (false≢true e)
-is-stuck-number (reader.Step.comment u) e = absurd (false≢true e)
+is-stuck-number (reader.Step.aside u) e = absurd (false≢true e)
 is-stuck-number (reader.Step.opening n u) e = absurd (false≢true e)
-is-stuck-number (reader.Step.lone u) e = absurd (false≢true e)
+is-stuck-number (reader.Step.whole u) e = absurd (false≢true e)
 is-stuck-number (reader.Step.closing u) e = absurd (false≢true e)
 
 -- the step over a construct is not stuck
@@ -200,7 +200,7 @@ step-goes (reference n) = refl
 step-goes (cdata cs) = refl
 step-goes (comment cs) = refl
 step-goes (start t) = refl
-step-goes (lone t) = refl
+step-goes (empty-element t) = refl
 step-goes (stop n b) = refl
 
 -- where the reader is stuck it refuses
@@ -211,7 +211,7 @@ stuck-refuses p r c cs n e =
 
 -- a construct that stands is one step of the reader
 pub construct-read : (c : Construct) (p : Place) (r : Bool) (more : List ℕ) → may-stand c p ≡ true →
-    read-from p r 0 (text-of c ++ more) ≡ preceded (gives r (step-of c)) (read-from (behind c p) (of-text (step-of c)) 0 more)
+    read-from p r 0 (text-of c ++ more) ≡ preceded (gives r (step-of c)) (read-from (place-after c p) (of-text (step-of c)) 0 more)
 unfolding Constructs-found
 construct-read c p r more h =
     let b = begun c in
@@ -225,23 +225,23 @@ construct-read c p r more h =
     ∙ rw (step-past c p, far, drop-append-seam (b .rest) more))
 
 -- a row that stands and closes all is read to its kinds
-pub row-read : (row : List Construct) (p : Place) (r : Bool) → all-stand row p ≡ true → place-behind row p .opened ≡ [] →
+pub row-read : (row : List Construct) (p : Place) (r : Bool) → all-stand row p ≡ true → place-after-all row p .opened ≡ [] →
     read-from p r 0 (texts row) ≡ accepted (kinds-from r row)
-unfolding all-stand place-behind texts kinds-from read-from at-end preceded
+unfolding all-stand place-after-all texts kinds-from read-from at-end preceded
 row-read [] p r s e = ap at-end e
 row-read (c ∷ cs) p r s e =
-    let stands = and-left (may-stand c p) (all-stand cs (behind c p)) s in
-    let behind-it = row-read cs (behind c p) (of-text (step-of c)) (and-right (may-stand c p) (all-stand cs (behind c p)) s) e in
+    let stands = and-left (may-stand c p) (all-stand cs (place-after c p)) s in
+    let behind-it = row-read cs (place-after c p) (of-text (step-of c)) (and-right (may-stand c p) (all-stand cs (place-after c p)) s) e in
     construct-read c p r (texts cs) stands ∙ ap (preceded (gives r (step-of c))) behind-it ∙ ap accepted (sym (step-kinds c r cs))
 
 -- behind a row that stands, a refusal of the rest is the whole's
 pub row-refused : (row : List Construct) (p : Place) (r : Bool) (rest : List ℕ) (n : ℕ) → all-stand row p ≡ true →
-    ((t : Bool) → read-from (place-behind row p) t 0 rest ≡ refused n) → read-from p r 0 (texts row ++ rest) ≡ refused n
-unfolding all-stand place-behind texts preceded
+    ((t : Bool) → read-from (place-after-all row p) t 0 rest ≡ refused n) → read-from p r 0 (texts row ++ rest) ≡ refused n
+unfolding all-stand place-after-all texts preceded
 row-refused [] p r rest n s e = e r
 row-refused (c ∷ cs) p r rest n s e =
-    let stands = and-left (may-stand c p) (all-stand cs (behind c p)) s in
-    let behind-it = row-refused cs (behind c p) (of-text (step-of c)) rest n (and-right (may-stand c p) (all-stand cs (behind c p)) s) e in
+    let stands = and-left (may-stand c p) (all-stand cs (place-after c p)) s in
+    let behind-it = row-refused cs (place-after c p) (of-text (step-of c)) rest n (and-right (may-stand c p) (all-stand cs (place-after c p)) s) e in
     rw (append-assoc (text-of c) (texts cs) rest) (construct-read c p r (texts cs ++ rest) stands ∙ ap (preceded (gives r (step-of c))) behind-it)
 
 -- where no construct can be completed the reader refuses with the number of the place
@@ -256,21 +256,21 @@ stuck-read p r (c ∷ cs) n d h w a =
     stuck-refuses p r c cs (k .0) (k .1) ∙ ap refused (one-number p (c ∷ cs) (k .0) n (numbers-right p (c ∷ cs) (k .0) d (k .1)) a))
     (λ e. let t = constructs-written p (c ∷ cs) e in absurd (h (t .construct) (t .more) (t .written) (t .stands)))
 
-depth-behind : (row : List Construct) (p : Place) → length (p .opened) ≤ most-depth → all-stand row p ≡ true → length (place-behind row p .opened) ≤ most-depth
-unfolding all-stand place-behind
+depth-behind : (row : List Construct) (p : Place) → length (p .opened) ≤ most-depth → all-stand row p ≡ true → length (place-after-all row p .opened) ≤ most-depth
+unfolding all-stand place-after-all
 depth-behind [] p h s = h
 depth-behind (c ∷ cs) p h s =
-    depth-behind cs (behind c p) (depth-kept c p h (and-left (may-stand c p) (all-stand cs (behind c p)) s)) (and-right (may-stand c p) (all-stand cs (behind c p)) s)
+    depth-behind cs (place-after c p) (depth-kept c p h (and-left (may-stand c p) (all-stand cs (place-after c p)) s)) (and-right (may-stand c p) (all-stand cs (place-after c p)) s)
 
 pub refused-read : (p : Place) (r : Bool) (bs : List ℕ) (n : ℕ) → length (p .opened) ≤ most-depth → Refused-so p bs n → read-from p r 0 bs ≡ refused n
 refused-read p r bs n d h =
     rw (← h .parted)
     (row-refused (h .before) p r (h .rest) n (h .stand)
-    (λ t. stuck-read (place-behind (h .before) p) t (h .rest) n (depth-behind (h .before) p d (h .stand)) (h .stuck) (h .not-whole) (h .number)))
+    (λ t. stuck-read (place-after-all (h .before) p) t (h .rest) n (depth-behind (h .before) p d (h .stand)) (h .stuck) (h .not-whole) (h .number)))
 
 -- EVERY TEXT: what the reader says is so
 stuck-means : (p : Place) (r : Bool) (c : ℕ) (cs : List ℕ) → length (p .opened) ≤ most-depth → is-stuck (next p (c ∷ cs)) ≡ true → Means p r (c ∷ cs) (read-from p r 0 (c ∷ cs))
-unfolding Means texts all-stand place-behind Stuck Constructs-found Numbers-right
+unfolding Means texts all-stand place-after-all Stuck Constructs-found Numbers-right
 stuck-means p r c cs d e =
     let k = is-stuck-number (next p (c ∷ cs)) e in
     rw (stuck-refuses p r c cs (k .0) (k .1))
@@ -288,9 +288,9 @@ stuck-means p r c cs d e =
     nothing-there n = omega (arith, ap length n)
 
 -- a construct in front of what is read so
-further : (x : Construct) (p : Place) (r : Bool) (more : List ℕ) (q : Reading) → may-stand x p ≡ true → Means (behind x p) (of-text (step-of x)) more q →
+further : (x : Construct) (p : Place) (r : Bool) (more : List ℕ) (q : Reading) → may-stand x p ≡ true → Means (place-after x p) (of-text (step-of x)) more q →
     Means p r (text-of x ++ more) (preceded (gives r (step-of x)) q)
-unfolding Means texts all-stand place-behind preceded
+unfolding Means texts all-stand place-after-all preceded
 further x p r more (accepted ks) s m =
     record {
       row = x ∷ m .row;
@@ -311,7 +311,7 @@ further x p r more (refused n) s m =
     }
 
 end-means : (p : Place) (r : Bool) (os : List (List ℕ)) → p .opened ≡ os → Means p r [] (at-end os)
-unfolding Means at-end texts all-stand place-behind kinds-from Stuck
+unfolding Means at-end texts all-stand place-after-all kinds-from Stuck
 end-means p r [] e = record { row = []; written = refl; stand = refl; closed = e; give = refl }
 end-means p r (o ∷ os) e =
     record {
@@ -335,6 +335,6 @@ means (suc fuel) p r (c ∷ cs) h d =
     let t = constructs-written p (c ∷ cs) e in
     let x = t .construct in
     let shorter : length (t .more) ≤ fuel = omega (arith, ap length (begun x .are), length-append (text-of x) (t .more), ap length (t .written)) in
-    let behind-it = means fuel (behind x p) (of-text (step-of x)) (t .more) shorter (depth-kept x p d (t .stands)) in
+    let behind-it = means fuel (place-after x p) (of-text (step-of x)) (t .more) shorter (depth-kept x p d (t .stands)) in
     subst (λ (l : List ℕ). Means p r l (read-from p r 0 l)) (t .written)
     (subst⁻¹ (Means p r (text-of x ++ t .more)) (construct-read x p r (t .more) (t .stands)) (further x p r (t .more) _ (t .stands) behind-it)))

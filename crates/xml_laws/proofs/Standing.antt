@@ -4,14 +4,14 @@ use mathlib.Core.Bool.{true, false≢true}
 use mathlib.Core.List.{List, [], _∷_}
 use Prim.Native.Nat.{ℕ}
 use Rattle.lists.proofs.Tests.{and-left, and-right}
-use Rattle.xml.specs.Grammar.{Construct, stop, Place, closes, tail-of, may-stand, behind, all-stand, is-construct}
+use Rattle.xml.specs.Grammar.{Construct, stop, Place, closes, tail-of, may-stand, place-after, all-stand, is-construct}
 use Rattle.lists.proofs.Same.{same-equal}
 
 pub first-stands : (c : Construct) (cs : List Construct) (p : Place) → all-stand (c ∷ cs) p ≡ true → may-stand c p ≡ true
 unfolding all-stand
 first-stands c cs p h = and-left (may-stand c p) _ h
 
-pub rest-stands : (c : Construct) (cs : List Construct) (p : Place) → all-stand (c ∷ cs) p ≡ true → all-stand cs (behind c p) ≡ true
+pub rest-stands : (c : Construct) (cs : List Construct) (p : Place) → all-stand (c ∷ cs) p ≡ true → all-stand cs (place-after c p) ≡ true
 unfolding all-stand
 rest-stands c cs p h = and-right (may-stand c p) _ h
 

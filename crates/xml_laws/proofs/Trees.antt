@@ -10,7 +10,7 @@ use lib.Dec.{ltb, eqb}
 use lib.ListN.{length}
 use Rattle.lists.proofs.Tests.{and-left, and-right, and-both}
 use Rattle.xml.specs.Bytes.{is-char, less-than, greater-than, ampersand}
-use Rattle.xml.specs.Grammar.{Construct, datum, reference, cdata, comment, start, lone, stop, Tag, is-tag, is-blank, Place, top, closes, tail-of, brackets-behind, may-stand, behind, all-stand, place-behind, most-depth, is-construct}
+use Rattle.xml.specs.Grammar.{Construct, datum, reference, cdata, comment, start, empty-element, stop, Tag, is-tag, is-blank, Place, top, closes, tail-of, brackets-after, may-stand, place-after, all-stand, place-after-all, most-depth, is-construct}
 use Rattle.xml.specs.Content.{Content, nothing, item, element, constructs, item-right, content-right}
 use Rattle.xml.specs.Promise.{In-grammar, Nested, Sheets-nest-as-trees}
 use Rattle.lists.proofs.Same.{same-refl}
@@ -77,7 +77,7 @@ with-element os t row h l s =
 tag-fits : (t : Tag) (p : Place) → (is-tag t && ltb (length (p .opened)) most-depth) ≡ true → length (p .opened) < most-depth
 tag-fits t p h = ltb-true (length (p .opened)) most-depth (and-right (is-tag t) _ h)
 
-lone-item : (t : Tag) (p : Place) → may-stand (lone t) p ≡ true → item-right (left (p .opened)) (lone t) ≡ true
+lone-item : (t : Tag) (p : Place) → may-stand (empty-element t) p ≡ true → item-right (left (p .opened)) (empty-element t) ≡ true
 unfolding may-stand is-construct item-right
 lone-item t p h = and-both (and-left (is-tag t) _ h) (lt-ltb 0 (left (p .opened)) (omega (arith, tag-fits t p h)))
 
@@ -92,31 +92,31 @@ with-end n b cs p h s =
     rw (stop-closes n b p h)
     (no-content (n ∷ tail-of (p .opened)) (stop n b ∷ cs) (record { blank = b; row = cs; written = refl; right = and-right (closes n (p .opened)) _ h; around = s }))
 
-spine : (row : List Construct) (p : Place) → all-stand row p ≡ true → place-behind row p .opened ≡ [] → Spine (p .opened) row
-unfolding place-behind behind may-stand is-construct item-right
+spine : (row : List Construct) (p : Place) → all-stand row p ≡ true → place-after-all row p .opened ≡ [] → Spine (p .opened) row
+unfolding place-after-all place-after may-stand is-construct item-right
 spine [] p h e = rw e (no-content [] [] refl)
-spine (datum c ∷ cs) p h e = with-item (p .opened) (datum c) cs (datum-item c p (first-stands (datum c) cs p h)) (spine cs (behind (datum c) p) (rest-stands (datum c) cs p h) e)
-spine (reference n ∷ cs) p h e = with-item (p .opened) (reference n) cs (first-stands (reference n) cs p h) (spine cs (behind (reference n) p) (rest-stands (reference n) cs p h) e)
-spine (cdata bs ∷ cs) p h e = with-item (p .opened) (cdata bs) cs (first-stands (cdata bs) cs p h) (spine cs (behind (cdata bs) p) (rest-stands (cdata bs) cs p h) e)
-spine (comment bs ∷ cs) p h e = with-item (p .opened) (comment bs) cs (first-stands (comment bs) cs p h) (spine cs (behind (comment bs) p) (rest-stands (comment bs) cs p h) e)
+spine (datum c ∷ cs) p h e = with-item (p .opened) (datum c) cs (datum-item c p (first-stands (datum c) cs p h)) (spine cs (place-after (datum c) p) (rest-stands (datum c) cs p h) e)
+spine (reference n ∷ cs) p h e = with-item (p .opened) (reference n) cs (first-stands (reference n) cs p h) (spine cs (place-after (reference n) p) (rest-stands (reference n) cs p h) e)
+spine (cdata bs ∷ cs) p h e = with-item (p .opened) (cdata bs) cs (first-stands (cdata bs) cs p h) (spine cs (place-after (cdata bs) p) (rest-stands (cdata bs) cs p h) e)
+spine (comment bs ∷ cs) p h e = with-item (p .opened) (comment bs) cs (first-stands (comment bs) cs p h) (spine cs (place-after (comment bs) p) (rest-stands (comment bs) cs p h) e)
 spine (start t ∷ cs) p h e =
     let f : may-stand (start t) p ≡ true = first-stands (start t) cs p h in
-    with-element (p .opened) t cs (and-left (is-tag t) _ f) (tag-fits t p f) (spine cs (behind (start t) p) (rest-stands (start t) cs p h) e)
-spine (lone t ∷ cs) p h e = with-item (p .opened) (lone t) cs (lone-item t p (first-stands (lone t) cs p h)) (spine cs (behind (lone t) p) (rest-stands (lone t) cs p h) e)
-spine (stop n b ∷ cs) p h e = with-end n b cs p (first-stands (stop n b) cs p h) (spine cs (behind (stop n b) p) (rest-stands (stop n b) cs p h) e)
+    with-element (p .opened) t cs (and-left (is-tag t) _ f) (tag-fits t p f) (spine cs (place-after (start t) p) (rest-stands (start t) cs p h) e)
+spine (empty-element t ∷ cs) p h e = with-item (p .opened) (empty-element t) cs (lone-item t p (first-stands (empty-element t) cs p h)) (spine cs (place-after (empty-element t) p) (rest-stands (empty-element t) cs p h) e)
+spine (stop n b ∷ cs) p h e = with-end n b cs p (first-stands (stop n b) cs p h) (spine cs (place-after (stop n b) p) (rest-stands (stop n b) cs p h) e)
 
 -- the brackets before each byte of data are counted right
 stand-brackets : (row : List Construct) (p : Place) → all-stand row p ≡ true → brackets-right (p .brackets) row ≡ true
-unfolding brackets-right behind may-stand is-construct
+unfolding brackets-right place-after may-stand is-construct
 stand-brackets [] p h = refl
 stand-brackets (datum c ∷ cs) p h =
-    and-both (and-right (is-char c && (not (eqb c less-than) && not (eqb c ampersand))) _ (first-stands (datum c) cs p h)) (stand-brackets cs (behind (datum c) p) (rest-stands (datum c) cs p h))
-stand-brackets (reference n ∷ cs) p h = stand-brackets cs (behind (reference n) p) (rest-stands (reference n) cs p h)
-stand-brackets (cdata bs ∷ cs) p h = stand-brackets cs (behind (cdata bs) p) (rest-stands (cdata bs) cs p h)
-stand-brackets (comment bs ∷ cs) p h = stand-brackets cs (behind (comment bs) p) (rest-stands (comment bs) cs p h)
-stand-brackets (start t ∷ cs) p h = stand-brackets cs (behind (start t) p) (rest-stands (start t) cs p h)
-stand-brackets (lone t ∷ cs) p h = stand-brackets cs (behind (lone t) p) (rest-stands (lone t) cs p h)
-stand-brackets (stop n b ∷ cs) p h = stand-brackets cs (behind (stop n b) p) (rest-stands (stop n b) cs p h)
+    and-both (and-right (is-char c && (not (eqb c less-than) && not (eqb c ampersand))) _ (first-stands (datum c) cs p h)) (stand-brackets cs (place-after (datum c) p) (rest-stands (datum c) cs p h))
+stand-brackets (reference n ∷ cs) p h = stand-brackets cs (place-after (reference n) p) (rest-stands (reference n) cs p h)
+stand-brackets (cdata bs ∷ cs) p h = stand-brackets cs (place-after (cdata bs) p) (rest-stands (cdata bs) cs p h)
+stand-brackets (comment bs ∷ cs) p h = stand-brackets cs (place-after (comment bs) p) (rest-stands (comment bs) cs p h)
+stand-brackets (start t ∷ cs) p h = stand-brackets cs (place-after (start t) p) (rest-stands (start t) cs p h)
+stand-brackets (empty-element t ∷ cs) p h = stand-brackets cs (place-after (empty-element t) p) (rest-stands (empty-element t) cs p h)
+stand-brackets (stop n b ∷ cs) p h = stand-brackets cs (place-after (stop n b) p) (rest-stands (stop n b) cs p h)
 
 to-content : (text kinds : List ℕ) → In-grammar text kinds → Nested text kinds
 to-content text kinds g =
@@ -133,10 +133,10 @@ to-content text kinds g =
 -- FROM CONTENT TO A ROW. A row that stands from a place on and closes what is open there
 record Closing (row : List Construct) (p : Place) : Type 0 where
   stand : all-stand row p ≡ true
-  closed : place-behind row p .opened ≡ []
+  closed : place-after-all row p .opened ≡ []
 
-onto : (c : Construct) (row : List Construct) (p : Place) → may-stand c p ≡ true → Closing row (behind c p) → Closing (c ∷ row) p
-unfolding all-stand place-behind
+onto : (c : Construct) (row : List Construct) (p : Place) → may-stand c p ≡ true → Closing row (place-after c p) → Closing (c ∷ row) p
+unfolding all-stand place-after-all
 onto c row p h k = record { stand = and-both h (k .stand); closed = k .closed }
 
 -- whatever brackets stand before it, if they are counted right
@@ -144,26 +144,26 @@ abbrev Closing-at : (opened : List (List ℕ)) → List Construct → Type 0
 Closing-at os row = (b : ℕ) → brackets-right b row ≡ true → Closing row (record { opened = os; brackets = b })
 
 item-onto : (d : ℕ) (c : Construct) (row : List Construct) (os : List (List ℕ)) → item-right d c ≡ true → length os + d ≡ most-depth → Closing-at os row → Closing-at os (c ∷ row)
-unfolding item-right brackets-right may-stand is-construct behind
+unfolding item-right brackets-right may-stand is-construct place-after
 item-onto d (datum c) row os r e k b h =
     let fits : Bool = not (eqb c greater-than && eqb b 2) in
-    onto (datum c) row (record { opened = os; brackets = b }) (and-both r (and-left fits _ h)) (k (brackets-behind c b) (and-right fits _ h))
+    onto (datum c) row (record { opened = os; brackets = b }) (and-both r (and-left fits _ h)) (k (brackets-after c b) (and-right fits _ h))
 item-onto d (reference n) row os r e k b h = onto (reference n) row (record { opened = os; brackets = b }) r (k 0 h)
 item-onto d (cdata bs) row os r e k b h = onto (cdata bs) row (record { opened = os; brackets = b }) r (k 0 h)
 item-onto d (comment bs) row os r e k b h = onto (comment bs) row (record { opened = os; brackets = b }) r (k 0 h)
 item-onto d (start t) row os r e k b h = absurd (false≢true r)
-item-onto d (lone t) row os r e k b h =
+item-onto d (empty-element t) row os r e k b h =
     let l : 0 < d = ltb-true 0 d (and-right (is-tag t) _ r) in
-    onto (lone t) row (record { opened = os; brackets = b }) (and-both (and-left (is-tag t) _ r) (lt-ltb (length os) most-depth (omega arith))) (k 0 h)
+    onto (empty-element t) row (record { opened = os; brackets = b }) (and-both (and-left (is-tag t) _ r) (lt-ltb (length os) most-depth (omega arith))) (k 0 h)
 item-onto d (stop n bs) row os r e k b h = absurd (false≢true r)
 
 start-onto : (t : Tag) (row : List Construct) (os : List (List ℕ)) → is-tag t ≡ true → length os < most-depth → Closing-at (t .name ∷ os) row → Closing-at os (start t ∷ row)
-unfolding brackets-right may-stand is-construct behind
+unfolding brackets-right may-stand is-construct place-after
 start-onto t row os r l k b h =
     onto (start t) row (record { opened = os; brackets = b }) (and-both r (lt-ltb (length os) most-depth l)) (k 0 h)
 
 stop-onto : (n bs : List ℕ) (row : List Construct) (os : List (List ℕ)) → is-blank bs ≡ true → Closing-at os row → Closing-at (n ∷ os) (stop n bs ∷ row)
-unfolding brackets-right may-stand is-construct behind closes tail-of
+unfolding brackets-right may-stand is-construct place-after closes tail-of
 stop-onto n bs row os r k b h =
     onto (stop n bs) row (record { opened = n ∷ os; brackets = b }) (and-both (same-refl n) r) (k 0 h)
 
@@ -185,7 +185,7 @@ content-onto (element t inside bs rest) (suc d) row os r e k =
     (stop-onto (t .name) bs (constructs rest ++ row) os (and-right (is-tag t) _ tag) around)))
 
 to-row : (text kinds : List ℕ) → Nested text kinds → In-grammar text kinds
-unfolding all-stand place-behind
+unfolding all-stand place-after-all
 to-row text kinds n =
     let row : List Construct = constructs (n .content) in
     let nothing-left : Closing-at [] [] = λ b h. record { stand = refl; closed = refl } in

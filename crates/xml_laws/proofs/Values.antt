@@ -12,7 +12,7 @@ use lib.Dec.{eqb, eqb·suc-zero}
 use lib.ListN.{length, length-append}
 use Rattle.lists.proofs.Tests.{by-test, and-left, and-right, and-both}
 use Rattle.xml.specs.Bytes.{is-char, less-than, ampersand, semicolon}
-use Rattle.xml.specs.Grammar.{Value, closed, byte, named, value-text, is-value, is-quote, is-reference, reference-text}
+use Rattle.xml.specs.Grammar.{Value, no-more, byte, named, value-text, is-value, is-quote, is-reference, reference-text}
 use Rattle.xml.specs.Scan.{later, value-step, value-length, reference-length}
 use Rattle.xml_laws.proofs.Strings.{on-quotes}
 use Rattle.xml_laws.proofs.References.{reference-found, Reference-there, reference-written}
@@ -86,7 +86,7 @@ value-on-reference q n cs s h =
 pub value-found : (q : ℕ) (v : Value) (more : List ℕ) → is-quote q ≡ true → is-value q v ≡ true →
     value-length q 0 (value-text v ++ (q ∷ more)) ≡ some (length (value-text v))
 unfolding value-text is-value later-by
-value-found q closed more s h = value-ends q more
+value-found q no-more more s h = value-ends q more
 value-found q (byte c v) more s h =
     rw (
       value-on-byte q c (value-text v ++ (q ∷ more)) (and-left (value-byte q c) _ h),
@@ -147,7 +147,7 @@ written-in zero q [] m s l e = absurd (Option·none-ne-some m e)
 written-in zero q (c ∷ cs) m s l e = absurd (not-suc-le-zero l)
 written-in (suc k) q [] m s l e = absurd (Option·none-ne-some m e)
 written-in (suc k) q (c ∷ cs) m s l e =
-    by-test (eqb c q) (λ t. value-there q closed cs (c ∷ cs) m s refl (rw (eqb-true c q t)) e)
+    by-test (eqb c q) (λ t. value-there q no-more cs (c ∷ cs) m s refl (rw (eqb-true c q t)) e)
     (λ f₁. by-test (eqb c ampersand)
     (λ t. by-test (eqb (reference-length (c ∷ cs)) 0) (λ z. absurd (Option·none-ne-some m (rw (f₁, t, z) at e)))
     (λ z. let r : Reference-there (c ∷ cs) = reference-written (c ∷ cs) z in

@@ -7,7 +7,7 @@ use mathlib.Core.Logic.{_↔_, _⊎_}
 use mathlib.Core.Option.{some}
 use Prim.Native.Nat.{ℕ, _≤_}
 use lib.ListN.{length}
-use Rattle.xml.specs.Grammar.{Construct, datum, reference, cdata, comment, start, lone, stop, Tag, text-of, is-tag, Place, may-stand, most-depth, refused-opener, not-a-sheet, too-deep, not-read}
+use Rattle.xml.specs.Grammar.{Construct, datum, reference, cdata, comment, start, empty-element, stop, Tag, text-of, is-tag, Place, may-stand, most-depth, refused-opener, not-a-sheet, too-deep, not-read}
 use Rattle.xml.specs.Scan.{Sized-tag, tag-at}
 use Rattle.xml.specs.Reader.{Step, next}
 use Rattle.xml.specs.Reader as reader
@@ -15,27 +15,27 @@ use Rattle.xml.specs.Promise.{Whole-tag}
 
 -- the reader's step over a construct
 unfoldable pub step-of : Construct → Step
-step-of (datum c) = reader.Step.datum c
+step-of (datum c) = reader.Step.one-byte c
 step-of (reference n) = reader.Step.piece (length (text-of (reference n)))
 step-of (cdata cs) = reader.Step.piece (length (text-of (cdata cs)))
-step-of (comment cs) = reader.Step.comment (length (text-of (comment cs)))
+step-of (comment cs) = reader.Step.aside (length (text-of (comment cs)))
 step-of (start t) = reader.Step.opening (t .name) (length (text-of (start t)))
-step-of (lone t) = reader.Step.lone (length (text-of (lone t)))
+step-of (empty-element t) = reader.Step.whole (length (text-of (empty-element t)))
 step-of (stop n b) = reader.Step.closing (length (text-of (stop n b)))
 
 unfoldable pub is-stuck : Step → Bool
 is-stuck (reader.Step.stuck k) = true
-is-stuck (reader.Step.datum c) = false
+is-stuck (reader.Step.one-byte c) = false
 is-stuck (reader.Step.piece u) = false
-is-stuck (reader.Step.comment u) = false
+is-stuck (reader.Step.aside u) = false
 is-stuck (reader.Step.opening n u) = false
-is-stuck (reader.Step.lone u) = false
+is-stuck (reader.Step.whole u) = false
 is-stuck (reader.Step.closing u) = false
 
 -- TAGS. A tag of the grammar with its > or />
 unfoldable pub tag-construct : (lone : Bool) → Tag → Construct
 tag-construct false t = start t
-tag-construct true t = lone t
+tag-construct true t = empty-element t
 
 -- what the scanner of tags says of one
 unfoldable pub size-of : (lone : Bool) → Tag → Sized-tag

@@ -13,7 +13,7 @@ use Rattle.xml_pieces.specs.declared.Cursor.{Cursor}
 use Rattle.xml_pieces.specs.declared.Part.the-variants.{On, Refused}
 use Rattle.xml_pieces.specs.declared.Piece.the-variants as found
 use Rattle.xml_pieces.specs.Pieces.{Piece-right}
-use Rattle.xml_pieces.specs.Outcome.{in-text, finish, outcome, behind, In-text, Reached, Reads-on}
+use Rattle.xml_pieces.specs.Outcome.{in-text, finish, outcome, cursor-at, In-text, Reached, Reads-on}
 
 -- a kind that is written is one of the reading's
 pub finish-kind : (n k : ℕ) (ls : List ℕ) (q : Reading) → finish (n + 1) (set ls n k) q ≡ finish n ls (preceded (k ∷ []) q)
@@ -38,7 +38,7 @@ text-long true ls n = refl
 text-long false ls n = length-set ls n 3
 
 pub text-on : (bs : List ℕ) (d : ℕ) (c : Cursor) (e n : ℕ) (ls ls′ : List ℕ) → In-text bs c → Piece-right bs (c .at) (found.Text e) →
-    n ≡ cond (in-text c) (c .count) (c .count + 1) → ls′ ≡ cond (in-text c) ls (set ls (c .count) 3) → Reads-on bs d c (suc (c .at)) ls ls′ (On (behind e n 1))
+    n ≡ cond (in-text c) (c .count) (c .count + 1) → ls′ ≡ cond (in-text c) ls (set ls (c .count) 3) → Reads-on bs d c (suc (c .at)) ls ls′ (On (cursor-at e n 1))
 unfolding Piece-right outcome Reached
 text-on bs d c e n ls ls′ h p is are =
     rw (is, are) (record {
@@ -48,7 +48,7 @@ text-on bs d c e n ls ls′ h p is are =
     })
 
 pub comment-on : (bs : List ℕ) (d : ℕ) (c : Cursor) (e : ℕ) (ls : List ℕ) → In-text bs c → Piece-right bs (c .at) (found.Comment e) →
-    Reads-on bs d c (suc (c .at)) ls ls (On (behind e (c .count) 0))
+    Reads-on bs d c (suc (c .at)) ls ls (On (cursor-at e (c .count) 0))
 unfolding Piece-right outcome Reached
 comment-on bs d c e ls h p =
     record {

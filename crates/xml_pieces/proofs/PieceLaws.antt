@@ -59,7 +59,7 @@ text-piece bs i u e n h =
     let (k, is) = some-used u (w .least) in
     (reached bs i e _ (n []) refl h, λ os r. step-read (at-place os) r (drop i bs) _ k (n os) refl is ∙ rw (drop-drop u i bs, h))
 
-pub comment-piece : (bs : List ℕ) (i u e : ℕ) → ((os : List (List ℕ)) → next (at-place os) (drop i bs) ≡ reader.Step.comment u) → e ≡ i + u → Piece-right bs i (answer.Comment e)
+pub comment-piece : (bs : List ℕ) (i u e : ℕ) → ((os : List (List ℕ)) → next (at-place os) (drop i bs) ≡ reader.Step.aside u) → e ≡ i + u → Piece-right bs i (answer.Comment e)
 unfolding Piece-right gives past of-text used is-stuck
 comment-piece bs i u e n h =
     let w = step-within (at-place []) (drop i bs) _ (n []) refl in

@@ -34,8 +34,8 @@ outcome bs os ls (On c) = finish (c .count) ls (read-from (at-place os) (in-text
 outcome bs os ls (Refused k) = failed k
 
 -- a cursor by its parts
-abbrev pub behind : (at count in-text : ℕ) → Cursor
-behind e n t = record { at = e; count = n; in_text = t }
+abbrev pub cursor-at : (at count in-text : ℕ) → Cursor
+cursor-at e n t = record { at = e; count = n; in_text = t }
 
 -- a cursor stands in the text, and no more kinds have been given than bytes were read
 pub record In-text (bs : List ℕ) (c : Cursor) : Type 0 where

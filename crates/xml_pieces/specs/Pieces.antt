@@ -7,7 +7,7 @@ use lib.ListN.{length, drop}
 use Rattle.lists.specs.Fronts.{starts-with}
 use Rattle.xml.specs.Bytes.{less-than, end-opens, declaration-opens, instruction-opens}
 use Rattle.xml.specs.Grammar.{at-place}
-use Rattle.xml.specs.Reader.{Step, stuck, datum, piece, comment, opening, lone, closing, refused, preceded, text-kind, read-from}
+use Rattle.xml.specs.Reader.{Step, stuck, one-byte, piece, aside, opening, whole, closing, refused, preceded, text-kind, read-from}
 use Rattle.xml_scan.specs.declared.Found.{Found}
 use Rattle.xml_scan.specs.declared.Found.the-variants.{At, Nothing}
 use Rattle.xml_pieces.specs.declared.Piece.{Piece}
@@ -51,9 +51,9 @@ Piece-right bs i (found.Refused k) = (os : List (List ℕ)) (r : Bool) → read-
 -- where an end tag ends, by the reader's step over it
 unfoldable pub closing-found : (from : ℕ) → Step → Found
 closing-found a (stuck k) = Nothing
-closing-found a (datum c) = Nothing
+closing-found a (one-byte c) = Nothing
 closing-found a (piece u) = Nothing
-closing-found a (comment u) = Nothing
+closing-found a (aside u) = Nothing
 closing-found a (opening n u) = Nothing
-closing-found a (lone u) = Nothing
+closing-found a (whole u) = Nothing
 closing-found a (closing u) = At (a + u)

@@ -26,7 +26,7 @@ use Rattle.xml_pieces.specs.declared.Part.the-variants.{On, Refused}
 use Rattle.xml_tag.specs.declared.TagRead.the-variants as tag
 use Rattle.xml_tag.specs.Post.{tag-found}
 use Rattle.xml_pieces.specs.Pieces.{goes-on, opens-element}
-use Rattle.xml_pieces.specs.Outcome.{in-text, finish, outcome, behind, In-text, Reached, Reads-on, Closes, Ended}
+use Rattle.xml_pieces.specs.Outcome.{in-text, finish, outcome, cursor-at, In-text, Reached, Reads-on, Closes, Ended}
 use Rattle.xml_pieces.proofs.PieceLaws.{dropped, some-used, no-end}
 use Rattle.xml_pieces.proofs.Outcomes.{finish-kind, refused-on}
 
@@ -146,7 +146,7 @@ module _ (bs : List ℕ) (c : Cursor) (h : In-text bs c) (g : goes-on (drop (c .
     end-within = let t = tag-size in omega (arith, t .least, t .most, length-drop (c .at) bs)
 
     -- what stands behind an empty-element tag
-    lone-next : (os : List (List ℕ)) → length os < most-depth → z .lone ≡ true → next (at-place os) here ≡ reader.Step.lone (z .used)
+    lone-next : (os : List (List ℕ)) → length os < most-depth → z .lone ≡ true → next (at-place os) here ≡ reader.Step.whole (z .used)
     unfolding tag-step
     lone-next os l f = tag-next os ∙ ap (tag-step (length os) here) e ∙ rw (lt-ltb (length os) most-depth l, f)
 
@@ -159,7 +159,7 @@ module _ (bs : List ℕ) (c : Cursor) (h : In-text bs c) (g : goes-on (drop (c .
         both (reader.refused k) = refl
 
     pub lone-on : (d : ℕ) (ls : List ℕ) → 0 < d → z .lone ≡ true →
-        Reads-on bs d c (suc (c .at)) ls (set (set ls (c .count) 1) (c .count + 1) 2) (On (behind end (c .count + 1 + 1) 0))
+        Reads-on bs d c (suc (c .at)) ls (set (set ls (c .count) 1) (c .count + 1) 2) (On (cursor-at end (c .count + 1 + 1) 0))
     unfolding outcome Reached gives past of-text used is-stuck
     lone-on d ls l f =
         let t = tag-size in
@@ -178,7 +178,7 @@ module _ (bs : List ℕ) (c : Cursor) (h : In-text bs c) (g : goes-on (drop (c .
     name = take (z .name) (drop 1 here)
 
     abbrev inside : Cursor
-    inside = behind end (c .count + 1) 0
+    inside = cursor-at end (c .count + 1) 0
 
     open-next : (os : List (List ℕ)) → length os < most-depth → z .lone ≡ false → next (at-place os) here ≡ reader.Step.opening name (z .used)
     unfolding tag-step
@@ -238,14 +238,14 @@ module _ (bs : List ℕ) (c : Cursor) (h : In-text bs c) (g : goes-on (drop (c .
     pub found-deep : (d : ℕ) (ls : List ℕ) → d ≡ 0 → Reads-on bs d c (suc (c .at)) ls ls (Refused too-deep)
     found-deep d ls z = deep-refused (f .size) (f .is) d ls z
 
-    module _ (d : ℕ) (ls ms : List ℕ) (b : Cursor) (left : d ≡ 0 → ⊥) (begun : b ≡ behind e (c .count + 1) 0) (put : ms ≡ set ls (c .count) 1) where
+    module _ (d : ℕ) (ls ms : List ℕ) (b : Cursor) (left : d ≡ 0 → ⊥) (begun : b ≡ cursor-at e (c .count + 1) 0) (put : ms ≡ set ls (c .count) 1) where
       inside-is : b ≡ inside (f .size) (f .is)
-      inside-is = begun ∙ ap (λ k. behind k (c .count + 1) 0) (f .end)
+      inside-is = begun ∙ ap (λ k. cursor-at k (c .count + 1) 0) (f .end)
 
       pub found-inside : In-text bs b
       found-inside = rw inside-is (inside-text (f .size) (f .is))
 
-      pub found-lone : (ns : List ℕ) (q : Part) → l ≡ true → q ≡ On (behind e (b .count + 1) 0) → ns ≡ set ms (b .count) 2 → Reads-on bs d c (suc (c .at)) ls ns q
+      pub found-lone : (ns : List ℕ) (q : Part) → l ≡ true → q ≡ On (cursor-at e (b .count + 1) 0) → ns ≡ set ms (b .count) 2 → Reads-on bs d c (suc (c .at)) ls ns q
       found-lone ns q t r p =
           rw (r, p, put, begun, f .end) (lone-on (f .size) (f .is) d ls (omega arith) (sym (f .lone) ∙ t))
 

@@ -24,7 +24,7 @@ use Rattle.xml_pieces.specs.declared.Cursor.{Cursor}
 use Rattle.xml_pieces.specs.declared.Part.{Part}
 use Rattle.xml_pieces.specs.declared.Part.the-variants.{On, Refused}
 use Rattle.xml_pieces.specs.Pieces.{goes-on}
-use Rattle.xml_pieces.specs.Outcome.{in-text, done, failed, finish, outcome, behind, Reached, Reads-on, Ended}
+use Rattle.xml_pieces.specs.Outcome.{in-text, done, failed, finish, outcome, cursor-at, Reached, Reads-on, Ended}
 use Rattle.xml_read.specs.Whole.{whole-part, whole-reply, Read-whole}
 
 -- WHAT A READING WAS, by what it came to
@@ -78,7 +78,7 @@ over bs c ls g l = ap (finish (c .count) ls) (left-over (in-text c) (drop (c .at
 ends : (bs : List ℕ) (c : Cursor) → c .at ≤ length bs → length bs ≤ c .at → c .at ≡ length bs
 ends bs c h l = omega arith
 
-pub read-whole : (bs ls ns : List ℕ) (q : Part) → Reads-on bs most-depth (behind 0 0 0) 0 ls ns q → Ended bs q → Read-whole bs ls ns (whole-part bs q)
+pub read-whole : (bs ls ns : List ℕ) (q : Part) → Reads-on bs most-depth (cursor-at 0 0 0) 0 ls ns q → Ended bs q → Read-whole bs ls ns (whole-part bs q)
 unfolding whole-part outcome read-sheet Ended Reached
 read-whole bs ls ns (Refused k) r e = whole-refused bs ls ns k (was-refused k ls _ (r .same [] refl)) (r .long)
 read-whole bs ls ns (On c) r e =

@@ -2,7 +2,7 @@
 use mathlib.Core.Path.{ap}
 use borrow.Author.Needs.{needs}
 use Rattle.xml_pieces.specs.declared.Part.the-variants.{On}
-use Rattle.xml_pieces.specs.Outcome.{behind}
+use Rattle.xml_pieces.specs.Outcome.{cursor-at}
 use Rattle.xml_ends.proofs.closed.Statement.{statement}
 use Rattle.xml_ends.proofs.closed.Tie as tie
 
@@ -16,7 +16,7 @@ returns : tie.Need-returns
 returns c =
     let put = c .before .before .put-kind in
     let at = c .before .before .before .before .before in
-    (ap (λ n. On (behind (at .args .end) n 0)) (put .ensures .0), put .ensures .1)
+    (ap (λ n. On (cursor-at (at .args .end) n 0)) (put .ensures .0), put .ensures .1)
 
 pub closed-spec : {M : Type 1} → statement M
 closed-spec = tie.close (tie.spec put-kind-requires same-length returns)

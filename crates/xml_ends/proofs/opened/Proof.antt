@@ -1,7 +1,7 @@
 -- `xml_ends::opened` meets its contract. Assumes nothing.
 use mathlib.Core.Path.{ap}
 use borrow.Author.Needs.{needs}
-use Rattle.xml_pieces.specs.Outcome.{behind}
+use Rattle.xml_pieces.specs.Outcome.{cursor-at}
 use Rattle.xml_ends.proofs.opened.Statement.{statement}
 use Rattle.xml_ends.proofs.opened.Tie as tie
 
@@ -15,7 +15,7 @@ returns : tie.Need-returns
 returns c =
     let put = c .before .before .put-kind in
     let at = c .before .before .before .before .before in
-    (ap (λ n. behind (at .args .end) n 0) (put .ensures .0), put .ensures .1)
+    (ap (λ n. cursor-at (at .args .end) n 0) (put .ensures .0), put .ensures .1)
 
 pub opened-spec : {M : Type 1} → statement M
 opened-spec = tie.close (tie.spec put-kind-requires same-length returns)
