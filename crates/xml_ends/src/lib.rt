@@ -19,7 +19,10 @@ use xml_scan::Found;
 use xml_scan::runs::blank_end;
 use xml_scan::strings::stands;
 
-// Whether < begins what stands at a place, with no ! and no ? behind it.
+// How many bytes open an end tag.
+const END_OPENER: usize = 2;
+
+// Whether < begins what stands at a place, with no ! and no ? after it.
 pub fn opens_element(text: &[u8], at: usize) -> bool
     requires { ⌜ at ≤ length (now text) ⌝ }
     ensures { λ t. ⌜ t ≡ opens-element (drop at (now (text .entry))) ⌝ }
@@ -53,7 +56,7 @@ fn end_tag(text: &[u8], at: usize, name: &[u8], classes: &[u8; 256]) -> Found
     if !stands(text, at, b"</") {
         return Found::Nothing;
     }
-    let from = at + 2;
+    let from = at + END_OPENER;
     if !stands(text, from, name) {
         return Found::Nothing;
     }
@@ -64,7 +67,7 @@ fn end_tag(text: &[u8], at: usize, name: &[u8], classes: &[u8; 256]) -> Found
     Found::Nothing
 }
 
-// A begin tag's kind; content goes on behind the tag.
+// A begin tag's kind; content goes on after the tag.
 pub fn opened(here: Cursor, end: usize, kinds: &mut [u8]) -> Cursor
     requires { ⌜ here .count + 1 < 2 ^ 64 ⌝ }
     ensures cursor { λ c. ⌜ c ≡ cursor-at end (here .count + 1) 0 ⌝ }
@@ -92,7 +95,7 @@ pub fn closed(here: Cursor, end: usize, kinds: &mut [u8]) -> Part
     })
 }
 
-// Behind the content of an element: its end tag, which has its name.
+// After the content of an element: its end tag, which has its name.
 pub fn ending(text: &[u8], here: Cursor, kinds: &mut [u8], name: &[u8], classes: &[u8; 256]) -> Part
     requires { ⌜ In-text (now text) here × (goes-on (drop (here .at) (now text)) ≡ false) ⌝ }
     requires classes { ⌜ Classes (now classes) ⌝ }

@@ -50,7 +50,7 @@ fn text_run(text: &[u8], at: usize, classes: &[u8; 256]) -> Piece
 
 // A comment, whose opener stands at a place.
 fn comment(text: &[u8], at: usize, classes: &[u8; 256]) -> Piece
-    requires { ⌜ (at + 4 ≤ length (now text)) × (starts-with comment-opens (drop at (now text)) ≡ true) ⌝ }
+    requires { ⌜ (at + length comment-opens ≤ length (now text)) × (starts-with comment-opens (drop at (now text)) ≡ true) ⌝ }
     requires classes { ⌜ Classes (now classes) ⌝ }
     ensures { λ q. ⌜ Piece-right (now (text .entry)) at q ⌝ }
 {
@@ -65,7 +65,7 @@ fn comment(text: &[u8], at: usize, classes: &[u8; 256]) -> Piece
 
 // A CDATA section, whose opener stands at a place.
 fn cdata(text: &[u8], at: usize, classes: &[u8; 256]) -> Piece
-    requires { ⌜ (at + 9 ≤ length (now text)) × (starts-with cdata-opens (drop at (now text)) ≡ true) ⌝ }
+    requires { ⌜ (at + length cdata-opens ≤ length (now text)) × (starts-with cdata-opens (drop at (now text)) ≡ true) ⌝ }
     requires classes { ⌜ Classes (now classes) ⌝ }
     ensures { λ q. ⌜ Piece-right (now (text .entry)) at q ⌝ }
 {

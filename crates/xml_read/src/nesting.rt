@@ -1,4 +1,4 @@
-// The element reader and the content reader call each other; the depth left falls, and content uses bytes up.
+// The reader of an item and the reader of content call each other; the depth left falls, and content uses bytes up.
 ghost use mathlib.Core.Path.{_≡_};
 ghost use mathlib.Core.Bool.{true};
 ghost use Prim.Native.Nat.{suc, _≤_};
@@ -19,8 +19,8 @@ use xml_pieces::pieces::piece;
 use xml_tag::TagRead;
 use xml_tag::tag;
 
-// An element with all that it holds, or a construct that is none.
-fn element(text: &[u8], here: Cursor, kinds: &mut [u8], depth: usize, classes: &[u8; 256]) -> Part
+// An item of content: an element with all that it holds, or a construct that is none.
+fn item(text: &[u8], here: Cursor, kinds: &mut [u8], depth: usize, classes: &[u8; 256]) -> Part
     requires { ⌜ In-text (now text) here × (goes-on (drop (here .at) (now text)) ≡ true) × (depth ≤ most-depth) ⌝ }
     requires classes { ⌜ Classes (now classes) ⌝ }
     ensures { λ q. ⌜ Reads-on (now (text .entry)) depth here (suc (here .at)) (now (kinds .entry)) (now (kinds .exit)) q ⌝ }
@@ -61,7 +61,7 @@ pub fn content(
 {
     let mut here = from;
     while goes_on(text, here.at) {
-        let part = element(text, here, kinds, depth, classes);
+        let part = item(text, here, kinds, depth, classes);
         let Part::On(c) = part else {
             return part;
         };

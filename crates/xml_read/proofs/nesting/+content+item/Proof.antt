@@ -15,10 +15,10 @@ use borrow.Fn.Kinds.{In}
 use borrow.Fn.PlainCycle.{Measures, is, falls, and}
 use Rattle.xml_read.proofs.nesting.content.Reads as content
 use Rattle.xml_read.proofs.nesting.content.Kinds as content-kinds
-use Rattle.xml_read.proofs.nesting.+content+element.Lts-content as content-lts
-use Rattle.xml_read.proofs.nesting.element.Reads as element
-use Rattle.xml_read.proofs.nesting.element.Kinds as element-kinds
-use Rattle.xml_read.proofs.nesting.+content+element.Lts-element as element-lts
+use Rattle.xml_read.proofs.nesting.+content+item.Lts-content as content-lts
+use Rattle.xml_read.proofs.nesting.item.Reads as item
+use Rattle.xml_read.proofs.nesting.item.Kinds as item-kinds
+use Rattle.xml_read.proofs.nesting.+content+item.Lts-item as item-lts
 use Rattle.xml_ends.proofs.closed.Reads as closed-reads
 use Rattle.xml_ends.proofs.ending.Reads as ending-reads
 use Rattle.xml_ends.proofs.goes_on.Reads as goes-on-reads
@@ -26,14 +26,14 @@ use Rattle.xml_ends.proofs.opened.Reads as opened-reads
 use Rattle.xml_ends.proofs.opens_element.Reads as opens-element-reads
 use Rattle.xml_tag.proofs.tag.Reads as tag-reads
 use Rattle.xml_pieces.proofs.pieces.piece.Reads as piece-reads
-use Rattle.xml_read.proofs.nesting.+content+element.{statement}
-use Rattle.xml_read.proofs.nesting.+content+element.Tie.{close}
+use Rattle.xml_read.proofs.nesting.+content+item.{statement}
+use Rattle.xml_read.proofs.nesting.+content+item.Tie.{close}
 
 abbrev μ-content : Measures 3 content-kinds.ps ℕ
 μ-content κs a = 2 * a .1 .1 .1 .0 + 1
 
-abbrev μ-element : Measures 3 element-kinds.ps ℕ
-μ-element κs a = 2 * a .1 .1 .1 .0
+abbrev μ-item : Measures 3 item-kinds.ps ℕ
+μ-item κs a = 2 * a .1 .1 .1 .0
 
 abbrev content-at : ℕ → In 3 content-kinds.ps
 content-at t = and 3 content-kinds.ps (is 3 content-kinds.ps μ-content t) content.Pre
@@ -41,17 +41,17 @@ content-at t = and 3 content-kinds.ps (is 3 content-kinds.ps μ-content t) conte
 abbrev content-below : ℕ → In 3 content-kinds.ps
 content-below t = and 3 content-kinds.ps (falls 3 content-kinds.ps _<_ μ-content t) content.Pre
 
-abbrev element-at : ℕ → In 3 element-kinds.ps
-element-at t = and 3 element-kinds.ps (is 3 element-kinds.ps μ-element t) element.Pre
+abbrev item-at : ℕ → In 3 item-kinds.ps
+item-at t = and 3 item-kinds.ps (is 3 item-kinds.ps μ-item t) item.Pre
 
-abbrev element-below : ℕ → In 3 element-kinds.ps
-element-below t = and 3 element-kinds.ps (falls 3 element-kinds.ps _<_ μ-element t) element.Pre
+abbrev item-below : ℕ → In 3 item-kinds.ps
+item-below t = and 3 item-kinds.ps (falls 3 item-kinds.ps _<_ μ-item t) item.Pre
 
 abbrev content-given : ℕ → content-lts.Claims
-content-given t = (goes-on-reads.Asked, goes-on-reads.Learnt, element-below t, element.Post)
+content-given t = (goes-on-reads.Asked, goes-on-reads.Learnt, item-below t, item.Post)
 
-abbrev element-given : ℕ → element-lts.Claims
-element-given t =
+abbrev item-given : ℕ → item-lts.Claims
+item-given t =
     (opens-element-reads.Asked, opens-element-reads.Learnt, piece-reads.Asked, piece-reads.Learnt, tag-reads.Asked, tag-reads.Learnt, opened-reads.Asked, opened-reads.Learnt, closed-reads.Asked, closed-reads.Learnt, content-below t, content.Post, ending-reads.Asked, ending-reads.Learnt)
 
 abbrev content-Inv-loop : content-lts.InvT-loop
@@ -69,8 +69,8 @@ content-loop-holds t c =
 content-goes-on-requires : (t : ℕ) → content-lts.Need-goes-on-requires (content-given t) (content-at t) content.Post content-Inv-loop content-μ-loop
 content-goes-on-requires t c κs = c .loop .inv .0 .within
 
-content-element-requires : (t : ℕ) → content-lts.Need-element-requires (content-given t) (content-at t) content.Post content-Inv-loop content-μ-loop
-content-element-requires t c κs =
+content-item-requires : (t : ℕ) → content-lts.Need-item-requires (content-given t) (content-at t) content.Post content-Inv-loop content-μ-loop
+content-item-requires t c κs =
     let test = c .before in
     let loop = test .before .before in
     let at = loop .before .before .before in
@@ -84,32 +84,32 @@ content-enum-told t c = search needs
 
 content-same-length : (t : ℕ) → content-lts.Need-same-length (content-given t) (content-at t) content.Post content-Inv-loop content-μ-loop
 content-same-length t c =
-    let element = c .before .before .before .before in
-    let loop = element .before .before .before .before in
+    let item = c .before .before .before .before in
+    let loop = item .before .before .before .before in
     let at = loop .before .before .before in
-    element .element .ensures .long ∙ loop .loop .inv .1 .long
+    item .item .ensures .long ∙ loop .loop .inv .1 .long
 
 content-returns : (t : ℕ) → content-lts.Need-returns (content-given t) (content-at t) content.Post content-Inv-loop content-μ-loop
 content-returns t c =
-    let element = c .before .before .before .before in
-    let loop = element .before .before .before .before in
+    let item = c .before .before .before .before in
+    let loop = item .before .before .before .before in
     let at = loop .before .before .before in
-    (goes-further (at .args .text .now) (at .args .depth) (at .args .from) (loop .loop .here) _ _ _ _ (loop .loop .inv .1) (element .element .ensures), refused-ended _ _ _ (c .enum-told .given .1))
+    (goes-further (at .args .text .now) (at .args .depth) (at .args .from) (loop .loop .here) _ _ _ _ (loop .loop .inv .1) (item .item .ensures), refused-ended _ _ _ (c .enum-told .given .1))
 
 content-loop-less : (t : ℕ) → content-lts.Need-loop-less (content-given t) (content-at t) content.Post content-Inv-loop content-μ-loop
 content-loop-less t c =
-    let element = c .before .before .before .before .before in
-    let loop = element .before .before .before .before in
+    let item = c .before .before .before .before .before in
+    let loop = item .before .before .before .before in
     let at = loop .before .before .before in
-    let next = turned (at .args .text .now) (at .args .depth) (at .args .from) (loop .loop .here) (c .before .part .given .0 .0) _ _ _ _ (loop .loop .inv .1) (element .element .ensures) (c .before .part .given .1) in
+    let next = turned (at .args .text .now) (at .args .depth) (at .args .from) (loop .loop .here) (c .before .part .given .0 .0) _ _ _ _ (loop .loop .inv .1) (item .item .ensures) (c .before .part .given .1) in
     omega (arith, next .on, next .text .within)
 
 content-loop-again : (t : ℕ) → content-lts.Need-loop-again (content-given t) (content-at t) content.Post content-Inv-loop content-μ-loop
 content-loop-again t c =
-    let element = c .before .before .before .before .before in
-    let loop = element .before .before .before .before in
+    let item = c .before .before .before .before .before in
+    let loop = item .before .before .before .before in
     let at = loop .before .before .before in
-    let next = turned (at .args .text .now) (at .args .depth) (at .args .from) (loop .loop .here) (c .before .part .given .0 .0) _ _ _ _ (loop .loop .inv .1) (element .element .ensures) (c .before .part .given .1) in
+    let next = turned (at .args .text .now) (at .args .depth) (at .args .from) (loop .loop .here) (c .before .part .given .0 .0) _ _ _ _ (loop .loop .inv .1) (item .item .ensures) (c .before .part .given .1) in
     (next .text, next .reads)
 
 content-same-length-2 : (t : ℕ) → content-lts.Need-same-length-2 (content-given t) (content-at t) content.Post content-Inv-loop content-μ-loop
@@ -121,43 +121,43 @@ content-returns-2 t c =
     let loop = c .before .before in
     (loop .loop .inv .1, sym (c .before .goes-on .ensures) ∙ c .if1 .left)
 
-element-opens-element-requires : (t : ℕ) → element-lts.Need-opens-element-requires (element-given t) (element-at t) element.Post
-element-opens-element-requires t c κs = c .before .before .pre .1 .0 .0 .within
+item-opens-element-requires : (t : ℕ) → item-lts.Need-opens-element-requires (item-given t) (item-at t) item.Post
+item-opens-element-requires t c κs = c .before .before .pre .1 .0 .0 .within
 
-element-piece-requires : (t : ℕ) → element-lts.Need-piece-requires (element-given t) (element-at t) element.Post
-element-piece-requires t c κs =
+item-piece-requires : (t : ℕ) → item-lts.Need-piece-requires (item-given t) (item-at t) item.Post
+item-piece-requires t c κs =
     let test = c .before in
     let opens = test .before in
     let at = opens .before .before .before in
     let goes = at .pre .1 .0 .1 in
     ((at .pre .1 .0 .0, goes-within (at .args .text .now) (at .args .here .at) goes, record { goes = goes; none = sym (opens .opens-element .ensures) ∙ not-true _ (test .if1 .taken) }), at .pre .1 .1)
 
-element-same-length : (t : ℕ) → element-lts.Need-same-length (element-given t) (element-at t) element.Post
-element-same-length t c =
+item-same-length : (t : ℕ) → item-lts.Need-same-length (item-given t) (item-at t) item.Post
+item-same-length t c =
     let piece = c .before .before in
     let at = piece .before .before .before .before .before .before in
     piece .piece .ensures (at .args .depth) .long
 
-element-returns : (t : ℕ) → element-lts.Need-returns (element-given t) (element-at t) element.Post
-element-returns t c =
+item-returns : (t : ℕ) → item-lts.Need-returns (item-given t) (item-at t) item.Post
+item-returns t c =
     let piece = c .before .before in
     let at = piece .before .before .before .before .before .before in
     piece .piece .ensures (at .args .depth)
 
-element-tag-requires : (t : ℕ) → element-lts.Need-tag-requires (element-given t) (element-at t) element.Post
-element-tag-requires t c κs =
+item-tag-requires : (t : ℕ) → item-lts.Need-tag-requires (item-given t) (item-at t) item.Post
+item-tag-requires t c κs =
     let opens = c .before in
     let at = opens .before .before .before in
     (goes-within (at .args .text .now) (at .args .here .at) (at .pre .1 .0 .1), at .pre .1 .1)
 
-element-enum-known-name : (t : ℕ) → element-lts.Need-enum-known-name (element-given t) (element-at t) element.Post
-element-enum-known-name t c = search needs
+item-enum-known-name : (t : ℕ) → item-lts.Need-enum-known-name (item-given t) (item-at t) item.Post
+item-enum-known-name t c = search needs
 
-element-enum-told : (t : ℕ) → element-lts.Need-enum-told (element-given t) (element-at t) element.Post
-element-enum-told t c = search needs
+item-enum-told : (t : ℕ) → item-lts.Need-enum-told (item-given t) (item-at t) item.Post
+item-enum-told t c = search needs
 
-element-returns-2 : (t : ℕ) → element-lts.Need-returns-2 (element-given t) (element-at t) element.Post
-element-returns-2 t c =
+item-returns-2 : (t : ℕ) → item-lts.Need-returns-2 (item-given t) (item-at t) item.Post
+item-returns-2 t c =
     let tagged = c .before .before in
     let opens = tagged .before .before in
     let at = opens .before .before .before in
@@ -167,9 +167,9 @@ element-returns-2 t c =
 -- where a whole tag was found: the start of the function, and what is known of the tag
 module _ (t : ℕ) where
   abbrev Known : Type 0
-  Known = element-lts.After-known-told (element-given t) (element-at t) element.Post
+  Known = item-lts.After-known-told (item-given t) (item-at t) item.Post
 
-  abbrev start : Known → element-lts.Start (element-given t) (element-at t) element.Post
+  abbrev start : Known → item-lts.Start (item-given t) (item-at t) item.Post
   start c = c .before .before .before .before .before .before .before .before
 
   abbrev text : Known → List ℕ
@@ -184,26 +184,26 @@ module _ (t : ℕ) where
   tag-places : (c : Known) → Places (text c) (start c .args .here) (start c .pre .1 .0 .0) (start c .pre .1 .0 .1) (opens c) _ _ _ (found c)
   tag-places c = places (text c) (start c .args .here) (start c .pre .1 .0 .0) (start c .pre .1 .0 .1) (opens c) _ _ _ (found c)
 
-element-returns-3 : (t : ℕ) → element-lts.Need-returns-3 (element-given t) (element-at t) element.Post
-element-returns-3 t c =
+item-returns-3 : (t : ℕ) → item-lts.Need-returns-3 (item-given t) (item-at t) item.Post
+item-returns-3 t c =
     let known = c .before in
     found-deep (text t known) (start t known .args .here) (start t known .pre .1 .0 .0) (start t known .pre .1 .0 .1) (opens t known) _ _ _ (found t known) _ _ (c .if2 .taken)
 
-element-opened-requires : (t : ℕ) → element-lts.Need-opened-requires (element-given t) (element-at t) element.Post
-element-opened-requires t c κs =
+item-opened-requires : (t : ℕ) → item-lts.Need-opened-requires (item-given t) (item-at t) item.Post
+item-opened-requires t c κs =
     let known = c .before .before in
     omega (arith, start t known .pre .1 .0 .0 .counted, goes-within (text t known) (start t known .args .here .at) (start t known .pre .1 .0 .1))
 
-element-closed-requires : (t : ℕ) → element-lts.Need-closed-requires (element-given t) (element-at t) element.Post
-element-closed-requires t c κs =
+item-closed-requires : (t : ℕ) → item-lts.Need-closed-requires (item-given t) (item-at t) item.Post
+item-closed-requires t c κs =
     let begun = c .before .before .before .before in
     let test = begun .before .before in
     let known = test .before in
     let far = tag-places t known in
     omega (arith, ap (λ b. b .count) (begun .opened .ensures .0), far .least, far .most, start t known .pre .1 .0 .0 .counted)
 
-element-same-length-2 : (t : ℕ) → element-lts.Need-same-length-2 (element-given t) (element-at t) element.Post
-element-same-length-2 t c =
+item-same-length-2 : (t : ℕ) → item-lts.Need-same-length-2 (item-given t) (item-at t) item.Post
+item-same-length-2 t c =
     let close = c .before .before in
     let lone = close .before .before in
     let begun = lone .before .before .before in
@@ -211,8 +211,8 @@ element-same-length-2 t c =
     let known = test .before in
     found-lone (text t known) (start t known .args .here) (start t known .pre .1 .0 .0) (start t known .pre .1 .0 .1) (opens t known) _ _ _ (found t known) (start t known .args .depth) (start t known .args .kinds .now) _ _ (test .if2 .left) (begun .opened .ensures .0) (begun .opened .ensures .1) _ _ (lone .if3 .taken) (close .closed .ensures .0) (close .closed .ensures .1) .long
 
-element-returns-4 : (t : ℕ) → element-lts.Need-returns-4 (element-given t) (element-at t) element.Post
-element-returns-4 t c =
+item-returns-4 : (t : ℕ) → item-lts.Need-returns-4 (item-given t) (item-at t) item.Post
+item-returns-4 t c =
     let close = c .before .before in
     let lone = close .before .before in
     let begun = lone .before .before .before in
@@ -220,29 +220,29 @@ element-returns-4 t c =
     let known = test .before in
     found-lone (text t known) (start t known .args .here) (start t known .pre .1 .0 .0) (start t known .pre .1 .0 .1) (opens t known) _ _ _ (found t known) (start t known .args .depth) (start t known .args .kinds .now) _ _ (test .if2 .left) (begun .opened .ensures .0) (begun .opened .ensures .1) _ _ (lone .if3 .taken) (close .closed .ensures .0) (close .closed .ensures .1)
 
-element-sub-content : (t : ℕ) → element-lts.Need-sub-content (element-given t) (element-at t) element.Post
-element-sub-content t c =
+item-sub-content : (t : ℕ) → item-lts.Need-sub-content (item-given t) (item-at t) item.Post
+item-sub-content t c =
     let begun = c .before .before .before .before in
     let test = begun .before .before in
     let known = test .before in
     omega (arith, test .if2 .left)
 
-element-content-requires : (t : ℕ) → element-lts.Need-content-requires (element-given t) (element-at t) element.Post
-element-content-requires t c κs =
+item-content-requires : (t : ℕ) → item-lts.Need-content-requires (item-given t) (item-at t) item.Post
+item-content-requires t c κs =
     let begun = c .before .before .before .before in
     let test = begun .before .before in
     let known = test .before in
     let at = start t known in
     (omega (arith, at .pre .0, test .if2 .left), ((found-inside (text t known) (start t known .args .here) (start t known .pre .1 .0 .0) (start t known .pre .1 .0 .1) (opens t known) _ _ _ (found t known) (start t known .args .depth) (start t known .args .kinds .now) _ _ (test .if2 .left) (begun .opened .ensures .0) (begun .opened .ensures .1), omega (arith, at .pre .1 .0 .2)), at .pre .1 .1))
 
-element-enum-known-part : (t : ℕ) → element-lts.Need-enum-known-part (element-given t) (element-at t) element.Post
-element-enum-known-part t c = search needs
+item-enum-known-part : (t : ℕ) → item-lts.Need-enum-known-part (item-given t) (item-at t) item.Post
+item-enum-known-part t c = search needs
 
-element-enum-told-2 : (t : ℕ) → element-lts.Need-enum-told-2 (element-given t) (element-at t) element.Post
-element-enum-told-2 t c = search needs
+item-enum-told-2 : (t : ℕ) → item-lts.Need-enum-told-2 (item-given t) (item-at t) item.Post
+item-enum-told-2 t c = search needs
 
-element-same-length-3 : (t : ℕ) → element-lts.Need-same-length-3 (element-given t) (element-at t) element.Post
-element-same-length-3 t c =
+item-same-length-3 : (t : ℕ) → item-lts.Need-same-length-3 (item-given t) (item-at t) item.Post
+item-same-length-3 t c =
     let content = c .before .before .before .before in
     let other = content .before .before in
     let begun = other .before .before .before in
@@ -250,8 +250,8 @@ element-same-length-3 t c =
     let known = test .before in
     found-refused (text t known) (start t known .args .here) (start t known .pre .1 .0 .0) (start t known .pre .1 .0 .1) (opens t known) _ _ _ (found t known) (start t known .args .depth) (start t known .args .kinds .now) _ _ (test .if2 .left) (begun .opened .ensures .0) (begun .opened .ensures .1) _ _ (other .if3 .left) (content .content .ensures .0) _ (c .enum-told2 .given .1) .long
 
-element-returns-5 : (t : ℕ) → element-lts.Need-returns-5 (element-given t) (element-at t) element.Post
-element-returns-5 t c =
+item-returns-5 : (t : ℕ) → item-lts.Need-returns-5 (item-given t) (item-at t) item.Post
+item-returns-5 t c =
     let content = c .before .before .before .before in
     let other = content .before .before in
     let begun = other .before .before .before in
@@ -259,8 +259,8 @@ element-returns-5 t c =
     let known = test .before in
     found-refused (text t known) (start t known .args .here) (start t known .pre .1 .0 .0) (start t known .pre .1 .0 .1) (opens t known) _ _ _ (found t known) (start t known .args .depth) (start t known .args .kinds .now) _ _ (test .if2 .left) (begun .opened .ensures .0) (begun .opened .ensures .1) _ _ (other .if3 .left) (content .content .ensures .0) _ (c .enum-told2 .given .1)
 
-element-add-ending : (t : ℕ) → element-lts.Need-add-ending (element-given t) (element-at t) element.Post
-element-add-ending t c =
+item-add-ending : (t : ℕ) → item-lts.Need-add-ending (item-given t) (item-at t) item.Post
+item-add-ending t c =
     let content = c .before .before .before .before .before .before in
     let other = content .before .before in
     let begun = other .before .before .before in
@@ -268,8 +268,8 @@ element-add-ending t c =
     let known = test .before in
     omega (arith, tag-places t known .name-least, tag-places t known .name-most)
 
-element-sub-ending : (t : ℕ) → element-lts.Need-sub-ending (element-given t) (element-at t) element.Post
-element-sub-ending t c =
+item-sub-ending : (t : ℕ) → item-lts.Need-sub-ending (item-given t) (item-at t) item.Post
+item-sub-ending t c =
     let content = c .before .before .before .before .before .before in
     let other = content .before .before in
     let begun = other .before .before .before in
@@ -277,8 +277,8 @@ element-sub-ending t c =
     let known = test .before in
     omega (arith, tag-places t known .name-least)
 
-element-part-ending-start : (t : ℕ) → element-lts.Need-part-ending-start (element-given t) (element-at t) element.Post
-element-part-ending-start t c =
+item-part-ending-start : (t : ℕ) → item-lts.Need-part-ending-start (item-given t) (item-at t) item.Post
+item-part-ending-start t c =
     let content = c .before .before .before .before .before .before in
     let other = content .before .before in
     let begun = other .before .before .before in
@@ -286,8 +286,8 @@ element-part-ending-start t c =
     let known = test .before in
     omega (arith, tag-places t known .name-least)
 
-element-part-ending-end : (t : ℕ) → element-lts.Need-part-ending-end (element-given t) (element-at t) element.Post
-element-part-ending-end t c =
+item-part-ending-end : (t : ℕ) → item-lts.Need-part-ending-end (item-given t) (item-at t) item.Post
+item-part-ending-end t c =
     let content = c .before .before .before .before .before .before in
     let other = content .before .before in
     let begun = other .before .before .before in
@@ -295,16 +295,16 @@ element-part-ending-end t c =
     let known = test .before in
     tag-places t known .name-most
 
-element-ending-requires : (t : ℕ) → element-lts.Need-ending-requires (element-given t) (element-at t) element.Post
-element-ending-requires t c κs =
+item-ending-requires : (t : ℕ) → item-lts.Need-ending-requires (item-given t) (item-at t) item.Post
+item-ending-requires t c κs =
     let known-part = c .before .before in
     let content = known-part .before .before .before .before .before in
     let begun = content .before .before .before .before .before in
     let known = begun .before .before .before in
     (ended-at _ _ _ _ _ _ _ _ (content .content .ensures .0) (content .content .ensures .1) (known-part .before .part .given .1), start t known .pre .1 .1)
 
-element-same-length-4 : (t : ℕ) → element-lts.Need-same-length-4 (element-given t) (element-at t) element.Post
-element-same-length-4 t c =
+item-same-length-4 : (t : ℕ) → item-lts.Need-same-length-4 (item-given t) (item-at t) item.Post
+item-same-length-4 t c =
     let ending = c .before .before in
     let known-part = ending .before .before .before in
     let content = known-part .before .before .before .before .before in
@@ -314,8 +314,8 @@ element-same-length-4 t c =
     let known = test .before in
     found-element (text t known) (start t known .args .here) (start t known .pre .1 .0 .0) (start t known .pre .1 .0 .1) (opens t known) _ _ _ (found t known) (start t known .args .depth) (start t known .args .kinds .now) _ _ (test .if2 .left) (begun .opened .ensures .0) (begun .opened .ensures .1) _ _ (other .if3 .left) (content .content .ensures .0) _ _ _ _ (known-part .before .part .given .1) refl (ending .ending .ensures) .long
 
-element-returns-6 : (t : ℕ) → element-lts.Need-returns-6 (element-given t) (element-at t) element.Post
-element-returns-6 t c =
+item-returns-6 : (t : ℕ) → item-lts.Need-returns-6 (item-given t) (item-at t) item.Post
+item-returns-6 t c =
     let ending = c .before .before in
     let known-part = ending .before .before .before in
     let content = known-part .before .before .before .before .before in
@@ -325,15 +325,15 @@ element-returns-6 t c =
     let known = test .before in
     found-element (text t known) (start t known .args .here) (start t known .pre .1 .0 .0) (start t known .pre .1 .0 .1) (opens t known) _ _ _ (found t known) (start t known .args .depth) (start t known .args .kinds .now) _ _ (test .if2 .left) (begun .opened .ensures .0) (begun .opened .ensures .1) _ _ (other .if3 .left) (content .content .ensures .0) _ _ _ _ (known-part .before .part .given .1) refl (ending .ending .ensures)
 
-pub +content+element-spec : {M : Type 1} → statement M
-+content+element-spec = close μ-content μ-element (λ t. content-lts.spec (content-given t)
+pub +content+item-spec : {M : Type 1} → statement M
++content+item-spec = close μ-content μ-item (λ t. content-lts.spec (content-given t)
     (content-at t)
     content.Post
     content-Inv-loop
     content-μ-loop
     (content-loop-holds t)
     (content-goes-on-requires t)
-    (content-element-requires t)
+    (content-item-requires t)
     (content-enum-known-part t)
     (content-enum-told t)
     (content-same-length t)
@@ -342,32 +342,32 @@ pub +content+element-spec : {M : Type 1} → statement M
     (content-loop-again t)
     (content-same-length-2 t)
     (content-returns-2 t))
-    λ t. element-lts.spec (element-given t)
-    (element-at t)
-    element.Post
-    (element-opens-element-requires t)
-    (element-piece-requires t)
-    (element-same-length t)
-    (element-returns t)
-    (element-tag-requires t)
-    (element-enum-known-name t)
-    (element-enum-told t)
-    (element-returns-2 t)
-    (element-returns-3 t)
-    (element-opened-requires t)
-    (element-closed-requires t)
-    (element-same-length-2 t)
-    (element-returns-4 t)
-    (element-sub-content t)
-    (element-content-requires t)
-    (element-enum-known-part t)
-    (element-enum-told-2 t)
-    (element-same-length-3 t)
-    (element-returns-5 t)
-    (element-add-ending t)
-    (element-sub-ending t)
-    (element-part-ending-start t)
-    (element-part-ending-end t)
-    (element-ending-requires t)
-    (element-same-length-4 t)
-    (element-returns-6 t)
+    λ t. item-lts.spec (item-given t)
+    (item-at t)
+    item.Post
+    (item-opens-element-requires t)
+    (item-piece-requires t)
+    (item-same-length t)
+    (item-returns t)
+    (item-tag-requires t)
+    (item-enum-known-name t)
+    (item-enum-told t)
+    (item-returns-2 t)
+    (item-returns-3 t)
+    (item-opened-requires t)
+    (item-closed-requires t)
+    (item-same-length-2 t)
+    (item-returns-4 t)
+    (item-sub-content t)
+    (item-content-requires t)
+    (item-enum-known-part t)
+    (item-enum-told-2 t)
+    (item-same-length-3 t)
+    (item-returns-5 t)
+    (item-add-ending t)
+    (item-sub-ending t)
+    (item-part-ending-start t)
+    (item-part-ending-end t)
+    (item-ending-requires t)
+    (item-same-length-4 t)
+    (item-returns-6 t)
