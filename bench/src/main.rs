@@ -78,7 +78,7 @@ fn main() -> ExitCode {
     eprintln!("holding on small books");
     let small = small::times(1_001);
     eprintln!("reading sheets");
-    let speeds = xml::speeds(201);
+    let speeds = xml::speeds(xml::SIZE, 201);
     eprintln!("counting moved tags");
     let (moved, bits) = (moved::all(), bits::all());
     let mut reached = targets(&times, &whole, &parties, &speeds);

@@ -5,7 +5,7 @@ use crate::calls::{CALLS, Call, Times};
 use crate::insert_sheets::{self, Whole};
 use crate::rights::{self, Rights};
 use crate::table::{table, thousands};
-use crate::xml::Speed;
+use crate::xml::{self, Speed};
 
 /// The most that a verified reading of a sheet, or a reading or writing of a file, may take in plain ones.
 const MOST: f64 = 1.3;
@@ -125,6 +125,9 @@ pub fn targets(all: &[Times], whole: &[Whole], parties: &[Rights], speeds: &[Spe
     }
     for it in speeds.iter().filter(|it| it.judged) {
         row(format!("sheet of {}: verified / plain", it.name), it.ratio(), MOST);
+    }
+    for (what, ratio, most) in xml::held_up(speeds) {
+        row(what, ratio, most);
     }
     table(1, &["ratio", "this run", "at most", ""].map(String::from), &rows)
 }

@@ -90,14 +90,17 @@ fn moved_stops_where_labels_run_out() {
     assert!(moved::moved(moved::Pattern::Random, 2, 2, 50).is_ok_and(|moved| moved > 0.0));
 }
 
-/// Three sheets are judged, and a table has a row for each.
+/// Three sheets are judged beside the plain reader, eight ratios say that no text holds the reader up, and the table has a row for
+/// each sheet.
 #[test]
 fn sheets_are_timed() {
-    let speeds = xml::speeds(3);
-    assert!(speeds.iter().all(|it| it.verified > 0.0 && it.plain > 0.0));
-    assert_eq!(speeds.iter().map(|it| it.judged).collect::<Vec<_>>(), [true, true, true, false]);
+    let speeds = xml::speeds(60_000, 3);
+    assert!(speeds.iter().all(|it| it.verified > 0.0 && it.plain > 0.0 && it.kinds > 0));
+    assert_eq!(speeds.iter().map(|it| it.judged).filter(|&it| it).count(), 3);
     assert_eq!(xml::table(&speeds).lines().count(), 2 + speeds.len());
-    assert_eq!(targets(&[], &[], &[], &speeds).lines().count(), 2 + 3);
+    let judged = targets(&[], &[], &[], &speeds);
+    assert_eq!(judged.lines().count(), 2 + 3 + 8, "{judged}");
+    assert!(judged.contains("sheet of one tag of short names / many tags "), "{judged}");
 }
 
 /// Every sheet is accepted and both subjects reply alike, which `times` asserts; each is judged, and has a row of the table.

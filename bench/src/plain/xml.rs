@@ -1,5 +1,7 @@
 //! The kinds of a sheet, in two passes over the text: the first says whether it is one and counts, the second writes.
 
+use std::cmp::Ordering;
+
 /// The numbers of the refusals.
 const SHORT_LIST: u32 = 11;
 const NOT_A_SHEET: u32 = 12;
@@ -53,14 +55,16 @@ const fn classes() -> [u8; 256] {
     table
 }
 
-/// Where kinds go: the first pass counts them, the second writes them.
+/// Where kinds go: the first pass counts them and looks at the names of attributes, the second writes them.
 trait Sink {
+    const LOOKS: bool;
     fn push(&mut self, kind: u8);
 }
 
 struct Count(usize);
 
 impl Sink for Count {
+    const LOOKS: bool = true;
     #[inline(always)]
     fn push(&mut self, _: u8) {
         self.0 += 1;
@@ -70,6 +74,7 @@ impl Sink for Count {
 struct List<'a>(std::slice::IterMut<'a, u8>);
 
 impl Sink for List<'_> {
+    const LOOKS: bool = false;
     #[inline(always)]
     fn push(&mut self, kind: u8) {
         if let Some(to) = self.0.next() {
@@ -185,20 +190,78 @@ fn value(text: &[u8], at: usize) -> To {
     }
 }
 
-/// Whether the attributes from one place to another, which have been read before, have this name among them.
-#[cold]
-fn repeated(text: &[u8], mut at: usize, to: usize, name: &[u8]) -> bool {
-    while at < to {
-        let from = run(text, at, SPACE);
-        let end = run(text, from, NAME);
-        if &text[from..end] == name {
-            return true;
-        }
-        let quote = run(text, run(text, end, SPACE) + 1, SPACE);
-        let close = text[quote + 1..to].iter().position(|it| *it == text[quote]);
-        at = close.map_or(to, |close| quote + close + 2);
+/// So many names are kept at once.
+const PLACES: usize = 1_024;
+
+/// A name by its hash and where it begins and ends.
+#[derive(Clone, Copy, Default)]
+struct Name {
+    hash: u32,
+    begin: usize,
+    end: usize,
+}
+
+impl Name {
+    fn new(text: &[u8], begin: usize, end: usize) -> Name {
+        let hash = text[begin..end].iter().fold(0u32, |hash, &byte| hash.wrapping_mul(31).wrapping_add(byte.into()));
+        Name { hash, begin, end }
     }
-    false
+
+    /// In order of hash, then of the name itself.
+    fn order(&self, other: &Name, text: &[u8]) -> Ordering {
+        self.hash.cmp(&other.hash).then_with(|| text[self.begin..self.end].cmp(&text[other.begin..other.end]))
+    }
+}
+
+/// The name of the attribute after a place, and where the attribute ends: it has been read before.
+fn named(text: &[u8], at: usize) -> (Name, usize) {
+    let begin = run(text, at, SPACE);
+    let end = run(text, begin, NAME);
+    let quote = run(text, run(text, end, SPACE) + 1, SPACE);
+    let close = text[quote + 1..].iter().position(|it| *it == text[quote]).expect("it has been read");
+    (Name::new(text, begin, end), quote + close + 2)
+}
+
+/// Whether some names differ, which are brought into order.
+fn arranged(text: &[u8], names: &mut [Name]) -> bool {
+    names.sort_unstable_by(|one, other| one.order(other, text));
+    names.windows(2).all(|pair| pair[0].order(&pair[1], text) != Ordering::Equal)
+}
+
+/// Whether the names of the attributes from one place to another differ: batch after batch, with all later names searched in it.
+#[cold]
+#[inline(never)]
+fn differ(text: &[u8], mut at: usize, to: usize, places: &mut [Name; PLACES]) -> bool {
+    while at < to {
+        let mut count = 0;
+        while count < PLACES && at < to {
+            (places[count], at) = named(text, at);
+            count += 1;
+        }
+        if !arranged(text, &mut places[..count]) {
+            return false;
+        }
+        let mut later = at;
+        while later < to {
+            let (name, end) = named(text, later);
+            if places[..count].binary_search_by(|it| it.order(&name, text)).is_ok() {
+                return false;
+            }
+            later = end;
+        }
+    }
+    true
+}
+
+/// The same where the names have been kept already, if there are places for them.
+#[cold]
+#[inline(never)]
+fn kept_differ(text: &[u8], at: usize, to: usize, count: usize, places: &mut [Name; PLACES]) -> bool {
+    let Some(kept) = places.get_mut(..count) else { return differ(text, at, to, places) };
+    for name in kept.iter_mut() {
+        *name = Name::new(text, name.begin, name.end);
+    }
+    arranged(text, kept)
 }
 
 /// Which of 64 places a name has in the filter.
@@ -207,28 +270,35 @@ fn place(name: &[u8]) -> u32 {
     (first * 7 + last + name.len() as u32 * 16) % 64
 }
 
-/// Behind a tag, from behind its name, and whether it is an empty element's.
+/// Behind a tag, from behind its name, and whether it is an empty element's. Where no two names share a place of the filter, all
+/// differ.
 #[inline(always)]
-fn attributes(text: &[u8], from: usize) -> Result<(usize, bool), u32> {
-    let mut at = from;
-    let mut filter = 0u64;
-    loop {
+fn attributes<S: Sink>(text: &[u8], from: usize, places: &mut [Name; PLACES]) -> Result<(usize, bool), u32> {
+    let (mut at, mut count, mut filter, mut shared) = (from, 0, 0u64, false);
+    let (behind, empty) = loop {
         let begin = run(text, at, SPACE);
         match text.get(begin) {
-            Some(b'>') => return Ok((begin + 1, false)),
-            Some(b'/') if is(text, begin + 1, b'>') => return Ok((begin + 2, true)),
+            Some(b'>') => break (begin + 1, false),
+            Some(b'/') if is(text, begin + 1, b'>') => break (begin + 2, true),
             _ if begin == at => return Err(NOT_A_SHEET),
             _ => {}
         }
         let end = name(text, begin)?;
-        let name = &text[begin..end];
-        let bit = 1 << place(name);
-        if filter & bit != 0 && repeated(text, from, at, name) {
-            return Err(NOT_A_SHEET);
+        if S::LOOKS {
+            let bit = 1 << place(&text[begin..end]);
+            shared |= filter & bit != 0;
+            filter |= bit;
+            if let Some(kept) = places.get_mut(count) {
+                (kept.begin, kept.end) = (begin, end);
+            }
+            count += 1;
         }
-        filter |= bit;
         at = value(text, equals(text, end)?)?;
+    };
+    if shared && !kept_differ(text, from, at, count, places) {
+        return Err(NOT_A_SHEET);
     }
+    Ok((behind, empty))
 }
 
 /// Behind an end tag of this name.
@@ -254,9 +324,9 @@ fn marked(text: &[u8], at: usize) -> Result<(usize, bool), u32> {
 }
 
 /// An element: behind its end, where `depth` elements are open around it.
-fn element(text: &[u8], at: usize, depth: usize, sink: &mut impl Sink) -> To {
+fn element<S: Sink>(text: &[u8], at: usize, depth: usize, sink: &mut S, places: &mut [Name; PLACES]) -> To {
     let end = name(text, at + 1)?;
-    let (behind, empty) = attributes(text, end)?;
+    let (behind, empty) = attributes::<S>(text, end, places)?;
     if depth == DEPTH {
         return Err(TOO_DEEP);
     }
@@ -265,11 +335,18 @@ fn element(text: &[u8], at: usize, depth: usize, sink: &mut impl Sink) -> To {
         sink.push(2);
         return Ok(behind);
     }
-    content(text, behind, depth + 1, &text[at + 1..end], sink)
+    content(text, behind, depth + 1, &text[at + 1..end], sink, places)
 }
 
 /// Content: behind the end tag of the innermost open element, which has this name, or at the end of the text.
-fn content(text: &[u8], mut at: usize, depth: usize, name: &[u8], sink: &mut impl Sink) -> To {
+fn content<S: Sink>(
+    text: &[u8],
+    mut at: usize,
+    depth: usize,
+    name: &[u8],
+    sink: &mut S,
+    places: &mut [Name; PLACES],
+) -> To {
     let mut in_text = false;
     loop {
         let part = match text.get(at) {
@@ -292,7 +369,7 @@ fn content(text: &[u8], mut at: usize, depth: usize, name: &[u8], sink: &mut imp
                 }
                 Some(b'?') => return Err(NOT_READ),
                 _ => {
-                    at = element(text, at, depth, sink)?;
+                    at = element(text, at, depth, sink, places)?;
                     false
                 }
             },
@@ -309,12 +386,13 @@ fn content(text: &[u8], mut at: usize, depth: usize, name: &[u8], sink: &mut imp
 }
 
 pub fn xml_kinds(text: &[u8], kinds: &mut [u8]) -> (u32, usize) {
+    let places = &mut [Name::default(); PLACES];
     let mut count = Count(0);
-    if let Err(refusal) = content(text, 0, 0, &[], &mut count) {
+    if let Err(refusal) = content(text, 0, 0, &[], &mut count, places) {
         return (refusal, 0);
     }
     let Some(list) = kinds.get_mut(..count.0) else { return (SHORT_LIST, 0) };
-    let again = content(text, 0, 0, &[], &mut List(list.iter_mut()));
+    let again = content(text, 0, 0, &[], &mut List(list.iter_mut()), places);
     debug_assert!(again.is_ok(), "the first pass has said so");
     (0, count.0)
 }

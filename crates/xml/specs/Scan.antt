@@ -7,7 +7,7 @@ use mathlib.Core.Option.{Option, none, some}
 use Prim.Native.Nat.{ℕ, zero, suc, pred, _+_}
 use lib.Dec.{eqb}
 use lib.ListN.{getD, take, drop}
-use Rattle.lists.specs.Lists.{same, first}
+use Rattle.lists.specs.Lists.{first}
 use Rattle.lists.specs.Fronts.{starts-with}
 use Rattle.xml.specs.Bytes.{is-char, is-space, is-name-start, is-name-char, less-than, ampersand, equals, cdata-closes, tag-closes, lone-closes, lt-name, gt-name, amp-name, apos-name, quot-name}
 use Rattle.xml.specs.Grammar.{reference-text, is-quote, among}
@@ -84,21 +84,6 @@ attribute-at cs =
     let c = getD cs q 0 in
     let found = sized n q (value-length c 0 (drop (suc q) cs)) in
     cond (eqb n 0 || (not (starts-with (equals ∷ []) (drop e cs)) || not (is-quote c))) none found
-
--- whether a name is that of an attribute, or of one behind it, for which `on` answers
-unfoldable pub repeats-on : (name : List ℕ) → (gap : ℕ) → (rest : List ℕ) → Option Sized → (on : (skip : ℕ) → Bool) → Bool
-repeats-on n g rest none on = false
-repeats-on n g rest (some a) on = same n (take (a .name) rest) || on (pred (g + a .whole))
-
--- whether a name is that of an attribute in so many bytes of attributes, each behind its gap
-unfoldable pub repeats : (name : List ℕ) → (left skip : ℕ) → List ℕ → Bool
-repeats n m k [] = false
-repeats n zero k (c ∷ cs) = false
-repeats n (suc m) (suc k) (c ∷ cs) = repeats n m k cs
-repeats n (suc m) zero (c ∷ cs) =
-    let g = run is-space (c ∷ cs) in
-    let rest = drop g (c ∷ cs) in
-    repeats-on n g rest (attribute-at rest) (λ k. repeats n m k cs)
 
 -- where a tag ends, and whether it is an empty-element tag
 pub record Ending : Type 0 where

@@ -16,7 +16,7 @@ use Rattle.xml.specs.Reader.{Step, next, end-step, gives, past, of-text, used, 
 use Rattle.xml.specs.Reader as reader
 use Rattle.xml_scan.specs.declared.Found.the-variants.{At, Nothing}
 use Rattle.xml_laws.specs.Steps.{is-stuck}
-use Rattle.xml_tag.proofs.Bounds.{stands-within}
+use Rattle.xml_laws.proofs.Bounds.{stands-within}
 use Rattle.xml_laws.proofs.Dispatch.{step-read, step-refused, next-end}
 use Rattle.xml_laws.proofs.Within.{step-within}
 use Rattle.xml_pieces.specs.declared.Cursor.{Cursor}

@@ -14,6 +14,7 @@ pub mod Within
 pub mod Sheets
 pub mod EverySheet
 pub mod Data
+pub mod Bounds
 pub mod Dispatch
 pub mod Standing
 pub mod KindsNest

@@ -6,7 +6,8 @@ use mathlib.Core.Option.{Option, none, some}
 use Prim.Native.Nat.{ℕ, suc, _+_, _-_, _≤_, _<_}
 use native.Mathlib.Nat.{le-refl}
 use native.Mathlib.Omega.{arith}
-use borrow.Author.Tests.{not-true, lt-ltb, le-ltb}
+use borrow.Author.Tests.{not-true, lt-ltb, le-ltb, eqb-false}
+use lib.Dec.{eqb}
 use lib.ListN.{length, take, drop, set, length-drop, length-set}
 use lib.Seq.{drop-drop}
 use Rattle.lists.proofs.Tests.{and-left, and-right}
@@ -26,7 +27,8 @@ use Rattle.xml_pieces.specs.declared.Part.the-variants.{On, Refused}
 use Rattle.xml_tag.specs.declared.TagRead.the-variants as tag
 use Rattle.xml_tag.specs.Post.{tag-found}
 use Rattle.xml_pieces.specs.Pieces.{goes-on, opens-element}
-use Rattle.xml_pieces.specs.Outcome.{in-text, finish, outcome, cursor-at, In-text, Reached, Reads-on, Closes, Ended}
+use Rattle.xml_pieces.specs.Outcome.{in-text, done, failed, finish, outcome, cursor-at, In-text, Reached, Reads-on, Closes, Ended}
+use Rattle.xml_read.specs.Sure.{Sure}
 use Rattle.xml_pieces.proofs.PieceLaws.{dropped, some-used, no-end}
 use Rattle.xml_pieces.proofs.Outcomes.{finish-kind, refused-on}
 
@@ -48,6 +50,12 @@ goes-further bs d a b ls ms ns q f g =
       reached = reached-on bs (a .at) (suc (b .at)) q (omega (arith, f .reached .1)) (g .reached);
       long = g .long ∙ f .long;
     }
+
+-- what the one was told holds for the other
+pub sure-on : (bs : List ℕ) (d i : ℕ) (a b : Cursor) (ls ms : List ℕ) → Reads-on bs d a i ls ms (On b) → Sure bs d a ls → Sure bs d b ms
+sure-on bs d i a b ls ms r s l =
+    let h = s (omega (arith, r .long)) in
+    record { opened = h .opened; deep = h .deep; count = h .count; list = h .list; accepts = r .same (h .opened) (h .deep) ∙ h .accepts }
 
 -- where content goes on there is a byte
 pub goes-within : (bs : List ℕ) (i : ℕ) → goes-on (drop i bs) ≡ true → i < length bs
@@ -127,6 +135,15 @@ module _ (bs : List ℕ) (c : Cursor) (h : In-text bs c) (g : goes-on (drop (c .
   pub tag-refused : (d : ℕ) (ls : List ℕ) → tag-at here ≡ none → Reads-on bs d c (suc (c .at)) ls ls (Refused not-a-sheet)
   unfolding tag-step
   tag-refused d ls e = refused-on bs d c not-a-sheet _ ls (λ os w. stuck-here os (in-text c) not-a-sheet (tag-next os ∙ ap (tag-step (length os) here) e))
+
+  -- which does not happen where the text is accepted
+  pub tag-sure : (d : ℕ) (ls : List ℕ) → Sure bs d c ls → eqb (length ls) 0 ≡ false → tag-at here ≡ none → ⊥
+  unfolding outcome
+  tag-sure d ls s t e =
+      let h = s (omega (arith, eqb-false (length ls) 0 t)) in
+      let both : failed not-a-sheet ≡ done (h .count) (h .list) = tag-refused d ls e .same (h .opened) (h .deep) ∙ h .accepts in
+      let z : _≡_ {A = ℕ} 0 1 = cc in
+      omega arith
 
   module _ (z : Sized-tag) (e : tag-at here ≡ some z) where
     -- at no depth left
@@ -244,6 +261,20 @@ module _ (bs : List ℕ) (c : Cursor) (h : In-text bs c) (g : goes-on (drop (c .
 
       pub found-inside : In-text bs b
       found-inside = rw inside-is (inside-text (f .size) (f .is))
+
+      found-opened : (os : List (List ℕ)) → length os + d ≡ most-depth → l ≡ false → outcome bs (name (f .size) (f .is) ∷ os) ms (On b) ≡ outcome bs os ls (On c)
+      found-opened os w t = rw (inside-is, put) (opened (f .size) (f .is) d ls os (omega arith) w (sym (f .lone) ∙ t))
+
+      pub found-sure : l ≡ false → Sure bs d c ls → Sure bs (d - 1) b ms
+      found-sure t s m =
+          let h = s (omega (arith, ap length put, length-set ls (c .count) 1)) in
+          record {
+            opened = name (f .size) (f .is) ∷ h .opened;
+            deep = omega (arith, h .deep);
+            count = h .count;
+            list = h .list;
+            accepts = found-opened (h .opened) (h .deep) t ∙ h .accepts;
+          }
 
       pub found-lone : (ns : List ℕ) (q : Part) → l ≡ true → q ≡ On (cursor-at e (b .count + 1) 0) → ns ≡ set ms (b .count) 2 → Reads-on bs d c (suc (c .at)) ls ns q
       found-lone ns q t r p =

@@ -25,6 +25,7 @@ use Rattle.xml_pieces.specs.declared.Part.{Part}
 use Rattle.xml_pieces.specs.declared.Part.the-variants.{On, Refused}
 use Rattle.xml_pieces.specs.Pieces.{goes-on}
 use Rattle.xml_pieces.specs.Outcome.{in-text, done, failed, finish, outcome, cursor-at, Reached, Reads-on, Ended}
+use Rattle.xml_read.specs.Sure.{Sure, Sure-sheet}
 use Rattle.xml_read.specs.Whole.{whole-part, whole-reply, Read-whole}
 
 -- WHAT A READING WAS, by what it came to
@@ -60,6 +61,13 @@ whole-accepted bs ls ns n a l =
       list = λ ks f. let same : a .kinds ≡ ks = cc (a .is) in a .list ∙ ap (sets ls 0) same;
       long = l;
     }
+
+-- what a reading of it is told
+pub sure-whole : (bs ls : List ℕ) → Sure-sheet bs ls → Sure bs most-depth (cursor-at 0 0 0) ls
+unfolding outcome finish read-sheet
+sure-whole bs ls s l =
+    let (ks, is) = s l in
+    record { opened = []; deep = refl; count = 0 + length ks; list = sets ls 0 ks; accepts = ap (finish 0 ls) is }
 
 -- an end tag that is left closes nothing
 left-over : (r : Bool) (cs : List ℕ) → goes-on cs ≡ false → 0 < length cs → read-from (at-place []) r 0 cs ≡ refused not-a-sheet
@@ -126,6 +134,9 @@ module _ (bs ls ms : List ℕ) (q : SheetReply) (first : Read-whole bs [] ms q) 
         let (ks, is, count) = accepted-reading (read-sheet bs) n (sym e ∙ first .reply) in
         let (reply, list) = short-reply bs ls ks is (omega (arith, ap length kept, count)) in
         (reply, kept ∙ list)
+
+    pub sure-second : Sure-sheet bs (ms ++ ls)
+    sure-second l = let (ks, is, count) = accepted-reading (read-sheet bs) n (sym e ∙ first .reply) in (ks, is)
 
     pub reply-kinds : n ≤ length (ms ++ ls) → (ns : List ℕ) (w : SheetReply) → Read-whole bs (ms ++ ls) ns w → (w ≡ sheet-reply bs ls) × (ns ≡ sheet-list bs ls)
     unfolding whole-reply

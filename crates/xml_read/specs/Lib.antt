@@ -1,1 +1,2 @@
+pub mod Sure
 pub mod Whole

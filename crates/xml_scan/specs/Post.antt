@@ -4,8 +4,10 @@ use mathlib.Core.List.{List, [], _∷_}
 use mathlib.Core.Option.{Option, none, some}
 use Prim.Native.Nat.{ℕ, _+_}
 use lib.Dec.{eqb}
+use lib.ListN.{take, drop}
 use Rattle.lists.specs.Fronts.{starts-with}
 use Rattle.xml.specs.Bytes.{is-char, less-than, ampersand, cdata-closes}
+use Rattle.xml.specs.Scan.{name-length}
 use Rattle.xml_scan.specs.declared.Found.{Found}
 use Rattle.xml_scan.specs.declared.Found.the-variants.{At, Nothing}
 
@@ -23,3 +25,7 @@ unfoldable pub data-test : List ℕ → ℕ
 data-test [] = 1
 data-test (c ∷ cs) =
     cond (eqb c less-than || eqb c ampersand) 1 (cond (is-char c && not (starts-with cdata-closes (c ∷ cs))) 0 2)
+
+-- the name that begins at a place of a text
+unfoldable pub name-from : (text : List ℕ) → (at : ℕ) → List ℕ
+name-from bs i = take (name-length (drop i bs)) (drop i bs)

@@ -1,7 +1,7 @@
 -- The filter: each name that was met has its place marked, so that a name whose place is not marked is new. Assumes nothing.
 use mathlib.Core.Path.{_≡_, ap, sym, _∙_}
 use mathlib.Core.Bool.{true, false, false≢true}
-use mathlib.Core.List.{List, [], _∷_}
+use mathlib.Core.List.{List, [], _∷_, _++_}
 use Prim.Native.Nat.{ℕ, _<_}
 use native.Mathlib.Omega.{arith}
 use borrow.Author.Tests.{eqb-true, eqb-false}
@@ -9,10 +9,11 @@ use lib.Dec.{eqb}
 use lib.ListN.{length, getD, set}
 use lib.Seq.{getD-set-same, getD-set-other}
 use Rattle.lists.specs.Lists.{same}
+use Rattle.lists.proofs.Same.{same-equal}
 use Rattle.lists.proofs.Tests.{by-test, fails}
 use Rattle.xml.specs.Grammar.{among}
+use Rattle.name_index.proofs.Names.{among-last}
 use Rattle.xml_tag.specs.Filter.{filter-places, filter-place}
-use Rattle.lists.proofs.Same.{same-equal}
 
 pub place-within : (n : List ℕ) → filter-place n < filter-places
 unfolding filter-place
@@ -28,9 +29,9 @@ marked-none filter n e z = false≢true e
 pub unmarked-new : (filter : List ℕ) (ns : List (List ℕ)) (n : List ℕ) → Marked filter ns → getD filter (filter-place n) 0 ≡ 0 → among n ns ≡ false
 unmarked-new filter ns n h z = fails (among n ns) (λ e. h n e z)
 
+-- one more name at the end of a row
 pub marked-more : (filter : List ℕ) (ns : List (List ℕ)) (n : List ℕ) → length filter ≡ filter-places → Marked filter ns →
-    Marked (set filter (filter-place n) 1) (n ∷ ns)
-unfolding among
+    Marked (set filter (filter-place n) 1) (ns ++ (n ∷ []))
 marked-more filter ns n l h m e z =
     by-test (eqb (filter-place m) (filter-place n))
     (λ t.
@@ -40,4 +41,4 @@ marked-more filter ns n l h m e z =
     (λ t.
     let other = eqb-false (filter-place m) (filter-place n) t in
     let s : same m n ≡ false = fails (same m n) (λ u. other (ap filter-place (same-equal m n u))) in
-    h m (rw s at e) (sym (getD-set-other filter (filter-place n) (filter-place m) 1 0 other) ∙ z))
+    h m (rw s at (sym (among-last m n ns) ∙ e)) (sym (getD-set-other filter (filter-place n) (filter-place m) 1 0 other) ∙ z))

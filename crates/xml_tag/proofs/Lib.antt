@@ -1,9 +1,4 @@
-pub mod Names
-pub mod Bounds
-pub mod AttributeSteps
-pub mod ReadAttributes
-pub mod RepeatSteps
 pub mod TailSteps
 pub mod FilterMarks
-pub mod Tailings
 pub mod WholeTags
+pub mod GatherSteps

@@ -1,22 +1,34 @@
--- What stands behind a tag's name, attribute after attribute: what is left says what all of it does. Assumes nothing.
-use mathlib.Core.Path.{_≡_, refl, ap, _∙_}
-use mathlib.Core.Bool.{true, false, cond}
+-- What stands after a tag's name, by what stands next in it and along a chain of attributes: what is left says what all of it does.
+-- Assumes nothing.
+use mathlib.Core.Path.{_≡_, refl, ap, sym, _∙_}
+use mathlib.Core.Bool.{Bool, true, false, _&&_, not, cond}
 use mathlib.Core.List.{List, [], _∷_}
+use mathlib.Core.Logic.{by-cases}
 use mathlib.Core.Option.{Option, none, some}
-use Prim.Native.Nat.{ℕ, zero, suc, pred, _+_, _-_, _≤_, _<_}
+use Prim.Native.Nat.{ℕ, zero, suc, pred, _+_, _≤_, _<_}
 use native.Mathlib.Omega.{arith}
-use borrow.Author.Tests.{eq-eqb, ne-eqb}
+use native.Mathlib.Decide.{decLe}
+use borrow.Author.Tests.{eqb-false}
 use lib.Dec.{eqb}
-use lib.ListN.{length, take, drop, length-drop, drop-of-length-le}
+use lib.ListN.{length, drop, length-drop, drop-of-length-le}
 use lib.Seq.{drop-drop}
 use Rattle.lists.specs.Fronts.{starts-with}
+use Rattle.lists.proofs.Tests.{by-test, either-way}
 use Rattle.xml.specs.Bytes.{is-space, tag-closes, lone-closes}
 use Rattle.xml.specs.Grammar.{among}
-use Rattle.xml.specs.Scan.{Ending, run, attribute-at, ends-later, tail-on, tail-at}
+use Rattle.xml.specs.Scan.{Sized, Ending, run, attribute-at, ends-later, tail-on, tail-at}
+use Rattle.xml_laws.proofs.Names.{all-new, all-new-one}
+use Rattle.xml_scan.specs.Post.{name-from}
+use Rattle.name_index.specs.Order.{differ}
+use Rattle.xml_attributes.specs.Next.{next-attribute, next-in-tag}
+use Rattle.xml_attributes.specs.Chain.{Chain, here, on}
+use Rattle.xml_attributes.specs.declared.NextInTag.{NextInTag}
+use Rattle.xml_attributes.specs.declared.NextInTag.the-variants as next
+use Rattle.xml_attributes.proofs.AttributeSteps.{from-place, attribute-fits}
+use Rattle.xml_attributes.proofs.NextSteps.{next-by}
 use Rattle.xml_tag.specs.Post.{end-found}
+use Rattle.xml_tag.specs.declared.TagEnd.{TagEnd}
 use Rattle.xml_tag.specs.declared.TagEnd.the-variants.{Whole, Broken}
-use Rattle.xml_tag.proofs.AttributeSteps.{from-place}
-use Rattle.xml_tag.proofs.ReadAttributes.{gap-of, behind-gap, One, name-in, one-order}
 
 -- bytes that are passed
 end-later : (a : ℕ) (o : Option Ending) → end-found a (ends-later o) ≡ end-found (a + 1) o
@@ -31,90 +43,115 @@ tail-passed ns (suc m) a [] = refl
 tail-passed ns (suc m) a (c ∷ cs) =
     let e : a + suc m ≡ a + 1 + m = omega arith in end-later a (tail-at ns m cs) ∙ rw e (tail-passed ns m (a + 1) cs)
 
+-- the spaces that begin a text, and the text after them
+abbrev gap-of : List ℕ → ℕ
+gap-of cs = run is-space cs
+
+abbrev after-gap : List ℕ → List ℕ
+after-gap cs = drop (gap-of cs) cs
+
 -- one turn
 tail-turn : (ns : List (List ℕ)) (cs : List ℕ) → 1 ≤ length cs →
     tail-at ns 0 cs
-    ≡ cond (starts-with tag-closes (behind-gap cs)) (some (record { used = suc (gap-of cs); lone = false }))
-    (cond (starts-with lone-closes (behind-gap cs)) (some (record { used = suc (suc (gap-of cs)); lone = true }))
-    (cond (eqb (gap-of cs) 0) none (tail-on ns (gap-of cs) (behind-gap cs) (attribute-at (behind-gap cs)) (λ n m. tail-at (n ∷ ns) m (drop 1 cs)))))
+    ≡ cond (starts-with tag-closes (after-gap cs)) (some (record { used = suc (gap-of cs); lone = false }))
+    (cond (starts-with lone-closes (after-gap cs)) (some (record { used = suc (suc (gap-of cs)); lone = true }))
+    (cond (eqb (gap-of cs) 0) none (tail-on ns (gap-of cs) (after-gap cs) (attribute-at (after-gap cs)) (λ n m. tail-at (n ∷ ns) m (drop 1 cs)))))
 unfolding tail-at
 tail-turn ns [] l = absurd (omega arith)
 tail-turn ns (c ∷ cs) l = refl
 
--- AT A PLACE
-pub tail-over : (ns : List (List ℕ)) (text : List ℕ) (i : ℕ) → length text ≤ i → Broken ≡ end-found i (tail-at ns 0 (drop i text))
+-- nothing is left
+pub tail-over : (ns : List (List ℕ)) (text : List ℕ) (i : ℕ) → length text ≤ i → end-found i (tail-at ns 0 (drop i text)) ≡ Broken
 unfolding tail-at end-found
 tail-over ns text i l = rw (drop-of-length-le text l)
 
-module _ (ns : List (List ℕ)) (text : List ℕ) (i begins : ℕ) (l : i < length text) (b : begins ≡ i + run is-space (drop i text)) where
-  behind : drop begins text ≡ behind-gap (drop i text)
-  behind = from-place text i (run is-space (drop i text)) begins b
+-- BY WHAT STANDS NEXT: the tag's end, and what is left after an attribute whose name is new
+abbrev by-next : (names : List (List ℕ)) → (text : List ℕ) → NextInTag → TagEnd
+by-next ns text (next.Closer e l) = Whole e l
+by-next ns text (next.Attribute b n e) =
+    cond (among (name-from text b) ns) Broken (end-found e (tail-at (name-from text b ∷ ns) 0 (drop e text)))
+by-next ns text next.Broken = Broken
 
-  turn : tail-at ns 0 (drop i text)
-      ≡ cond (starts-with tag-closes (drop begins text)) (some (record { used = suc (gap-of (drop i text)); lone = false }))
-      (cond (starts-with lone-closes (drop begins text)) (some (record { used = suc (suc (gap-of (drop i text))); lone = true }))
-      (cond (eqb (gap-of (drop i text)) 0) none (tail-on ns (gap-of (drop i text)) (drop begins text) (attribute-at (drop begins text)) (λ n m. tail-at (n ∷ ns) m (drop 1 (drop i text))))))
-  turn = rw behind (tail-turn ns (drop i text) (omega (arith, length-drop i text)))
+module _ (ns : List (List ℕ)) (text : List ℕ) (i : ℕ) where
+  -- an attribute
+  one-more : (b : ℕ) (z : Sized) → i < b → b ≡ i + gap-of (drop i text) → attribute-at (drop b text) ≡ some z →
+      end-found i (tail-on ns (gap-of (drop i text)) (drop b text) (some z) (λ n m. tail-at (n ∷ ns) m (drop 1 (drop i text))))
+      ≡ by-next ns text (next.Attribute b (b + z .name) (b + z .whole))
+  unfolding tail-on end-found name-from
+  one-more b z l g s =
+      let f = attribute-fits (drop b text) z s in
+      let p = pred (gap-of (drop i text) + z .whole) in
+      let passed : i + 1 + p ≡ b + z .whole = omega arith in
+      let n = name-from text b in
+      rw (f .scanned)
+      (by-test (among n ns)
+      (λ t. rw t)
+      (λ t. rw t
+      (end-later i _
+      ∙ (tail-passed (n ∷ ns) p (i + 1) (drop 1 (drop i text)) ∙ rw (drop-drop 1 i text, drop-drop p (i + 1) text, passed)))))
 
-  -- >
-  pub tail-closes : starts-with tag-closes (drop begins text) ≡ true → Whole (begins + 1) false ≡ end-found i (tail-at ns 0 (drop i text))
+  attribute-next : (b : ℕ) (o : Option Sized) → i < b → b ≡ i + gap-of (drop i text) → attribute-at (drop b text) ≡ o →
+      end-found i (tail-on ns (gap-of (drop i text)) (drop b text) o (λ n m. tail-at (n ∷ ns) m (drop 1 (drop i text))))
+      ≡ by-next ns text (next-attribute b o)
+  unfolding tail-on end-found next-attribute
+  attribute-next b none l g s = refl
+  attribute-next b (some z) l g s = one-more b z l g s
+
+  inside : (b : ℕ) → b ≡ i + gap-of (drop i text) → i < length text →
+      end-found i (tail-at ns 0 (drop i text)) ≡ by-next ns text (next-in-tag i (drop i text))
   unfolding end-found
-  tail-closes e =
-      let q : begins + 1 ≡ i + suc (gap-of (drop i text)) = omega arith in rw (turn, e) (ap (λ k. Whole k false) q)
+  inside b g l =
+      let d = from-place text i (gap-of (drop i text)) b g in
+      let k : 1 ≤ length (drop i text) = omega (arith, length-drop i text) in
+      rw (tail-turn ns (drop i text) k, next-by text i b g, ← d)
+      (by-test (starts-with tag-closes (drop b text))
+      (λ t. rw t (let q : i + suc (gap-of (drop i text)) ≡ b + 1 = omega arith in ap (λ a. Whole a false) q))
+      (λ t.
+      by-test (starts-with lone-closes (drop b text))
+      (λ u. rw (t, u) (let q : i + suc (suc (gap-of (drop i text))) ≡ b + 2 = omega arith in ap (λ a. Whole a true) q))
+      (λ u.
+      by-test (eqb (gap-of (drop i text)) 0)
+      (λ v. rw (t, u, v))
+      (λ v.
+      let z = eqb-false (gap-of (drop i text)) 0 v in
+      rw (t, u, v) (attribute-next b (attribute-at (drop b text)) (omega arith) g refl)))))
 
-  module _ (e : starts-with tag-closes (drop begins text) ≡ false) where
-    -- />
-    pub tail-lone : starts-with lone-closes (drop begins text) ≡ true → Whole (begins + 2) true ≡ end-found i (tail-at ns 0 (drop i text))
-    unfolding end-found
-    tail-lone f =
-        let q : begins + 2 ≡ i + suc (suc (gap-of (drop i text))) = omega arith in rw (turn, e, f) (ap (λ k. Whole k true) q)
+  pub tail-next : end-found i (tail-at ns 0 (drop i text)) ≡ by-next ns text (next-in-tag i (drop i text))
+  unfolding next-in-tag run starts-with
+  tail-next =
+      by-cases
+      (decLe (length text) i)
+      (λ l. tail-over ns text i l ∙ rw (drop-of-length-le text l))
+      (λ l. inside (i + gap-of (drop i text)) refl (omega arith))
 
-    module _ (f : starts-with lone-closes (drop begins text) ≡ false) where
-      -- nothing that an attribute could stand behind
-      pub tail-no-gap : begins ≡ i → Broken ≡ end-found i (tail-at ns 0 (drop i text))
-      unfolding end-found
-      tail-no-gap g =
-          let z : gap-of (drop i text) ≡ 0 = omega arith in rw (turn, e, f, eq-eqb _ 0 z)
+-- ALONG A CHAIN of attributes up to a place, with what is left there for any names before
+turned : (x y a d : Bool) (w : TagEnd) → cond x Broken (cond ((not y && a) && d) w Broken) ≡ cond ((not x && a) && (not y && d)) w Broken
+turned true y a d w = refl
+turned false true true d w = refl
+turned false true false d w = refl
+turned false false a d w = refl
 
--- A GAP: spaces from place i on, and no end of the tag behind them
-pub record Gap (text : List ℕ) (i begins : ℕ) : Type 0 where
-  pub inside : i < length text
-  pub begun : begins ≡ i + run is-space (drop i text)
-  pub open-still : starts-with tag-closes (drop begins text) ≡ false
-  pub lone-not : starts-with lone-closes (drop begins text) ≡ false
-  pub apart : begins ≡ i → ⊥
+along : {text : List ℕ} {last from : ℕ} {row : List (List ℕ)} (w : TagEnd) → ((ns : List (List ℕ)) → end-found last (tail-at ns 0 (drop last text)) ≡ w) →
+    Chain text last from row → (ns : List (List ℕ)) → end-found from (tail-at ns 0 (drop from text)) ≡ cond (all-new row ns && differ row) w Broken
+unfolding all-new differ
+along w h here ns = h ns
+along {text} {last} {from} w h (on {begins = b} {end = e} {ns = rest} q c) ns =
+    let n = name-from text b in
+    tail-next ns text from
+    ∙ rw (q, along w h c (n ∷ ns), all-new-one rest ns n) (turned (among n ns) (among n rest) (all-new rest ns) (differ rest) w)
 
-module _ (ns : List (List ℕ)) {text : List ℕ} {i begins : ℕ} (h : Gap text i begins) where
-  gapped : eqb (gap-of (drop i text)) 0 ≡ false
-  gapped = ne-eqb (gap-of (drop i text)) 0 (λ z. h .apart (omega (arith, h .begun)))
+module _ {text : List ℕ} {last from : ℕ} {row : List (List ℕ)} (c : Chain text last from row) (ns : List (List ℕ)) where
+  -- it ends there: the names must be new and differ
+  pub chain-closes : (e : ℕ) (l : Bool) → next-in-tag last (drop last text) ≡ next.Closer e l →
+      end-found from (tail-at ns 0 (drop from text)) ≡ cond (all-new row ns && differ row) (Whole e l) Broken
+  chain-closes e l q = along (Whole e l) (λ ms. tail-next ms text last ∙ rw q) c ns
 
-  turn-on : tail-at ns 0 (drop i text) ≡ tail-on ns (gap-of (drop i text)) (drop begins text) (attribute-at (drop begins text)) (λ n m. tail-at (n ∷ ns) m (drop 1 (drop i text)))
-  turn-on = turn ns text i begins (h .inside) (h .begun) ∙ rw (h .open-still, h .lone-not, gapped)
+  -- it is broken there, or over
+  broken-anyway : ((ms : List (List ℕ)) → end-found last (tail-at ms 0 (drop last text)) ≡ Broken) → Broken ≡ end-found from (tail-at ns 0 (drop from text))
+  broken-anyway h = sym (along Broken h c ns ∙ either-way (all-new row ns && differ row) Broken)
 
-  -- no attribute
-  pub tail-nothing : attribute-at (drop begins text) ≡ none → Broken ≡ end-found i (tail-at ns 0 (drop i text))
-  unfolding end-found tail-on
-  tail-nothing a = rw (turn-on, a)
+  pub chain-broken : next-in-tag last (drop last text) ≡ next.Broken → Broken ≡ end-found from (tail-at ns 0 (drop from text))
+  chain-broken q = broken-anyway (λ ms. tail-next ms text last ∙ rw q)
 
-  module _ {name end : ℕ} (r : One text i begins name end) where
-    named : take (r .size .name) (drop begins text) ≡ name-in text begins name
-    named = let q : r .size .name ≡ name - begins = omega (arith, r .named) in rw q
-
-    passed : i + 1 + pred (gap-of (drop i text) + r .size .whole) ≡ end
-    passed = let o = one-order r in omega (arith, r .begun, r .ended)
-
-    -- its name is there already
-    pub tail-repeated : among (name-in text begins name) ns ≡ true → Broken ≡ end-found i (tail-at ns 0 (drop i text))
-    unfolding end-found tail-on
-    tail-repeated t = rw (turn-on, r .stands, named, t)
-
-    -- its name is new
-    pub tail-new : among (name-in text begins name) ns ≡ false →
-        end-found i (tail-at ns 0 (drop i text)) ≡ end-found end (tail-at (name-in text begins name ∷ ns) 0 (drop end text))
-    unfolding tail-on
-    tail-new t =
-        let p = pred (gap-of (drop i text) + r .size .whole) in
-        rw (turn-on, r .stands, named, t)
-        (end-later i _
-        ∙ (tail-passed (name-in text begins name ∷ ns) p (i + 1) (drop 1 (drop i text))
-        ∙ rw (drop-drop 1 i text, drop-drop p (i + 1) text, passed)))
+  pub chain-over : length text ≤ last → Broken ≡ end-found from (tail-at ns 0 (drop from text))
+  chain-over l = broken-anyway (λ ms. tail-over ms text last l)

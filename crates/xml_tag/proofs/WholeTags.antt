@@ -1,5 +1,5 @@
--- Whole tags: a name behind < and what stands behind it. Assumes nothing.
-use mathlib.Core.Path.{_≡_, refl}
+-- Whole tags: a name after < and what stands after it. Assumes nothing.
+use mathlib.Core.Path.{_≡_, refl, sym, _∙_}
 use mathlib.Core.Bool.{Bool, true, false, cond}
 use mathlib.Core.List.{List, []}
 use mathlib.Core.Option.{Option, none, some}
@@ -15,17 +15,18 @@ use Rattle.lists.proofs.Fronts.{rest-of}
 use Rattle.xml.specs.Bytes.{is-space, tag-closes}
 use Rattle.xml.specs.Scan.{run, Ending, name-length, tail-at, sized-tag, tag-at}
 use Rattle.xml_tag.specs.Post.{end-found, tag-found}
-use Rattle.xml_tag.specs.declared.TagEnd.the-variants as behind
+use Rattle.xml_tag.specs.declared.TagEnd.{TagEnd}
+use Rattle.xml_tag.specs.declared.TagEnd.the-variants as after
 use Rattle.xml_tag.specs.declared.TagRead.the-variants as tag
-use Rattle.xml_tag.proofs.AttributeSteps.{from-place}
+use Rattle.xml_attributes.proofs.AttributeSteps.{from-place}
 
--- WHAT WAS FOUND behind the name
-end-none : (a : ℕ) (o : Option Ending) → behind.Broken ≡ end-found a o → o ≡ none
+-- WHAT WAS FOUND after the name
+pub end-none : (a : ℕ) (o : Option Ending) → after.Broken ≡ end-found a o → o ≡ none
 unfolding end-found
 end-none a none e = refl
 end-none a (some z) e = absurd (let y : _≡_ {A = ℕ} 0 1 = cc in omega arith)
 
-end-some : (a : ℕ) (o : Option Ending) (end : ℕ) (lone : Bool) → behind.Whole end lone ≡ end-found a o →
+end-some : (a : ℕ) (o : Option Ending) (end : ℕ) (lone : Bool) → after.Whole end lone ≡ end-found a o →
     (z : Ending) × (o ≡ some z) × (end ≡ a + z .used) × (lone ≡ z .lone)
 unfolding end-found
 end-some a none end lone e = absurd (let y : _≡_ {A = ℕ} 0 1 = cc in omega arith)
@@ -54,7 +55,7 @@ module _ (text : List ℕ) (at name : ℕ) (n : name ≡ at + 1 + name-length (d
   unfolding tag-found
   tag-nameless e = let z : name-length (drop (at + 1) text) ≡ 0 = omega arith in rw (tag-is, eq-eqb _ 0 z)
 
-  -- > right behind it
+  -- > right after it
   closed : starts-with tag-closes (drop name text) ≡ true → tail-at [] 0 (drop name text) ≡ some (record { used = 1; lone = false })
   unfolding tail-at run is-space starts-with
   closed e = rw (rest-of tag-closes (drop name text) e)
@@ -65,15 +66,20 @@ module _ (text : List ℕ) (at name : ℕ) (n : name ≡ at + 1 + name-length (d
       let some-name : eqb (name-length (drop (at + 1) text)) 0 ≡ false = ne-eqb _ 0 (λ (z : name-length (drop (at + 1) text) ≡ 0). h (omega arith)) in
       rw (tag-is, some-name, closed e) (whole-equal (omega arith) (ends (name + 1) 1 refl) refl)
 
-  -- nothing right behind it
-  pub tag-broken : behind.Broken ≡ end-found name (tail-at [] 0 (drop name text)) → tag.Broken ≡ tag-found at (tag-at (drop at text))
-  unfolding tag-found sized-tag
-  tag-broken e = rw (tag-is, end-none name _ e, either-way)
+  -- what was found after it: nothing, and the tag's end
+  module _ {q : TagEnd} (f : q ≡ end-found name (tail-at [] 0 (drop name text))) where
+    pub tag-broken : q ≡ after.Broken → tag.Broken ≡ tag-found at (tag-at (drop at text))
+    unfolding tag-found sized-tag
+    tag-broken e = rw (tag-is, end-none name _ (sym e ∙ f), either-way)
 
-  pub tag-whole : (end : ℕ) (lone : Bool) → (name ≡ at + 1 → ⊥) → behind.Whole end lone ≡ end-found name (tail-at [] 0 (drop name text)) →
-      tag.Whole name end lone ≡ tag-found at (tag-at (drop at text))
-  unfolding tag-found sized-tag
-  tag-whole end lone m e =
-      let w = end-some name _ end lone e in
-      let z : eqb (name-length (drop (at + 1) text)) 0 ≡ false = ne-eqb (name-length (drop (at + 1) text)) 0 (λ y. m (omega arith)) in
-      rw (tag-is, z, w .1) (whole-equal (omega arith) (ends end (w .0 .used) (w .2)) (w .3))
+    pub tag-whole : {end : ℕ} {lone : Bool} → (name ≡ at + 1 → ⊥) → q ≡ after.Whole end lone → tag.Whole name end lone ≡ tag-found at (tag-at (drop at text))
+    unfolding tag-found sized-tag
+    tag-whole {end} {lone} m e =
+        let w = end-some name _ end lone (sym e ∙ f) in
+        let z : eqb (name-length (drop (at + 1) text)) 0 ≡ false = ne-eqb (name-length (drop (at + 1) text)) 0 (λ y. m (omega arith)) in
+        rw (tag-is, z, w .1) (whole-equal (omega arith) (ends end (w .0 .used) (w .2)) (w .3))
+
+  -- a tag that is there has an end
+  pub tag-ended : (tag-at (drop at text) ≡ none → ⊥) → tail-at [] 0 (drop name text) ≡ none → ⊥
+  unfolding sized-tag
+  tag-ended h e = h (tag-is ∙ rw (e, either-way))

@@ -272,11 +272,27 @@ pub fn drawn(reader: &dyn SheetReader, tally: &mut Tally, rng: &mut Rng, size: u
     Ok(())
 }
 
-/// The comparison of sheets: the specimens, all short texts at each place where something may stand, then texts by chance.
-/// The tally counts texts.
+/// Attributes of a tag: around as many as the library keeps at once, 1,024, twice and three times as many.
+const PACKED: [usize; 9] = [1_023, 1_024, 1_025, 2_047, 2_048, 2_049, 3_071, 3_072, 3_073];
+
+/// So many tags of very many attributes, and each spoiled.
+pub fn packed(reader: &dyn SheetReader, tally: &mut Tally, rng: &mut Rng, size: usize) -> Result<(), Misread> {
+    for _ in 0..size {
+        let many = rng.pick(&PACKED);
+        let it = sheets::packed(rng, many);
+        text(reader, tally, "packed", &it)?;
+        text(reader, tally, "spoiled", &sheets::spoiled(rng, &it))?;
+    }
+    Ok(())
+}
+
+/// The comparison of sheets: the specimens, all short texts at each place where something may stand, then texts by chance,
+/// tags of very many attributes last. The tally counts texts.
 pub fn sheets(reader: &dyn SheetReader, tally: &mut Tally, seed: u64, size: usize) -> Result<(), Misread> {
     sheets::specimens().iter().try_for_each(|it| text(reader, tally, "specimen", it))?;
     // As with the stores: the longer texts come with a run that is meant to meet all s and r.
     sheets::at_each_place(if size < 225 { 2 } else { 3 }, |it| text(reader, tally, "place", it))?;
-    drawn(reader, tally, &mut Rng::new(seed.rotate_left(32)), 4 * size)
+    let rng = &mut Rng::new(seed.rotate_left(32));
+    drawn(reader, tally, rng, 4 * size)?;
+    packed(reader, tally, rng, size / 4)
 }

@@ -115,6 +115,24 @@ pub fn crowded(rng: &mut Rng, most: usize) -> Vec<u8> {
     text
 }
 
+/// A tag of very many attributes, by numbers in no order; every second time one name stands twice. The names are short, alike at both
+/// ends, or `Aa` and `BB` in turn, which a hash by powers of 31 does not tell apart.
+pub fn packed(rng: &mut Rng, many: usize) -> Vec<u8> {
+    let form = rng.below(3);
+    let name = |i: usize| match form {
+        0 => format!("n{i}"),
+        1 => format!("pass{i:05}mm"),
+        _ => (0..13).map(|bit| if i >> bit & 1 == 1 { "BB" } else { "Aa" }).collect(),
+    };
+    let mut names: Vec<String> = (0..many).map(name).collect();
+    rng.shuffle(&mut names);
+    if rng.percent(50) {
+        names[rng.below(many)] = names[rng.below(many)].clone();
+    }
+    let attributes: String = names.iter().map(|name| format!(" {name}='{}'", rng.below(10))).collect();
+    format!("<a{attributes}/>").into_bytes()
+}
+
 fn any_byte(rng: &mut Rng) -> u8 {
     match rng.below(8) {
         0 => rng.word() as u8,

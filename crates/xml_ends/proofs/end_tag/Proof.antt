@@ -7,7 +7,7 @@ use borrow.Author.Tests.{not-true, not-false}
 use lib.ListN.{drop}
 use Rattle.lists.specs.Fronts.{starts-with}
 use Rattle.xml.specs.Bytes.{end-opens, tag-closes}
-use Rattle.xml_tag.proofs.Bounds.{spaces-within, stands-within}
+use Rattle.xml_laws.proofs.Bounds.{spaces-within, stands-within}
 use Rattle.xml_ends.proofs.EndLaws.{end-room, end-closed, end-unclosed, end-other, end-none}
 use Rattle.xml_ends.proofs.end_tag.Statement.{statement}
 use Rattle.xml_ends.proofs.end_tag.Tie as tie

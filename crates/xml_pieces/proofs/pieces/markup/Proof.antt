@@ -2,7 +2,7 @@
 use mathlib.Core.Path.{sym, _∙_}
 use native.Mathlib.Omega.{arith}
 use borrow.Author.Needs.{needs}
-use Rattle.xml_tag.proofs.Bounds.{stands-within}
+use Rattle.xml_laws.proofs.Bounds.{stands-within}
 use Rattle.xml_pieces.proofs.PieceLaws.{instruction-refused, doctype-refused, declaration-refused}
 use Rattle.xml_pieces.proofs.pieces.markup.Statement.{statement}
 use Rattle.xml_pieces.proofs.pieces.markup.Tie as tie

@@ -1,12 +1,12 @@
--- `xml_tag::tag` meets its contract: a name, and what stands behind it. Assumes nothing.
+-- `xml_tag::tag` meets its contract: a name, and what stands after it. Assumes nothing.
 use mathlib.Core.Path.{sym, _∙_}
 use Prim.Native.Nat.{_+_, _≤_}
 use native.Mathlib.Omega.{arith}
 use borrow.Author.Needs.{needs}
 use lib.ListN.{length}
 use Rattle.xml.specs.Bytes.{tag-closes}
-use Rattle.xml_tag.proofs.Bounds.{name-end-within, stands-within}
-use Rattle.xml_tag.proofs.WholeTags.{tag-nameless, tag-closed, tag-broken, tag-whole}
+use Rattle.xml_laws.proofs.Bounds.{name-end-within, stands-within}
+use Rattle.xml_tag.proofs.WholeTags.{tag-nameless, tag-closed, tag-broken, tag-whole, tag-ended}
 use Rattle.xml_tag.proofs.tags.tag.Statement.{statement}
 use Rattle.xml_tag.proofs.tags.tag.Tie as tie
 
@@ -26,7 +26,7 @@ add-if1 : tie.Need-add-if1
 add-if1 c = search needs
 
 returns : tie.Need-returns
-returns c = tag-nameless _ _ _ (c .before .name-end .ensures) (c .if1 .taken)
+returns c = (tag-nameless _ _ _ (c .before .name-end .ensures) (c .if1 .taken), c .before .before .before .pre .1 .1 .1)
 
 slice-aggregate-stands : tie.Need-slice-aggregate-stands
 slice-aggregate-stands c = search needs
@@ -34,8 +34,8 @@ slice-aggregate-stands c = search needs
 stands-requires : tie.Need-stands-requires
 stands-requires c κs = named (c .before)
 
-add-t13 : tie.Need-add-t13
-add-t13 c =
+add-t16 : tie.Need-add-t16
+add-t16 c =
     let e = c .before .before .before in
     let s = e .before .before .before in
     let l = stands-within tag-closes (s .args .text .now) (e .before .name-end .result) (named e) (sym (c .before .stands .ensures) ∙ c .if2 .taken) in
@@ -44,10 +44,13 @@ add-t13 c =
 returns-2 : tie.Need-returns-2
 returns-2 c =
     let e = c .before .before .before in
-    tag-closed _ _ _ (e .before .name-end .ensures) (e .if1 .left) (sym (c .before .stands .ensures) ∙ c .if2 .taken)
+    (tag-closed _ _ _ (e .before .name-end .ensures) (e .if1 .left) (sym (c .before .stands .ensures) ∙ c .if2 .taken), e .before .before .before .pre .1 .1 .1)
 
 tail-requires : tie.Need-tail-requires
-tail-requires c κs = let e = c .before .before .before in (named e, e .before .before .before .pre .1)
+tail-requires c κs =
+    let e = c .before .before .before .before .before in
+    let p = e .before .before .before .pre in
+    (named e, (p .1 .0, (λ l. tag-ended _ _ _ (e .before .name-end .ensures) (p .1 .1 .0 l), p .1 .1 .1)))
 
 enum-known-end : tie.Need-enum-known-end
 enum-known-end c = search needs
@@ -58,14 +61,14 @@ enum-told c = search needs
 returns-3 : tie.Need-returns-3
 returns-3 c =
     let t = c .before .before in
-    let e = t .before .before .before .before in
-    tag-broken _ _ _ (e .before .name-end .ensures) (sym (c .enum-told .given .1) ∙ t .tail .ensures)
+    let e = t .before .before .before .before .before .before in
+    (tag-broken _ _ _ (e .before .name-end .ensures) (t .tail .ensures .0) (c .enum-told .given .1), t .tail .ensures .1)
 
 returns-4 : tie.Need-returns-4
 returns-4 c =
     let t = c .before .before .before in
-    let e = t .before .before .before .before in
-    tag-whole _ _ _ (e .before .name-end .ensures) _ _ (e .if1 .left) (sym (c .before .end .given .1) ∙ t .tail .ensures)
+    let e = t .before .before .before .before .before .before in
+    (tag-whole _ _ _ (e .before .name-end .ensures) (t .tail .ensures .0) (e .if1 .left) (c .before .end .given .1), t .tail .ensures .1)
 
 pub tag-spec : {M : Type 1} → statement M
 tag-spec =
@@ -77,7 +80,7 @@ tag-spec =
     returns
     slice-aggregate-stands
     stands-requires
-    add-t13
+    add-t16
     returns-2
     tail-requires
     enum-known-end

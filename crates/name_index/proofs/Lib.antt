@@ -1,0 +1,9 @@
+pub mod Names
+pub mod Noting
+pub mod NameEnds
+pub mod Orders
+pub mod Comparing
+pub mod Entries
+pub mod Inserting
+pub mod Joining
+pub mod Arranging

@@ -1,0 +1,3 @@
+pub mod AttributeSteps
+pub mod NextSteps
+pub mod NextLaws

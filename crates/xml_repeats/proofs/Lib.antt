@@ -1,0 +1,4 @@
+pub mod Chains
+pub mod Filling
+pub mod Passing
+pub mod Batching
