@@ -5,7 +5,7 @@ use mathlib.Core.Bool.{Bool, true, false, _&&_, _||_, not, cond, and-false, fals
 use mathlib.Core.List.{List}
 use Prim.Native.Nat.{ℕ, zero, suc, _≤_, _<_}
 use native.Mathlib.Omega.{arith}
-use borrow.Author.Tests.{eqb-true, eqb-false, ne-eqb, not-true, ltb-true, ltb-false, lt-leb}
+use borrow.Author.Tests.{eqb-true, eqb-false, ne-eqb, not-true, ltb-true, ltb-false, le-ltb, lt-leb}
 use lib.Dec.{eqb, leb, ltb}
 use lib.ListN.{getD}
 use Rattle.lists.proofs.Tests.{by-test, and-left, and-right}
@@ -29,7 +29,7 @@ equal-below : (f g : ℕ → ℕ) (n : ℕ) → all-below (λ k. eqb (f k) (g k)
 equal-below f g n e k l = eqb-true (f k) (g k) (below (λ k. eqb (f k) (g k)) n e k l)
 
 -- whether two answers agree
-agree : Bool → Bool → Bool
+unfoldable pub agree : Bool → Bool → Bool
 agree t u = cond t u (not u)
 
 agreed : (t u : Bool) → agree t u ≡ true → t ≡ u
@@ -37,7 +37,7 @@ unfolding agree
 agreed true u e = sym e
 agreed false u e = sym (not-true u e)
 
-same-below : (f g : ℕ → Bool) (n : ℕ) → all-below (λ k. agree (f k) (g k)) n ≡ true → (k : ℕ) → k < n → f k ≡ g k
+pub same-below : (f g : ℕ → Bool) (n : ℕ) → all-below (λ k. agree (f k) (g k)) n ≡ true → (k : ℕ) → k < n → f k ≡ g k
 same-below f g n e k l = agreed (f k) (g k) (below (λ k. agree (f k) (g k)) n e k l)
 
 -- THE TABLE: one test of all its entries
@@ -49,24 +49,9 @@ pub char-class : (b : ℕ) → b < 256 → not (eqb (class-of b) 0) ≡ is-char 
 unfolding all-below agree class-of is-char is-space is-name-start is-name-char
 char-class = same-below (λ b. not (eqb (class-of b) 0)) is-char 256 refl
 
-pub space-class : (b : ℕ) → b < 256 → eqb (class-of b) 1 ≡ is-space b
-unfolding all-below agree class-of is-char is-space is-name-start is-name-char
-space-class = same-below (λ b. eqb (class-of b) 1) is-space 256 refl
-
 pub start-class : (b : ℕ) → b < 256 → eqb (class-of b) 2 ≡ is-name-start b
 unfolding all-below agree class-of is-char is-space is-name-start is-name-char
 start-class = same-below (λ b. eqb (class-of b) 2) is-name-start 256 refl
-
-name-class : (b : ℕ) → b < 256 → (eqb (class-of b) 2 || eqb (class-of b) 3) ≡ is-name-char b
-unfolding all-below agree class-of is-char is-space is-name-start is-name-char
-name-class = same-below (λ b. eqb (class-of b) 2 || eqb (class-of b) 3) is-name-char 256 refl
-
--- a byte that begins names goes on with them, and another does by its class alone
-pub name-by-start : (b k : ℕ) → b < 256 → k ≡ class-of b → k ≡ 2 → true ≡ is-name-char b
-name-by-start b k l e two = rw (← name-class b l, ← e, two)
-
-pub name-by-other : (b k : ℕ) → b < 256 → k ≡ class-of b → (k ≡ 2 → ⊥) → eqb k 3 ≡ is-name-char b
-name-by-other b k l e other = rw (← name-class b l, ← e, ne-eqb k 2 other)
 
 -- a usual byte is one of neither the last class nor the first
 usual-class : (b : ℕ) → b < 256 → not (eqb (class-of b) 4 || eqb (class-of b) 0) ≡ is-usual b
@@ -82,8 +67,12 @@ usual-not-forbidden b k l e none = rw (← usual-class b l, ← e, none)
 pub usual-by-else : (b k : ℕ) → b < 256 → k ≡ class-of b → (k ≡ 4 → ⊥) → not (eqb k 0) ≡ is-usual b
 usual-by-else b k l e n = rw (← usual-class b l, ← e, ne-eqb k 4 n)
 
--- and every number that passes the test is a byte
-usual-large : (c : ℕ) → 256 ≤ c → is-usual c ≡ false
+-- and every number that passes the test is a byte: all others are of class 0
+pub class-large : (c : ℕ) → 256 ≤ c → class-of c ≡ 0
+unfolding class-of is-char
+class-large c l = rw (le-ltb c 128 (omega arith))
+
+pub usual-large : (c : ℕ) → 256 ≤ c → is-usual c ≡ false
 unfolding is-usual is-space is-name-char is-name-start
 usual-large c l =
     let n : (k : ℕ) → k < 256 → eqb c k ≡ false = λ k m. ne-eqb c k (omega arith) in

@@ -1,7 +1,7 @@
 // The five classes of a byte (document 02, CR 1): a table of 256 entries, tested whole against the standard's rules for ASCII. A
 // call makes the table once and lends it to every scanner, because a constant array is written anew wherever it is used.
 ghost use mathlib.Core.Path.{_≡_};
-ghost use Rattle.xml.specs.Bytes.{class-of, is-char, is-space, is-name-start, is-name-char};
+ghost use Rattle.xml.specs.Bytes.{class-of, is-char, is-name-start};
 ghost use Rattle.xml_classes.specs.Classes.{Classes, is-usual};
 
 pub const FORBIDDEN: u8 = 0;
@@ -293,30 +293,11 @@ pub fn is_char(b: u8, classes: &[u8; 256]) -> bool
     class_of(b, classes) != FORBIDDEN
 }
 
-pub fn is_space(b: u8, classes: &[u8; 256]) -> bool
-    requires { ⌜ Classes (now classes) ⌝ }
-    ensures { λ t. ⌜ t ≡ is-space b ⌝ }
-{
-    class_of(b, classes) == SPACE
-}
-
 pub fn is_name_start(b: u8, classes: &[u8; 256]) -> bool
     requires { ⌜ Classes (now classes) ⌝ }
     ensures { λ t. ⌜ t ≡ is-name-start b ⌝ }
 {
     class_of(b, classes) == NAME_START
-}
-
-pub fn is_name_char(b: u8, classes: &[u8; 256]) -> bool
-    requires { ⌜ Classes (now classes) ⌝ }
-    ensures { λ t. ⌜ t ≡ is-name-char b ⌝ }
-{
-    let k = class_of(b, classes);
-    if k == NAME_START {
-        true
-    } else {
-        k == NAME_ONLY
-    }
 }
 
 // A space or a byte of names. Both tests answer alike, so that the compiler can make one of them.

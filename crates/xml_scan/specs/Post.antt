@@ -3,10 +3,10 @@ use mathlib.Core.Bool.{Bool, _&&_, _||_, not, cond}
 use mathlib.Core.List.{List, [], _∷_}
 use mathlib.Core.Option.{Option, none, some}
 use Prim.Native.Nat.{ℕ, _+_}
-use lib.Dec.{eqb}
+use lib.Dec.{leb, eqb}
 use lib.ListN.{take, drop}
 use Rattle.lists.specs.Fronts.{starts-with}
-use Rattle.xml.specs.Bytes.{is-char, less-than, ampersand, cdata-closes}
+use Rattle.xml.specs.Bytes.{class-of, is-char, less-than, ampersand, cdata-closes}
 use Rattle.xml.specs.Scan.{name-length}
 use Rattle.xml_scan.specs.declared.Found.{Found}
 use Rattle.xml_scan.specs.declared.Found.the-variants.{At, Nothing}
@@ -15,6 +15,10 @@ use Rattle.xml_scan.specs.declared.Found.the-variants.{At, Nothing}
 unfoldable pub found : (from : ℕ) → Option ℕ → Found
 found a none = Nothing
 found a (some n) = At (a + n)
+
+-- a byte of one of the classes from least to most
+unfoldable pub class-within : (least most : ℕ) → ℕ → Bool
+class-within l m c = leb l (class-of c) && leb (class-of c) m
 
 -- a byte that may stand in a value by itself, if it is not its quote and not &
 unfoldable pub is-plain : ℕ → Bool

@@ -12,7 +12,7 @@ use lib.Seq.{drop-drop}
 use Rattle.lists.proofs.Tests.{either-way}
 use Rattle.lists.specs.Fronts.{starts-with}
 use Rattle.lists.proofs.Fronts.{rest-of}
-use Rattle.xml.specs.Bytes.{is-space, tag-closes}
+use Rattle.xml.specs.Bytes.{is-space, tag-closes, lone-closes}
 use Rattle.xml.specs.Scan.{run, Ending, name-length, tail-at, sized-tag, tag-at}
 use Rattle.xml_tag.specs.Post.{end-found, tag-found}
 use Rattle.xml_tag.specs.declared.TagEnd.{TagEnd}
@@ -55,16 +55,14 @@ module _ (text : List ℕ) (at name : ℕ) (n : name ≡ at + 1 + name-length (d
   unfolding tag-found
   tag-nameless e = let z : name-length (drop (at + 1) text) ≡ 0 = omega arith in rw (tag-is, eq-eqb _ 0 z)
 
-  -- > right after it
-  closed : starts-with tag-closes (drop name text) ≡ true → tail-at [] 0 (drop name text) ≡ some (record { used = 1; lone = false })
-  unfolding tail-at run is-space starts-with
-  closed e = rw (rest-of tag-closes (drop name text) e)
+  -- > or /> right after it
+  pub right-closed : starts-with tag-closes (drop name text) ≡ true → after.Whole (name + 1) false ≡ end-found name (tail-at [] 0 (drop name text))
+  unfolding tail-at run is-space starts-with end-found
+  right-closed e = rw (rest-of tag-closes (drop name text) e)
 
-  pub tag-closed : (name ≡ at + 1 → ⊥) → starts-with tag-closes (drop name text) ≡ true → tag.Whole name (name + 1) false ≡ tag-found at (tag-at (drop at text))
-  unfolding tag-found sized-tag
-  tag-closed h e =
-      let some-name : eqb (name-length (drop (at + 1) text)) 0 ≡ false = ne-eqb _ 0 (λ (z : name-length (drop (at + 1) text) ≡ 0). h (omega arith)) in
-      rw (tag-is, some-name, closed e) (whole-equal (omega arith) (ends (name + 1) 1 refl) refl)
+  pub right-lone : starts-with lone-closes (drop name text) ≡ true → after.Whole (name + 2) true ≡ end-found name (tail-at [] 0 (drop name text))
+  unfolding tail-at run is-space starts-with end-found
+  right-lone e = rw (rest-of lone-closes (drop name text) e)
 
   -- what was found after it: nothing, and the tag's end
   module _ {q : TagEnd} (f : q ≡ end-found name (tail-at [] 0 (drop name text))) where

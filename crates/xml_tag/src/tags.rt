@@ -85,6 +85,13 @@ pub fn tag(
             lone: false,
         };
     }
+    if stands(text, name, b"/>") {
+        return TagRead::Whole {
+            name,
+            end: name + 2,
+            lone: true,
+        };
+    }
     let TagEnd::Whole { end, lone } = tail(text, name, looks, classes, hashes, starts) else {
         return TagRead::Broken;
     };

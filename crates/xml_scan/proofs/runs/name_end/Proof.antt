@@ -11,15 +11,16 @@ shared-slice-read-is-name-start c = search needs
 is-name-start-requires : tie.Need-is-name-start-requires
 is-name-start-requires c κs = search needs
 
-add-name-chars-end : tie.Need-add-name-chars-end
-add-name-chars-end c = search needs
+add-run-end : tie.Need-add-run-end
+add-run-end c = search needs
 
-name-chars-end-requires : tie.Need-name-chars-end-requires
-name-chars-end-requires c κs = search needs
+run-end-requires : tie.Need-run-end-requires
+run-end-requires c κs = search needs
 
 returns : tie.Need-returns
 returns c =
-    let t = c .before in c .name-chars-end .ensures ∙ name-run _ _ (t .before .before .before .if1 .taken) (sym (t .before .is-name-start .ensures) ∙ t .if2 .taken)
+    let t = c .before in
+    name-run _ _ (t .before .before .before .if1 .taken) (sym (t .before .is-name-start .ensures) ∙ t .if2 .taken) (c .run-end .ensures)
 
 returns-2 : tie.Need-returns-2
 returns-2 c = name-other _ _ (c .before .before .before .if1 .taken) (sym (c .before .is-name-start .ensures) ∙ c .if2 .left)
@@ -33,8 +34,8 @@ name-end-spec =
     (tie.spec
     shared-slice-read-is-name-start
     is-name-start-requires
-    add-name-chars-end
-    name-chars-end-requires
+    add-run-end
+    run-end-requires
     returns
     returns-2
     returns-3)

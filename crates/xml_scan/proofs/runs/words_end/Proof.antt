@@ -7,7 +7,7 @@ use borrow.Author.Needs.{needs}
 use borrow.Author.Tests.{not-true, not-false}
 use lib.ListN.{length}
 use Rattle.xml_classes.specs.Classes.{is-usual}
-use Rattle.xml_scan.proofs.RunSteps.{Running, running-start, running-next, running-stop}
+use Rattle.xml_scan.proofs.RunSteps.{Running, running-start, running-next, running-stop, usual-bytes}
 use Rattle.xml_scan.proofs.runs.words_end.Statement.{statement}
 use Rattle.xml_scan.proofs.runs.words_end.Tie as tie
 
@@ -123,11 +123,11 @@ loop-less c = omega (arith, passed-4 c .within)
 loop-again : tie.Need-loop-again Inv-loop μ-loop
 loop-again c = passed-4 c
 
-few-words-end-requires : tie.Need-few-words-end-requires Inv-loop μ-loop
-few-words-end-requires c κs = search needs
+run-end-requires : tie.Need-run-end-requires Inv-loop μ-loop
+run-end-requires c κs = search needs
 
 returns-5 : tie.Need-returns-5 Inv-loop μ-loop
-returns-5 c = c .few-words-end .ensures ∙ c .before .before .loop .inv .rest
+returns-5 c = rw (← usual-bytes) (c .run-end .ensures) ∙ c .before .before .loop .inv .rest
 
 pub words-end-spec : {M : Type 1} → statement M
 words-end-spec =
@@ -158,5 +158,5 @@ words-end-spec =
     add-i
     loop-less
     loop-again
-    few-words-end-requires
+    run-end-requires
     returns-5)
