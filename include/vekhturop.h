@@ -258,7 +258,7 @@ vk_party vk_party_call(uint32_t party, uint32_t book, uint32_t tag, uint32_t sta
  * references and CDATA sections, blank ones too; tags and comments end it. The empty sheet has no kinds.
  * Refusals: 12, 13 and 14, by the first construct that cannot be completed or does not fit, and nothing after it counts;
  * 12 at the end of the text, where an element is still open; then 11.
- * The call takes about 27 KB of stack, and 44 KB where 64 elements are open. Its time goes by the length of the text, but for a
+ * The call takes about 18 KB of stack, and 47 KB where 64 elements are open. Its time goes by the length of the text, but for a
  * tag of n attributes, which may take n * n / 1024 searches for repeated names: a sheet of 1 MB that is one tag takes as long as
  * some 40 usual ones of 1 MB, whatever the names and values are. */
 vk_kinds vk_xml_kinds(const uint8_t *text, size_t text_len, uint8_t *kinds, size_t kinds_len);

@@ -55,7 +55,8 @@ fn read(
     whole(text, part)
 }
 
-// The kinds of a sheet, into a lent list. The text is read twice, first with no list, so that a refusal writes nothing.
+// The kinds of a sheet, into a lent list. The text is read twice, first with no list, so that a refusal writes nothing. The table of
+// classes and the places for names are made here once and lent: in a reader's frame they would stand as often as elements are open.
 pub fn xml_kinds(text: &[u8], kinds: &mut [u8]) -> SheetReply
     ensures reply { λ q. ⌜ q ≡ sheet-reply (now (text .entry)) (now (kinds .entry)) ⌝ }
     ensures list { λ _. ⌜ now (kinds .exit) ≡ sheet-list (now (text .entry)) (now (kinds .entry)) ⌝ }
