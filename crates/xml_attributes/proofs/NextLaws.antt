@@ -1,7 +1,6 @@
 -- Attributes that stand next in a tag, one after the other: their places are in order and within the text, and what a chain of them
 -- says of the step at a place. Assumes nothing.
 use mathlib.Core.Path.{_≡_, refl, ap, sym, _∙_}
-use mathlib.Core.Bool.{Bool}
 use mathlib.Core.List.{List, [], _∷_, _++_}
 use mathlib.Core.Option.{Option, none, some}
 use Prim.Native.Nat.{ℕ, _+_, _-_, _≤_, _<_}
@@ -16,7 +15,6 @@ use Rattle.xml.specs.Scan.{Sized, run, name-length, attribute-at}
 use Rattle.xml_scan.specs.Post.{name-from}
 use Rattle.xml_attributes.specs.Next.{next-attribute, next-in-tag}
 use Rattle.xml_attributes.specs.Chain.{Chain, here, on}
-use Rattle.xml_attributes.specs.declared.NextInTag.{NextInTag}
 use Rattle.xml_attributes.specs.declared.NextInTag.the-variants as next
 use Rattle.xml_attributes.proofs.AttributeSteps.{attribute-fits}
 use Rattle.xml_attributes.proofs.NextSteps.{next-by}
@@ -132,19 +130,6 @@ chain-after {text} {k} b n e q (on {begins = b′} {name = n′} {end = e′} {n
     let f : b′ ≡ b = cc in
     let g : e′ ≡ e = cc in
     (rest, ap (λ a. name-from text a ∷ rest) f, rw g at h)
-
--- nothing else is found there
-chain-only : {text : List ℕ} {k i : ℕ} {row : List (List ℕ)} (x : NextInTag) → ((b n e : ℕ) → x ≡ next.Attribute b n e → ⊥) → Chain text k i row → i < k →
-    next-in-tag i (drop i text) ≡ x → ⊥
-chain-only x d here l q = omega arith
-chain-only x d (on {begins = b} {name = n} {end = e} q′ h) l q = d b n e (sym q ∙ q′)
-
-pub chain-nothing : {text : List ℕ} {k i : ℕ} {row : List (List ℕ)} → Chain text k i row → k ≤ length text → i < k → next-in-tag i (drop i text) ≡ next.Broken → ⊥
-chain-nothing h w l q = chain-only next.Broken (λ b n e r. let y : _≡_ {A = ℕ} 0 1 = cc in omega arith) h l q
-
-pub chain-closer : {text : List ℕ} {k i : ℕ} {row : List (List ℕ)} (e : ℕ) (lone : Bool) → Chain text k i row → k ≤ length text → i < k →
-    next-in-tag i (drop i text) ≡ next.Closer e lone → ⊥
-chain-closer e lone h w l q = chain-only (next.Closer e lone) (λ b n e r. let y : _≡_ {A = ℕ} 0 1 = cc in omega arith) h l q
 
 -- where it ends there is none
 pub chain-end : {text : List ℕ} {k : ℕ} {row : List (List ℕ)} → Chain text k k row → k ≤ length text → row ≡ []

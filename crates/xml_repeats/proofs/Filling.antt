@@ -1,9 +1,8 @@
 -- A batch that is filled: what was noted, and what is left of a row. Assumes nothing.
 use mathlib.Core.Path.{_≡_, refl, ap, sym, _∙_}
 use mathlib.Core.List.{List, [], _∷_, _++_, append-assoc}
-use Prim.Native.Nat.{ℕ, suc, _+_, _≤_, _<_}
+use Prim.Native.Nat.{ℕ, _+_, _≤_, _<_}
 use native.Mathlib.Omega.{arith}
-use native.Mathlib.Numerals.{add-one}
 use lib.ListN.{length, drop, set, length-append, length-set}
 use Rattle.xml_scan.specs.Post.{name-from}
 use Rattle.name_index.specs.Index.{places, Noted}
@@ -11,7 +10,7 @@ use Rattle.name_index.proofs.Noting.{noted-none, noted-more}
 use Rattle.xml_attributes.specs.Next.{next-in-tag}
 use Rattle.xml_attributes.specs.Chain.{Chain}
 use Rattle.xml_attributes.specs.declared.NextInTag.the-variants as next
-use Rattle.xml_attributes.proofs.NextLaws.{Order, next-order, chain-after}
+use Rattle.xml_attributes.proofs.NextLaws.{next-order, chain-after}
 use Rattle.xml_repeats.proofs.Chains.{Stopped, chain-goes-on}
 use Rattle.xml_repeats.specs.Batches.{Chained, Filled}
 use Rattle.xml_repeats.specs.declared.Batch.{Batch}
