@@ -1,15 +1,16 @@
--- A book as a file (document 02, CR 3): records, each a length, a kind and words, every number low byte first.
+-- A book as a file (document 02, CR 3; CR 7 for depth): records, each a length, a kind and words, every number low byte first.
 -- Assumes nothing: these are definitions.
 use mathlib.Core.Bool.{Bool, true, false, _&&_, cond}
 use mathlib.Core.List.{List, [], _∷_, _++_, map, flatMap}
 use mathlib.Core.Option.{Option, none, some}
 use Prim.Native.Nat.{ℕ, zero, suc, _+_, _*_}
 use lib.Dec.{eqb}
-use lib.ListN.{length, getD, drop, replicate}
-use Rattle.store_types.specs.Layout.{at-count, tag-words, word-at}
-use Rattle.store_types.specs.FileLayout.{header-kind, tag-kind, end-kind, length-bytes, kind-bytes, word-bytes, front-bytes, row-words, end-words, row-bytes, file-bytes, at-number}
+use lib.ListN.{length, getD, take, drop, replicate}
+use Rattle.store_types.specs.Layout.{at-count, at-kind, tag-words, word-at}
+use Rattle.store_types.specs.FileLayout.{kept-words, header-kind, tag-kind, end-kind, length-bytes, kind-bytes, word-bytes, front-bytes, row-words, end-words, row-bytes, file-bytes, at-number}
 use Rattle.lists.specs.Lists.{numbers, same, all-hold}
 use Rattle.little_endian.specs.Numbers.{is-byte, low-first, number-in}
+use Rattle.calls.specs.Kind.{Kind, word-kind, own-depth, depth-after}
 use Rattle.calls.specs.Store.{Store, row}
 use Rattle.calls.specs.Words.{header, tag-record, read}
 
@@ -24,9 +25,10 @@ file-record kind ws = record-front kind (length ws) ++ flatMap (low-first word-b
 unfoldable pub form : (head : List ℕ) → (rows : List (List ℕ)) → List ℕ
 form head rows = file-record header-kind head ++ (flatMap (file-record tag-kind) rows ++ file-record end-kind (length rows ∷ []))
 
--- THE FILE OF A STORE: s, r, H, n, first, book, stamp; and of each tag in book order its number and its six words
+-- THE FILE OF A STORE: s, r, H, n, first, book, stamp; and of each tag in book order its number and the six
+-- words of its record that are kept
 unfoldable pub tag-row : Store → (tag : ℕ) → List ℕ
-tag-row st x = x ∷ tag-record st x
+tag-row st x = x ∷ take kept-words (tag-record st x)
 
 unfoldable pub file-of : Store → List ℕ
 file-of st = form (drop 1 (header st)) (map (tag-row st) (row st))
@@ -68,7 +70,15 @@ rows-from (suc m) bs = words-in row-words (drop front-bytes bs) ∷ rows-from m 
 unfoldable pub rows-in : (bytes : List ℕ) → List (List ℕ)
 rows-in bs = rows-from (count-in bs) (drop row-bytes bs)
 
--- a row's number, and the six words that rows give a tag: those of the first row with its number
+-- rows before which d begins are open, each with its depth after its words: that which the kinds so far give, in the order of the file
+abbrev pub row-kind : (row : List ℕ) → Kind
+row-kind row = word-kind (getD row (suc at-kind) 0)
+
+unfoldable pub deepened : (d : ℕ) → (rows : List (List ℕ)) → List (List ℕ)
+deepened d [] = []
+deepened d (row ∷ rows) = (row ++ own-depth (row-kind row) d ∷ []) ∷ deepened (depth-after (row-kind row) d) rows
+
+-- a row's number, and the seven words that rows give a tag: those of the first row with its number
 abbrev pub row-number : (row : List ℕ) → ℕ
 row-number row = getD row at-number 0
 
@@ -78,7 +88,7 @@ record-in (row ∷ rows) x = let later = record-in rows x in cond (eqb (row-numb
 
 -- the words that a file says: the header, then the tags by number from 0
 unfoldable pub file-words : (bytes : List ℕ) → List ℕ
-file-words bs = header-in bs ++ flatMap (record-in (rows-in bs)) (numbers 0 (count-in bs))
+file-words bs = header-in bs ++ flatMap (record-in (deepened 0 (rows-in bs))) (numbers 0 (count-in bs))
 
 -- a store is read from a file where its words say it and it is that store's file; else none is
 unfoldable pub own-file : Option Store → (bytes : List ℕ) → Option Store

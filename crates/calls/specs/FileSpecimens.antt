@@ -1,10 +1,11 @@
--- Files worked out by hand from document 02, CR 3: one table, which proofs/FileSpecimens.antt shows to hold. Each is a list of
+-- Files worked out by hand from document 02, CR 3, and CR 7 for depth, which no file keeps: one table, which proofs/FileSpecimens.antt shows to hold. Each is a list of
 -- writings and readings over one lent slice of words, with the numbers that each replies.
 use mathlib.Core.Bool.{Bool, true, _&&_}
 use mathlib.Core.List.{List, [], _∷_, _++_}
 use Prim.Native.Nat.{ℕ}
 use lib.ListN.{set, take, replicate}
 use Rattle.lists.specs.Lists.{same}
+use Rattle.calls.specs.DepthSpecimens.{printed-records}
 use Rattle.calls.specs.Replies.{load-words, insert-words, load-numbers, write-reply, write-bytes, write-numbers, read-reply, read-words}
 
 -- one thing done over lent words, with the numbers replied. write: the book is written into so many bytes, all 0, which then
@@ -41,10 +42,10 @@ empty-file =
 
 -- document 01's printed load, BBEBEE, and after its two insertions
 abbrev printed-words : List ℕ
-printed-words = load-words 2 2 7 (1 ∷ 1 ∷ 2 ∷ 1 ∷ 2 ∷ 2 ∷ []) (replicate 44 0)
+printed-words = load-words 2 2 7 (1 ∷ 1 ∷ 2 ∷ 1 ∷ 2 ∷ 2 ∷ []) (replicate 50 0)
 
 abbrev grown-words : List ℕ
-grown-words = insert-words 3 2 (insert-words 3 2 (load-words 2 2 7 (1 ∷ 1 ∷ 2 ∷ 1 ∷ 2 ∷ 2 ∷ []) (replicate 56 0)))
+grown-words = insert-words 3 2 (insert-words 3 2 (load-words 2 2 7 (1 ∷ 1 ∷ 2 ∷ 1 ∷ 2 ∷ 2 ∷ []) (replicate 64 0)))
 
 -- its records: the header with a stamp, and the tags, each its number, label, next, prior, mate, up, kind
 abbrev header-with : (stamp : ℕ) → List ℕ
@@ -91,6 +92,40 @@ grown-file =
     ++ tag (word 5 ++ word 13 ++ none ++ word 4 ++ word 0 ++ none ++ word 2)
     ++ (word 6 ++ half 3 ++ word 8)
 
+-- document 01's printed load with a text after tag 2 and then an element after tag 1, whose two are the only ones of depth 2; its
+-- tags stand in book order as 0 1 7 8 2 6 3 4 5 with labels 0 1 3 4 5 9 10 12 13
+abbrev deeper-words : (lent : ℕ) → List ℕ
+deeper-words lent = insert-words 1 1 (insert-words 3 2 (load-words 2 2 7 (1 ∷ 1 ∷ 2 ∷ 1 ∷ 2 ∷ 2 ∷ []) (replicate lent 0)))
+
+abbrev deeper-file : List ℕ
+deeper-file =
+    (word 30 ++ half 1 ++ word 2 ++ word 2 ++ word 3 ++ word 9 ++ word 0 ++ word 7 ++ word 2)
+    ++ tag (word 0 ++ word 0 ++ word 1 ++ none ++ word 5 ++ none ++ word 1)
+    ++ tag (word 1 ++ word 1 ++ word 7 ++ word 0 ++ word 2 ++ word 0 ++ word 1)
+    ++ tag (word 7 ++ word 3 ++ word 8 ++ word 1 ++ word 8 ++ word 1 ++ word 1)
+    ++ tag (word 8 ++ word 4 ++ word 2 ++ word 7 ++ word 7 ++ word 1 ++ word 2)
+    ++ tag (word 2 ++ word 5 ++ word 6 ++ word 8 ++ word 1 ++ word 0 ++ word 2)
+    ++ tag (word 6 ++ word 9 ++ word 3 ++ word 2 ++ word 6 ++ word 0 ++ word 3)
+    ++ tag (word 3 ++ word 10 ++ word 4 ++ word 6 ++ word 4 ++ word 0 ++ word 1)
+    ++ tag (word 4 ++ word 12 ++ word 5 ++ word 3 ++ word 3 ++ word 0 ++ word 2)
+    ++ tag (word 5 ++ word 13 ++ none ++ word 4 ++ word 0 ++ none ++ word 2)
+    ++ (word 6 ++ half 3 ++ word 9)
+
+-- a record of the printed load with its depth after its kind, as no file has it
+abbrev deep-tag : (row : List ℕ) → (depth : ℕ) → List ℕ
+deep-tag row d = word 34 ++ half 2 ++ row ++ word d
+
+abbrev deep-file : List ℕ
+deep-file =
+    header-with 0
+    ++ deep-tag (word 0 ++ word 0 ++ word 1 ++ none ++ word 5 ++ none ++ word 1) 0
+    ++ deep-tag (word 1 ++ word 1 ++ word 2 ++ word 0 ++ word 2 ++ word 0 ++ word 1) 1
+    ++ deep-tag (word 2 ++ word 3 ++ word 3 ++ word 1 ++ word 1 ++ word 0 ++ word 2) 1
+    ++ deep-tag (word 3 ++ word 4 ++ word 4 ++ word 2 ++ word 4 ++ word 0 ++ word 1) 1
+    ++ deep-tag (word 4 ++ word 6 ++ word 5 ++ word 3 ++ word 3 ++ word 0 ++ word 2) 1
+    ++ deep-tag (word 5 ++ word 7 ++ none ++ word 4 ++ word 0 ++ none ++ word 2) 0
+    ++ last
+
 -- a file that is refused by these words, which stay
 abbrev refused : (bytes words : List ℕ) → (refusal : ℕ) → Filing
 refused bs ws k = read bs (k ∷ []) ws
@@ -100,7 +135,7 @@ zeros n = replicate n 0
 
 -- damaged: into enough words, which are 0
 abbrev damaged : (bytes : List ℕ) → (refusal : ℕ) → Filing
-damaged bs k = refused bs (zeros 44) k
+damaged bs k = refused bs (zeros 50) k
 
 pub record File-specimen : Type 0 where
   pub words : List ℕ
@@ -119,23 +154,37 @@ file-specimen-table =
           lend (zeros 8) ∷ read empty-file (0 ∷ 0 ∷ 1 ∷ []) empty-words ∷ lend (zeros 7) ∷ refused empty-file (zeros 7) 1 ∷
           refused [] (zeros 7) 15 ∷ [];
     } ∷
-    -- the printed load: bytes past the file stay, 247 are too few; read into 44 words and more, and into 43
+    -- the printed load: bytes past the file stay, 247 are too few; read into 50 words and more, and into 49
     record {
       words = printed-words;
       filings =
           write 248 (0 ∷ 248 ∷ []) printed-file ∷ write 250 (0 ∷ 248 ∷ []) (printed-file ++ zeros 2) ∷ write 247 (16 ∷ []) (zeros 247) ∷
-          lend (zeros 44) ∷ read printed-file (0 ∷ 6 ∷ 2 ∷ []) printed-words ∷
-          lend (zeros 44 ++ 9 ∷ []) ∷ read printed-file (0 ∷ 6 ∷ 2 ∷ []) (printed-words ++ 9 ∷ []) ∷
-          lend (zeros 43) ∷ refused printed-file (zeros 43) 1 ∷ [];
+          lend (zeros 50) ∷ read printed-file (0 ∷ 6 ∷ 2 ∷ []) printed-words ∷
+          lend (zeros 50 ++ 9 ∷ []) ∷ read printed-file (0 ∷ 6 ∷ 2 ∷ []) (printed-words ++ 9 ∷ []) ∷
+          lend (zeros 49) ∷ refused printed-file (zeros 49) 1 ∷ [];
     } ∷
     -- in book order, and back by number
     record {
       words = grown-words;
-      filings = write 316 (0 ∷ 316 ∷ []) grown-file ∷ lend (zeros 56) ∷ read grown-file (0 ∷ 8 ∷ 3 ∷ []) grown-words ∷ [];
+      filings = write 316 (0 ∷ 316 ∷ []) grown-file ∷ lend (zeros 64) ∷ read grown-file (0 ∷ 8 ∷ 3 ∷ []) grown-words ∷ [];
+    } ∷
+    -- depth is worked out on reading: seven words a tag, of which the file has six; a word too few; seven words past it stay
+    record {
+      words = deeper-words 71;
+      filings =
+          write 350 (0 ∷ 350 ∷ []) deeper-file ∷ lend (zeros 71) ∷ read deeper-file (0 ∷ 9 ∷ 3 ∷ []) (deeper-words 71) ∷
+          lend (zeros 70) ∷ refused deeper-file (zeros 70) 1 ∷
+          lend (replicate 78 9) ∷ read deeper-file (0 ∷ 9 ∷ 3 ∷ []) (deeper-words 71 ++ replicate 7 9) ∷ [];
+    } ∷
+    -- the printed file, whose records have depth 0 1 1 1 1 0; and with these depths in it, which is outside the form
+    record {
+      words = zeros 50;
+      filings =
+          damaged deep-file 15 ∷ read printed-file (0 ∷ 6 ∷ 2 ∷ []) (1 ∷ 2 ∷ 2 ∷ 2 ∷ 6 ∷ 0 ∷ 7 ∷ 0 ∷ printed-records) ∷ [];
     } ∷
     -- outside the form: a byte less, a byte more, a kind, a length, a count; before too few words
     record {
-      words = zeros 44;
+      words = zeros 50;
       filings =
           damaged (take 247 printed-file) 15 ∷ damaged (printed-file ++ 0 ∷ []) 15 ∷ damaged (set printed-file 4 3) 15 ∷
           damaged (set printed-file 0 31) 15 ∷ damaged (set printed-file 18 7) 15 ∷ damaged (set printed-file 244 7) 15 ∷
@@ -145,7 +194,7 @@ file-specimen-table =
     -- of the form, and no book's: two records exchanged, one twice, a number that is none, a label with a gap before it, a stamp
     -- above n; and one that is n
     record {
-      words = zeros 44;
+      words = zeros 50;
       filings =
           damaged (header-with 0 ++ tag-0 ++ tag-1 ++ tag-2 ++ tag-4 4 ++ tag-3 ++ tag-5 7 ++ last) 2 ∷
           damaged (header-with 0 ++ tag-0 ++ tag-1 ++ tag-2 ++ tag-3 ++ tag-3 ++ tag-5 7 ++ last) 2 ∷

@@ -3,13 +3,13 @@ use mathlib.Core.Bool.{Bool, _&&_, _||_, not, cond}
 use mathlib.Core.List.{List, [], _∷_}
 use Prim.Native.Nat.{ℕ}
 use lib.Dec.{leb, ltb, eqb}
-use Rattle.lists.specs.Lists.{first}
+use Rattle.lists.specs.Lists.{those, first}
 use Rattle.store_types.specs.declared.HeldPair.{HeldPair}
 use Rattle.store_types.specs.declared.Answer.the-variants.{Yes, No, Stale}
 use Rattle.store_types.specs.declared.QuestionReply.{QuestionReply}
 use Rattle.store_types.specs.declared.QuestionReply.the-variants as asked
 use Rattle.calls.specs.Kind.{is-begin}
-use Rattle.calls.specs.Store.{Store, fact, count, place-of, label}
+use Rattle.calls.specs.Store.{Store, fact, count, row, place-of, label}
 
 -- book, tag, start label, end label; the two labels are equal for a text, which is its own mate
 unfoldable pub hold-pair : (section : ℕ) → Store → HeldPair
@@ -19,6 +19,10 @@ hold-pair x st =
 -- an element encloses a tag that stands between its two; its own two tags give no
 unfoldable pub encloses : Store → (section tag : ℕ) → Bool
 encloses st x d = ltb (place-of st x) (place-of st d) && ltb (place-of st d) (place-of st (fact st x .mate))
+
+-- the elements around a tag, as begin tags in book order, marked ones too: the outermost first
+unfoldable pub around : Store → (tag : ℕ) → List ℕ
+around st x = those (λ b. is-begin (fact st b .kind) && encloses st b x) (row st)
 
 -- whether a pair's labels are the current ones and its section is not marked
 unfoldable pub current : Store → HeldPair → Bool

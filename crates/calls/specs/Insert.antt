@@ -10,7 +10,7 @@ use Rattle.lists.specs.Lists.{first, how-many}
 use Rattle.store_types.specs.Limits.{no-tag, most-tags}
 use Rattle.store_types.specs.Layout.{header-words, words-for}
 use Rattle.tree.specs.Book.{Book, height, inserted-row, split-of-row, moved-among}
-use Rattle.calls.specs.Kind.{Kind, begin, end, text, is-begin, kind-of}
+use Rattle.calls.specs.Kind.{Kind, begin, end, text, is-begin, kind-of, opens-after}
 use Rattle.calls.specs.Store.{Store, fact, unmarked, count, row, place-of, width, height-fits}
 use Rattle.calls.specs.Nesting.{new-facts}
 use Rattle.calls.specs.Load.{kinds-tests}
@@ -27,6 +27,10 @@ position y st = cond (eqb y no-tag) 0 (suc (place-of st y))
 unfoldable pub up-at : (place : ℕ) → Store → ℕ
 up-at y st = cond (eqb y no-tag) no-tag (cond (is-begin (fact st y .kind)) y (fact st y .up))
 
+-- how many elements are around it (document 02, CR 7): as many as around y, one more after a begin; at the front none
+unfoldable pub depth-at : (place : ℕ) → Store → ℕ
+depth-at y st = cond (eqb y no-tag) 0 (opens-after (fact st y .kind) (fact st y .depth))
+
 -- new tags take the next numbers
 unfoldable pub book-after : (kinds : List Kind) → (place : ℕ) → Store → Book
 book-after ks y st = inserted-row (length ks) (position y st) (count st) (st .book)
@@ -37,7 +41,7 @@ insert-store ks y st =
       book = book-after ks y st;
       number = st .number;
       stamp = suc (st .stamp);
-      facts = st .facts ++ new-facts (up-at y st) [] (count st) ks;
+      facts = st .facts ++ new-facts (up-at y st) [] (depth-at y st) (count st) ks;
     }
 
 -- what a session can lose (document 02, CR 4): the tags present before the whole call whose label differs after it, of

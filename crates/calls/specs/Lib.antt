@@ -15,5 +15,6 @@ pub mod Changes
 pub mod Reference
 pub mod Promise
 pub mod Specimens
-pub mod FileSpecimens
 pub mod SheetSpecimens
+pub mod DepthSpecimens
+pub mod FileSpecimens

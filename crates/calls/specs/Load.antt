@@ -40,4 +40,4 @@ load-refusal lent s r cs =
 -- tag numbers run in book order; stamp 0
 unfoldable pub load-store : (s r number : ℕ) → (kinds : List ℕ) → Store
 load-store s r b cs =
-    record { book = loaded s r (length cs); number = b; stamp = 0; facts = new-facts no-tag [] 0 (map kind-of cs) }
+    record { book = loaded s r (length cs); number = b; stamp = 0; facts = new-facts no-tag [] 0 0 (map kind-of cs) }

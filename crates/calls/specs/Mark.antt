@@ -1,4 +1,4 @@
--- Mark (document 01, "Calls and their replies"): a begin or text and all inside. Labels stay.
+-- Mark (document 01, "Calls and their replies"): a begin or text and all inside. Labels and depths stay.
 -- Assumes nothing: these are definitions.
 use mathlib.Core.Bool.{Bool, _&&_, _||_, not, cond}
 use mathlib.Core.List.{List, [], _∷_}
@@ -16,7 +16,7 @@ within st x d = leb (place-of st x) (place-of st d) && leb (place-of st d) (plac
 unfoldable pub mark-facts : Store → (section d : ℕ) → List Fact → List Fact
 mark-facts st x d [] = []
 mark-facts st x d (t ∷ ts) =
-    new-fact (t .kind) (t .marked || within st x d) (t .mate) (t .up) ∷ mark-facts st x (suc d) ts
+    new-fact (t .kind) (t .marked || within st x d) (t .mate) (t .up) (t .depth) ∷ mark-facts st x (suc d) ts
 
 unfoldable pub mark-store : (section : ℕ) → Store → Store
 mark-store x st = record { book = st .book; number = st .number; stamp = suc (st .stamp); facts = mark-facts st x 0 (st .facts) }

@@ -1,14 +1,15 @@
--- What is promised of the store (demands 2 and 3), of its files (document 02, CR 3) and of sheets that go in by one call (CR 5).
+-- What is promised of the store (demands 2 and 3), of its files (document 02, CR 3), of sheets that go in by one call (CR 5) and of
+-- depth (CR 7).
 -- Each statement is a type; docs/THEOREMS.md names its proof. Assumes nothing.
 use mathlib.Core.Path.{_≡_}
 use mathlib.Core.Bool.{Bool, true, false, _&&_, not}
-use mathlib.Core.List.{List, [], _∷_, _++_, map}
+use mathlib.Core.List.{List, [], _∷_, _++_, map, getLastD}
 use mathlib.Core.Option.{some}
 use mathlib.Core.Logic.{_↔_, _⊎_}
-use Prim.Native.Nat.{ℕ, _+_, _*_, _-_, _^_, _≤_, _<_}
+use Prim.Native.Nat.{ℕ, suc, _+_, _*_, _-_, _^_, _≤_, _<_}
 use lib.Dec.{ltb, eqb}
 use lib.ListN.{length, take}
-use Rattle.store_types.specs.Limits.{word-limit, most-levels}
+use Rattle.store_types.specs.Limits.{no-tag, word-limit, most-levels}
 use Rattle.store_types.specs.declared.HeldPair.{HeldPair}
 use Rattle.store_types.specs.declared.Answer.the-variants.{Yes, No, Stale}
 use Rattle.store_types.specs.declared.LoadReply.the-variants.{Loaded}
@@ -30,7 +31,7 @@ use Rattle.calls.specs.Sound.{tree-sound, sound}
 use Rattle.calls.specs.Load.{load-refusal, load-store}
 use Rattle.calls.specs.Insert.{labels-end, labels-run-out, place-tests, row-refusal, insert-store, insert-sheet-refusal, insert-sheet-store}
 use Rattle.calls.specs.Mark.{section-refusal, mark-store}
-use Rattle.calls.specs.Held.{question}
+use Rattle.calls.specs.Held.{around, question}
 use Rattle.calls.specs.Words.{words-of, Says, follow, read}
 use Rattle.calls.specs.File.{form, file-of, formed, read-file}
 use Rattle.calls.specs.Replies.{said, refusal-over, insert-reply, insert-words, insert-sheet-refused, insert-sheet-reply, insert-sheet-words, write-reply, write-bytes, read-reply, read-words}
@@ -159,6 +160,23 @@ unfoldable pub Pair-labels-tell : Type 0
 Pair-labels-tell =
     (p : HeldPair) (d : ℕ) (st : Store) → sound st ≡ true → Asked p d st → Current p st →
     Encloses st (p .tag .0) d ↔ ((p .start .0 < label st d) × (label st d < p .end .0))
+
+-- DEPTH (document 02, CR 7): in a sound store as many elements are around a tag as it says, and its up is the innermost of them
+-- (document 01, "The book in words"), no tag where there is none
+unfoldable pub Depth-right : Type 0
+Depth-right = (st : Store) (x : ℕ) → sound st ≡ true → x < count st → fact st x .depth ≡ length (around st x)
+
+unfoldable pub Ups-innermost : Type 0
+Ups-innermost = (st : Store) (x : ℕ) → sound st ≡ true → x < count st → fact st x .up ≡ getLastD (around st x) no-tag
+
+-- so it is 0 at the top and else one more than that of up, and mates have the same
+pub record Depth-by-up (st : Store) (x : ℕ) : Type 0 where
+  pub top : fact st x .up ≡ no-tag → fact st x .depth ≡ 0
+  pub inside : (fact st x .up ≡ no-tag → ⊥) → fact st x .depth ≡ suc (fact st (fact st x .up) .depth)
+  pub mates : fact st (fact st x .mate) .depth ≡ fact st x .depth
+
+unfoldable pub Depth-up : Type 0
+Depth-up = (st : Store) (x : ℕ) → sound st ≡ true → x < count st → Depth-by-up st x
 
 -- THE READER: words are read as a store if and only if they say it; so they say at most one
 unfoldable pub Reader-right : Type 0

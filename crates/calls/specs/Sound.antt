@@ -1,4 +1,4 @@
--- Sound stores (document 01, "Sound means"). Assumes nothing: these are definitions.
+-- Sound stores (document 01, "Sound means"; document 02, CR 7, for depth). Assumes nothing: these are definitions.
 use mathlib.Core.Bool.{Bool, _&&_}
 use Prim.Native.Nat.{ℕ, _+_}
 use lib.Dec.{leb, eqb}
@@ -7,7 +7,7 @@ use Rattle.store_types.specs.Limits.{no-tag, most-tags}
 use Rattle.tree.specs.Row.{all-below}
 use Rattle.tree.specs.Book.{height, book-within}
 use Rattle.calls.specs.Store.{Store, count, row, height-fits, marked-count}
-use Rattle.calls.specs.Nesting.{nested}
+use Rattle.calls.specs.Nesting.{nested, depths-right}
 
 -- s and r are each 2 to 16
 unfoldable pub degrees-fit : (s r : ℕ) → Bool
@@ -26,4 +26,5 @@ unfoldable pub stamp-sound : Store → Bool
 stamp-sound st = leb (st .stamp) (count st + marked-count (st .facts))
 
 unfoldable pub sound : Store → Bool
-sound st = (tree-sound st && row-sound st) && (nested (st .facts) no-tag (row st) && stamp-sound st)
+sound st =
+    (tree-sound st && row-sound st) && ((nested (st .facts) no-tag (row st) && depths-right (st .facts) 0 (row st)) && stamp-sound st)

@@ -1,4 +1,5 @@
--- A store: the book's tree, and for each tag its kind, mark, mate and up (document 01, "The book in words").
+-- A store: the book's tree, and for each tag its kind, mark, mate, up and depth (document 01, "The book in words"; document 02,
+-- CR 7, for depth).
 -- Assumes nothing: these are definitions.
 use mathlib.Core.Bool.{Bool, false, not}
 use mathlib.Core.List.{List, _∷_}
@@ -12,12 +13,13 @@ use Rattle.tree.specs.Book.{Book, tags, label-of, power-width}
 use Rattle.calls.specs.Kind.{Kind, text}
 
 -- what is kept of a tag besides its place and label: mate is the other tag of the element, a text's own number for a
--- text; up is the begin tag of the innermost element around it, or no tag
+-- text; up is the begin tag of the innermost element around it, or no tag; depth is the number of elements around it
 pub record Fact : Type 0 where
   pub kind : Kind
   pub marked : Bool
   pub mate : ℕ
   pub up : ℕ
+  pub depth : ℕ
 
 -- number is document 01's book number (the caller's, any word), stamp its count of accepted changes since load
 pub record Store : Type 0 where
@@ -27,12 +29,12 @@ pub record Store : Type 0 where
   pub facts : List Fact
 
 -- every one is made by this
-abbrev pub new-fact : Kind → (marked : Bool) → (mate up : ℕ) → Fact
-new-fact k m mate up = record { kind = k; marked = m; mate = mate; up = up }
+abbrev pub new-fact : Kind → (marked : Bool) → (mate up depth : ℕ) → Fact
+new-fact k m mate up depth = record { kind = k; marked = m; mate = mate; up = up; depth = depth }
 
 -- what no tag says: above all that it is not marked
 abbrev pub no-fact : Fact
-no-fact = new-fact text false no-tag no-tag
+no-fact = new-fact text false no-tag no-tag 0
 
 abbrev pub fact-in : List Fact → (tag : ℕ) → Fact
 fact-in fs x = getD fs x no-fact

@@ -8,12 +8,12 @@ use Prim.Native.Nat.{ℕ, zero, suc, pred, _+_, _-_}
 use lib.Dec.{leb}
 use lib.ListN.{length, getD}
 use Rattle.store_types.specs.Limits.{no-tag, most-levels, most-tags}
-use Rattle.store_types.specs.Layout.{at-s, at-r, at-height, at-count, at-first, at-book, at-stamp, header-words, at-next, at-mate, at-up, at-kind, header-list, record-list, word-at, words-for, field, label-at}
+use Rattle.store_types.specs.Layout.{at-s, at-r, at-height, at-count, at-first, at-book, at-stamp, header-words, at-next, at-mate, at-up, at-kind, at-depth, header-list, record-list, word-at, words-for, field, label-at}
 use Rattle.lists.specs.Lists.{numbers}
 use Rattle.lists.specs.Fronts.{starts-with}
 use Rattle.tree.specs.Book.{Book, height, power-width}
 use Rattle.tree.specs.Spelling.{spelled}
-use Rattle.calls.specs.Kind.{kind-of, kind-word}
+use Rattle.calls.specs.Kind.{kind-word, word-kind}
 use Rattle.calls.specs.Store.{Store, Fact, new-fact, fact, count, row, label, next-in, prior-in}
 use Rattle.calls.specs.Sound.{degrees-fit, sound}
 
@@ -25,7 +25,7 @@ header st =
 -- a tag's record
 unfoldable pub tag-record : Store → (tag : ℕ) → List ℕ
 tag-record st x =
-    record-list (label st x) (next-in (row st) x) (prior-in (row st) x) (fact st x .mate) (fact st x .up) (kind-word (fact st x .kind) (fact st x .marked))
+    record-list (label st x) (next-in (row st) x) (prior-in (row st) x) (fact st x .mate) (fact st x .up) (kind-word (fact st x .kind) (fact st x .marked)) (fact st x .depth)
 
 -- the header, then the tags by number from 0
 unfoldable pub words-of : Store → List ℕ
@@ -43,7 +43,7 @@ follow (suc n) ws x = x ∷ follow n ws (field ws x at-next)
 unfoldable pub read-fact : List ℕ → (tag : ℕ) → Fact
 read-fact ws x =
     let c = field ws x at-kind in
-    new-fact (kind-of (cond (leb 16 c) (c - 16) c)) (leb 16 c) (field ws x at-mate) (field ws x at-up)
+    new-fact (word-kind c) (leb 16 c) (field ws x at-mate) (field ws x at-up) (field ws x at-depth)
 
 -- the widths that a header gives
 unfoldable pub header-width : List ℕ → ℕ → ℕ

@@ -38,7 +38,7 @@ module _ (st : Store) (rest : List ℕ) (x : ℕ) (l : x < count st) where
 -- each by its name
 abbrev pub Tag-says : (ws : List ℕ) (st : Store) (x : ℕ) → Type 0
 Tag-says ws st x =
-    Record-holds ws x (label st x) (next-in (row st) x) (prior-in (row st) x) (fact st x .mate) (fact st x .up) (kind-word (fact st x .kind) (fact st x .marked))
+    Record-holds ws x (label st x) (next-in (row st) x) (prior-in (row st) x) (fact st x .mate) (fact st x .up) (kind-word (fact st x .kind) (fact st x .marked)) (fact st x .depth)
 
 pub tag-says : (st : Store) (rest : List ℕ) (x : ℕ) → x < count st → Tag-says (words-of st ++ rest) st x
 unfolding words-of tag-record

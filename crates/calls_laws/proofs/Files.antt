@@ -22,11 +22,11 @@ use Rattle.tree.specs.Book.{height, label-of, labels-of}
 use Rattle.tree.specs.Promise.{Labels-rise}
 use Rattle.tree_laws.proofs.Rows.{member-nil, member-first, member-later, member-cases, member-getD, number-bounds}
 use Rattle.tree_laws.proofs.Labels.{length-labels, rising-of, rising-below, labels-rise}
-use Rattle.calls.specs.Kind.{Kind, begin, end, text, code, kind-word}
+use Rattle.calls.specs.Kind.{Kind, begin, end, text, code, kind-word, depth-after}
 use Rattle.calls.specs.Store.{Store, fact, count, row, place-of, width, label, next-in, prior-in}
 use Rattle.calls.specs.Sound.{sound}
 use Rattle.calls.specs.Words.{header, tag-record, words-of, Says, read}
-use Rattle.calls.specs.File.{tag-row, file-of, header-in, count-in, words-in, rows-in, formed, record-in, file-words, own-file, read-formed, read-file}
+use Rattle.calls.specs.File.{tag-row, file-of, header-in, count-in, words-in, rows-in, formed, deepened, record-in, file-words, own-file, read-formed, read-file}
 use Rattle.calls.specs.Promise.{is-row, Height-most, Reader-right, Reads-back, File-reader-right}
 use Rattle.calls_laws.proofs.Tests.{Sound, sane, facts-of}
 use Rattle.calls_laws.proofs.Widths.{fits-limit, store-widths}
@@ -34,7 +34,8 @@ use Rattle.calls_laws.proofs.Sections.{row-below, in-row, up-fits, mate
 use Rattle.calls_laws.proofs.Marks.{marked-few}
 use Rattle.calls_laws.proofs.Pairs.{placed}
 use Rattle.calls_laws.proofs.Heights.{height-most}
-use Rattle.calls_laws.proofs.Reader.{reads-back, reader-right}
+use Rattle.calls_laws.proofs.Depths.{Depths, depths-of}
+use Rattle.calls_laws.proofs.Reader.{kind-back, reads-back, reader-right}
 use Rattle.calls_laws.proofs.WordSteps.{header-said}
 use Rattle.calls_laws.proofs.FileRecords.{is-long, word-below}
 use Rattle.calls_laws.proofs.FileForm.{head-fits, header-form, rows-form, length-form, form-formed}
@@ -126,9 +127,20 @@ length-file st e =
     length-form (drop 1 (header st)) (map (tag-row st) (row st)) refl (all-map is-long (tag-row st) (row st) (λ x. refl))
     ∙ ap file-bytes (length-map (row st) (tag-row st) ∙ facts-of st e .as-many)
 
--- THE STORE'S WORDS BACK FROM ITS FILE. The rows give a tag its record: that of the first row with its number
-record-said : (st : Store) (xs : List ℕ) (x : ℕ) → member x xs ≡ true → record-in (map (tag-row st) xs) x ≡ tag-record st x
-unfolding record-in tag-row
+-- THE STORE'S WORDS BACK FROM ITS FILE. The kinds of its rows give each tag its depth, since it is right along the row
+abbrev pub full-row : Store → (tag : ℕ) → List ℕ
+full-row st x = x ∷ tag-record st x
+
+pub rows-deepened : (st : Store) (d : ℕ) (xs : List ℕ) (e : ℕ) → Depths (st .facts) d xs e → deepened d (map (tag-row st) xs) ≡ map (full-row st) xs
+unfolding deepened tag-row tag-record
+rows-deepened st d [] e h = refl
+rows-deepened st d (x ∷ xs) e h =
+    let kind = kind-back (fact st x .kind) (fact st x .marked) .0 in
+    rw (kind, ← h .0, rows-deepened st (depth-after (fact st x .kind) d) xs e (h .1))
+
+-- and the rows give a tag its record: that of the first row with its number
+record-said : (st : Store) (xs : List ℕ) (x : ℕ) → member x xs ≡ true → record-in (map (full-row st) xs) x ≡ tag-record st x
+unfolding record-in
 record-said st [] x m = absurd (false≢true (sym (member-nil x) ∙ m))
 record-said st (y ∷ xs) x m =
     member-cases x y xs m
@@ -161,9 +173,10 @@ module _ (st : Store) (e : sound st ≡ true) (own : st .number < word-limit) wh
   pub words-file : file-words (file-of st) ≡ words-of st
   unfolding file-words words-of
   words-file =
-      rw (header-file, rows-file, count-file)
+      let deep = depths-of (st .facts) 0 (row st) (facts-of st e .depths) in
+      rw (header-file, rows-file, count-file, rows-deepened st 0 (row st) (deep .0) (deep .1))
       (ap (λ (l : List ℕ). header st ++ l)
-      (joined-same (record-in (map (tag-row st) (row st))) (tag-record st) (numbers 0 (count st))
+      (joined-same (record-in (map (full-row st) (row st))) (tag-record st) (numbers 0 (count st))
       (λ x m. record-said st (row st) x (in-row (facts-of st e) x (omega (arith, number-bounds x 0 (count st) m))))))
 
   -- and so its file is read as the store

@@ -22,14 +22,15 @@ use Rattle.tree.specs.Promise.{Sane}
 use Rattle.tree_laws.proofs.Rows.{getD-place, place-of-member, member-of-take, member-insert, member-numbers, member-all-below, all-below-of, member-of-drop}
 use Rattle.tree_laws.proofs.Insertion.{inserted-s, inserted-r, inserted-under, size-inserted, sane-inserted, sane-inserted-row, tags-inserted-row, size-inserted-row}
 use Rattle.calls.specs.Kind.{Kind, is-begin}
-use Rattle.calls.specs.Store.{Store, Fact, no-fact, fact, count, row, place-of, height-fits}
+use Rattle.calls.specs.Store.{Store, Fact, no-fact, fact-in, fact, count, row, place-of, height-fits}
 use Rattle.calls.specs.Nesting.{nests, new-facts}
-use Rattle.calls.specs.Insert.{position, up-at, book-after, insert-store, raised, labels-end, labels-run-out, place-tests, room-tests, row-refusal}
+use Rattle.calls.specs.Insert.{position, up-at, depth-at, book-after, insert-store, raised, labels-end, labels-run-out, place-tests, room-tests, row-refusal}
 use Rattle.calls.specs.Promise.{Insert-sound, Rows-end}
 use Rattle.calls_laws.proofs.Tests.{passes, Sound, sane, root-limits, facts-of, sound-of}
-use Rattle.calls_laws.proofs.Nesting.{Step, begins, ends, stands, Pass, pass-join, pass-around, nested-of, chain-mark, Same, same-of, no-tag-fact, no-tag-same}
+use Rattle.calls_laws.proofs.Nesting.{Step, begins, ends, stands, Pass, pass-join, pass-around, nested-of, chain-mark, same-of, no-tag-fact, no-tag-same}
 use Rattle.calls_laws.proofs.NewFacts.{length-new-facts, pass-new}
 use Rattle.calls_laws.proofs.Sections.{row-below, in-row, is-tag, pass-row, At, pass-at}
+use Rattle.calls_laws.proofs.Depths.{Depths, depths-test, depths-join, Level, level-of, depths-same, depths-new, Depth-gap, depth-gap}
 
 -- THE LABELS STILL FIT. s and r stay, and the height is the one that `raised` says
 pub row-degrees : (n p x : ℕ) (k : Book) → (inserted-row n p x k .s ≡ k .s) × (inserted-row n p x k .r ≡ k .r)
@@ -150,15 +151,15 @@ position-fits w ks y st h a =
     ⊎-elim (λ e. rw (eq-eqb y no-tag e) omega arith)
     (λ l. rw (ne-eqb y no-tag (λ e. omega (arith, h .few, l .0))) (place-of-member y (row st) (in-row h y (l .0)))) (a .place)
 
--- THE FACTS with those of the new tags under m
-abbrev facts-with : Store → (m : ℕ) → List Kind → List Fact
-facts-with st m ks = st .facts ++ new-facts m [] (count st) ks
+-- THE FACTS with those of the new tags under m, where v begins are open
+abbrev facts-with : Store → (m v : ℕ) → List Kind → List Fact
+facts-with st m v ks = st .facts ++ new-facts m [] v (count st) ks
 
-count-with : (st : Store) (m : ℕ) (ks : List Kind) → length (facts-with st m ks) ≡ count st + length ks
-count-with st m ks = length-append (st .facts) (new-facts m [] (count st) ks) ∙ ap (λ i. count st + i) (length-new-facts m [] (count st) ks)
+count-with : (st : Store) (m v : ℕ) (ks : List Kind) → length (facts-with st m v ks) ≡ count st + length ks
+count-with st m v ks = length-append (st .facts) (new-facts m [] v (count st) ks) ∙ ap (λ i. count st + i) (length-new-facts m [] v (count st) ks)
 
-old-same : (st : Store) (m : ℕ) (ks : List Kind) (d : ℕ) → d < count st → Same (st .facts) (facts-with st m ks) d
-old-same st m ks d l = same-of (st .facts) (facts-with st m ks) d (List·getD-append (st .facts) (new-facts m [] (count st) ks) no-fact d l)
+old-fact : (st : Store) (m v : ℕ) (ks : List Kind) (d : ℕ) → d < count st → fact-in (facts-with st m v ks) d ≡ fact st d
+old-fact st m v ks d l = List·getD-append (st .facts) (new-facts m [] v (count st) ks) no-fact d l
 
 -- THE GAP behind the first p tags: m is the innermost begin open there
 pub record Gap (st : Store) (p m : ℕ) : Type 0 where
@@ -211,20 +212,36 @@ module _ {st : Store} (h : Sound st) where
       go (inr t) = let b = pass-at h y (t .0) in rw (ne-eqb _ _ (is-tag h y (t .0)), open-behind y (t .0) (t .1) b (b .step)) (tag-gap y (t .0) (t .1) b)
 
   -- the pass with the new tags in the gap
-  pass-with : (ks : List Kind) (p m : ℕ) → Gap st p m → nests 0 ks ≡ true → count st + length ks ≤ most-tags →
-      Pass (facts-with st m ks) no-tag no-tag (insert-at p (numbers (count st) (length ks)) (row st)) no-tag
+  pass-with : (ks : List Kind) (p m v : ℕ) → Gap st p m → nests 0 ks ≡ true → count st + length ks ≤ most-tags →
+      Pass (facts-with st m v ks) no-tag no-tag (insert-at p (numbers (count st) (length ks)) (row st)) no-tag
   unfolding insert-at
-  pass-with ks p m g n few =
+  pass-with ks p m v g n few =
       let fs = st .facts in
-      let gs = facts-with st m ks in
+      let gs = facts-with st m v ks in
       let front = take p (row st) in
       let back = drop p (row st) in
-      let small : length gs ≤ no-tag = omega (arith, count-with st m ks) in
+      let small : length gs ≤ no-tag = omega (arith, count-with st m v ks) in
       pass-around fs gs (no-tag-same fs gs (omega (arith, h .few)) small) front (numbers (count st) (length ks)) back m
-      (λ d k. old-same st m ks d (row-below h d (member-of-take d p (row st) k)))
-      (λ d k. old-same st m ks d (row-below h d (member-of-drop d p (row st) k)))
+      (λ d k. same-of fs gs d (old-fact st m v ks d (row-below h d (member-of-take d p (row st) k))))
+      (λ d k. same-of fs gs d (old-fact st m v ks d (row-below h d (member-of-drop d p (row st) k))))
       (g .front) (g .back)
-      (λ same. pass-new gs small m (same .marked ∙ g .free) 0 m [] (count st) ks fs refl refl n refl)
+      (λ same. pass-new gs small m (same .marked ∙ g .free) 0 m [] v (count st) ks fs refl refl n refl)
+
+  -- and the depths
+  depths-with : (ks : List Kind) (p m v : ℕ) (g : Depth-gap st p v) → nests 0 ks ≡ true → count st + length ks ≤ most-tags →
+      Depths (facts-with st m v ks) 0 (insert-at p (numbers (count st) (length ks)) (row st)) (g .last)
+  unfolding insert-at
+  depths-with ks p m v g n few =
+      let fs = st .facts in
+      let gs = facts-with st m v ks in
+      let front = take p (row st) in
+      let back = drop p (row st) in
+      let new = numbers (count st) (length ks) in
+      let small : length gs ≤ no-tag = omega (arith, count-with st m v ks) in
+      let old : (d : ℕ) → member d (row st) ≡ true → Level fs gs d = λ d k. level-of fs gs d (old-fact st m v ks d (row-below h d k)) in
+      depths-join gs 0 v (g .last) front (new ++ back) (depths-same fs gs 0 front v (λ d k. old d (member-of-take d p (row st) k)) (g .front))
+      (depths-join gs v v (g .last) new back (depths-new gs small v 0 m [] v (count st) ks fs refl refl n (omega arith))
+      (depths-same fs gs v back (g .last) (λ d k. old d (member-of-drop d p (row st) k)) (g .back)))
 
 -- THE ROW with them holds each number once
 pub all-below-with : (n k p : ℕ) (xs : List ℕ) → all-below n xs ≡ true → all-below (n + k) (insert-at p (numbers n k) xs) ≡ true
@@ -243,13 +260,15 @@ insert-sound w y ks st e n some r =
     let k = length ks in
     let p = position y st in
     let m = up-at y st in
+    let v = depth-at y st in
     let g = gap h w ks y a in
+    let deep = depth-gap h y (⊎-elim inl (λ t. inr (t .0)) (a .place)) in
     let size-is : size (st .book .root) ≡ count st = h .as-many in
     let old = sane h in
     let sized = size-inserted-row k p (count st) (st .book) old (g .fits) in
     let tags-are = tags-inserted-row k p (count st) (st .book) old (g .fits) in
     let degrees = row-degrees k p (count st) (st .book) in
-    let counted = count-with st m ks in
+    let counted = count-with st m v ks in
     sound-of (insert-store ks y st) (record {
       degrees = rw (degrees .0, degrees .1) (h .degrees);
       labels-fit =
@@ -259,6 +278,7 @@ insert-sound w y ks st e n some r =
       few = rw counted (a .few);
       as-many = omega arith;
       each = rw (counted, tags-are) (all-below-with (count st) k p (row st) (h .each));
-      nesting = nested-of _ no-tag _ (rw tags-are (pass-with h ks p m g n (a .few)));
-      stamp-fits = omega (arith, h .stamp-fits, how-many-append (λ (t : Fact). t .marked) (st .facts) (new-facts m [] (count st) ks));
+      nesting = nested-of _ no-tag _ (rw tags-are (pass-with h ks p m v g n (a .few)));
+      depths = depths-test _ 0 _ (deep .last) (rw tags-are (depths-with h ks p m v deep n (a .few)));
+      stamp-fits = omega (arith, h .stamp-fits, how-many-append (λ (t : Fact). t .marked) (st .facts) (new-facts m [] v (count st) ks));
     })

@@ -3,6 +3,8 @@ pub mod Widths
 pub mod Nesting
 pub mod NewFacts
 pub mod Sections
+pub mod Depths
+pub mod Around
 pub mod Marks
 pub mod Heights
 pub mod Inserts

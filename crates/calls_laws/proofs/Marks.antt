@@ -20,6 +20,7 @@ use Rattle.calls.specs.Mark.{within, mark-facts, mark-store, new-marks, section
 use Rattle.calls.specs.Promise.{Mark-sound}
 use Rattle.calls_laws.proofs.Tests.{passes, Sound, facts-of, sound-of}
 use Rattle.calls_laws.proofs.Nesting.{Pass, pass-around, nested-of, Alike, Same, no-tag-same, Marked}
+use Rattle.calls_laws.proofs.Depths.{Level, depths-kept}
 use Rattle.calls_laws.proofs.Sections.{place-first-part, place-middle-part, place-last-part, distinct-row, row-below, in-row, is-tag, Section, section}
 
 -- marked tags are tags
@@ -38,6 +39,12 @@ module _ (st : Store) (x : ℕ) where
   alike-marked d [] i = record { kind = refl; mate = refl; up = refl }
   alike-marked d (t ∷ ts) zero = record { kind = refl; mate = refl; up = refl }
   alike-marked d (t ∷ ts) (suc i) = let r = alike-marked (suc d) ts i in record { kind = r .kind; mate = r .mate; up = r .up }
+
+  pub level-marked : (d : ℕ) (ts : List Fact) (i : ℕ) → Level ts (mark-facts st x d ts) i
+  unfolding mark-facts
+  level-marked d [] i = record { kind = refl; depth = refl }
+  level-marked d (t ∷ ts) zero = record { kind = refl; depth = refl }
+  level-marked d (t ∷ ts) (suc i) = let r = level-marked (suc d) ts i in record { kind = r .kind; depth = r .depth }
 
   pub mark-of : (d : ℕ) (ts : List Fact) (i : ℕ) → i < length ts → fact-in (mark-facts st x d ts) i .marked ≡ (fact-in ts i .marked || within st x (d + i))
   unfolding mark-facts
@@ -158,5 +165,6 @@ mark-sound x st e r =
       as-many = h .as-many ∙ sym n;
       each = rw n (h .each);
       nesting = nested-of (mark-facts st x 0 (st .facts)) no-tag (row st) (pass-after h x c);
+      depths = depths-kept (st .facts) (mark-facts st x 0 (st .facts)) (row st) (λ d m. level-marked st x 0 (st .facts) d) (h .depths);
       stamp-fits = omega (arith, h .stamp-fits, count-marked st x 0 (st .facts), some-marked st x 0 (st .facts) x (a .tag) (a .unmarked) own);
     })

@@ -16,7 +16,7 @@ use Rattle.tree_laws.proofs.Rows.{member-first, member-later}
 use Rattle.calls.specs.Kind.{Kind}
 use Rattle.calls.specs.Store.{Store, Fact, no-fact, fact-in, unmarked, count, row, width}
 use Rattle.calls.specs.Nesting.{new-facts}
-use Rattle.calls.specs.Insert.{up-at, book-after, insert-store, insert-moved}
+use Rattle.calls.specs.Insert.{up-at, depth-at, book-after, insert-store, insert-moved}
 use Rattle.calls.specs.Promise.{Marks-stay}
 use Rattle.calls_laws.proofs.Tests.{Sound}
 use Rattle.calls_laws.proofs.Sections.{row-below}
@@ -27,7 +27,7 @@ mark-kept ts new x old = ap (λ (t : Fact). not (t .marked)) (List·getD-append 
 
 pub marks-stay : Marks-stay
 unfolding Marks-stay insert-store
-marks-stay ks y x st old = mark-kept (st .facts) (new-facts (up-at y st) [] (count st) ks) x old
+marks-stay ks y x st old = mark-kept (st .facts) (new-facts (up-at y st) [] (depth-at y st) (count st) ks) x old
 
 -- two tests that agree on a row count the same of what moved in it
 pub moved-same : (f g : ℕ → Bool) (w : ℕ → ℕ) (xs : List ℕ) (k m : Book) → ((x : ℕ) → member x xs ≡ true → f x ≡ g x) →

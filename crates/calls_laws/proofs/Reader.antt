@@ -1,10 +1,10 @@
 -- The reader: words are read as a store just where they say it, so they say at most one.
 -- Assumes nothing.
 use mathlib.Core.Path.{_≡_, refl, ap, sym, _∙_}
-use mathlib.Core.Bool.{Bool, true, false, _&&_, cond}
+use mathlib.Core.Bool.{Bool, true, false, _&&_}
 use mathlib.Core.List.{List, [], _∷_, _++_, map}
 use mathlib.Core.Option.{some}
-use Prim.Native.Nat.{ℕ, zero, suc, _+_, _-_, _≤_, _<_}
+use Prim.Native.Nat.{ℕ, zero, suc, _+_, _≤_, _<_}
 use native.Mathlib.Nat.{zero-add, not-suc-le-zero, le-of-suc-le-suc}
 use native.Mathlib.Omega.{arith}
 use borrow.Author.Tests.{le-leb}
@@ -24,7 +24,7 @@ use Rattle.tree_laws.proofs.Good.{good-of}
 use Rattle.tree_laws.proofs.Rows.{Distinct, member-getD, place-getD, distinct-all-below}
 use Rattle.tree_laws.proofs.Labels.{length-labels}
 use Rattle.tree_laws.proofs.Spelled.{spelled-good}
-use Rattle.calls.specs.Kind.{Kind, begin, end, text, code, kind-of, kind-word}
+use Rattle.calls.specs.Kind.{Kind, begin, end, text, code, kind-of, kind-word, word-kind}
 use Rattle.calls.specs.Store.{Store, no-fact, fact, count, row, width, next-in}
 use Rattle.calls.specs.Sound.{sound}
 use Rattle.calls.specs.Words.{words-of, Says, follow, read-fact, header-width, read-book, read-store, header-in-range, read-in-range, read}
@@ -42,8 +42,8 @@ getD-map f (x ∷ xs) (suc i) d e l = getD-map f xs i d e (le-of-suc-le-suc l)
 
 -- a kind and a mark back from their word
 pub kind-back : (k : Kind) (m : Bool) →
-    (kind-of (cond (leb 16 (kind-word k m)) (kind-word k m - 16) (kind-word k m)) ≡ k) × (leb 16 (kind-word k m) ≡ m)
-unfolding kind-of kind-word code
+    (word-kind (kind-word k m) ≡ k) × (leb 16 (kind-word k m) ≡ m)
+unfolding word-kind kind-of kind-word code
 kind-back begin true = (refl, refl)
 kind-back begin false = (refl, refl)
 kind-back end true = (refl, refl)
@@ -117,7 +117,7 @@ module _ (st : Store) (rest : List ℕ) (h : Sound st) where
   fact-read x l =
       let says = tag-says st rest x l in
       let back = kind-back (fact st x .kind) (fact st x .marked) in
-      rw (says .mate-word, says .up-word, says .kind-is, back .0, back .1)
+      rw (says .mate-word, says .up-word, says .kind-is, says .depth-is, back .0, back .1)
 
   facts-read : map (read-fact (words-of st ++ rest)) (numbers 0 (count st)) ≡ st .facts
   facts-read =

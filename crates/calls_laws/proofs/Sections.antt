@@ -1,4 +1,4 @@
--- The row of a sound store around a tag, the tags from a begin to its mate, and where mates and ups lie.
+-- The row of a sound store around a tag, the tags from a begin to its mate, and where mates and ups lie, whatever is known of depths.
 -- Assumes nothing.
 use mathlib.Core.Path.{_≡_, refl, ap, sym, _∙_}
 use mathlib.Core.Bool.{true, or-true, false≢true}
@@ -15,7 +15,7 @@ use Rattle.tree.specs.Row.{member, place}
 use Rattle.tree_laws.proofs.Rows.{Distinct, Apart, member-first, member-later, member-append, member-of-take, place-append-in, place-append-out, place-of-member, place-getD, getD-place, distinct-right, distinct-apart, apart-sym, distinct-all-below, member-all-below, member-of-drop, number-bounds}
 use Rattle.calls.specs.Kind.{end, is-begin}
 use Rattle.calls.specs.Store.{Store, Fact, fact-in, fact, count, row, place-of}
-use Rattle.calls_laws.proofs.Tests.{Sound}
+use Rattle.calls_laws.proofs.Tests.{Sound-with}
 use Rattle.calls_laws.proofs.Nesting.{Begins, Ends, Stands, Step, begins, ends, stands, Pass, pass-of, pass-parts, Chain, bottom, above, chain-up, chain-pass, Tag, Marked, Alike, Closed, closed, pass-marked, pass-join}
 
 -- PLACES in a row of distinct tags that is joined of three
@@ -44,7 +44,7 @@ module _ (all xs ys zs : List ℕ) (whole : all ≡ xs ++ (ys ++ zs)) (h : Disti
       omega (arith, place-append-out d ys zs apart)
 
 -- THE ROW OF A SOUND STORE holds each tag once
-module _ {st : Store} (h : Sound st) where
+module _ {D : Type 0} {st : Store} (h : Sound-with D st) where
   pub distinct-row : Distinct (row st)
   distinct-row = distinct-all-below (count st) (row st) (h .each) (h .as-many) .0
 
@@ -79,7 +79,7 @@ pub record At (st : Store) (y : ℕ) : Type 0 where
   pub back : Pass (st .facts) no-tag behind (drop (suc (place-of st y)) (row st)) no-tag
   pub chain : Chain (st .facts) (λ d. d < count st) no-tag before
 
-pub pass-at : {st : Store} → Sound st → (y : ℕ) → y < count st → At st y
+pub pass-at : {D : Type 0} {st : Store} → Sound-with D st → (y : ℕ) → y < count st → At st y
 pass-at {st} h y l =
     let fs = st .facts in
     let xs = take (place-of st y) (row st) in
@@ -110,7 +110,7 @@ pub record Section (st : Store) (x : ℕ) : Type 0 where
   pub back : Pass (st .facts) no-tag around behind no-tag
   pub inside : (gs : List Fact) → ((d : ℕ) → Alike (st .facts) gs d) → ((d : ℕ) → member d own ≡ true → Marked gs d) → Pass gs no-tag around own around
 
-member-middle : (v : ℕ) (xs ys : List ℕ) → member v (xs ++ (v ∷ ys)) ≡ true
+pub member-middle : (v : ℕ) (xs ys : List ℕ) → member v (xs ++ (v ∷ ys)) ≡ true
 member-middle v xs ys = rw (member-append v xs (v ∷ ys), member-first v ys) (or-true (member v xs))
 
 pass-element : (fs gs : List Fact) → ((d : ℕ) → Alike fs gs d) → (o x n : ℕ) (xs : List ℕ) → Begins fs o x n → Pass fs x x xs x →
@@ -134,7 +134,7 @@ pass-element fs gs alike o x n xs s p c marked =
       pass-join gs no-tag x x o xs (m ∷ []) middle (o, ends (own .tag) close, refl),
     )
 
-module _ {st : Store} (h : Sound st) (x : ℕ) (l : x < count st) where
+module _ {D : Type 0} {st : Store} (h : Sound-with D st) (x : ℕ) (l : x < count st) where
   place-in : (xs ys : List ℕ) (v : ℕ) → row st ≡ xs ++ (v ∷ ys) → place-of st v ≡ length xs
   place-in xs ys v e = ap (place v) e ∙ place-at xs v ys (rw e at (distinct-row h))
 

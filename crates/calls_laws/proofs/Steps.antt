@@ -26,6 +26,7 @@ use Rattle.calls.specs.Promise.{Load-sound, Insert-sound, Sheet-sound, Mark-sou
 use Rattle.calls_laws.proofs.Tests.{passes, Degrees, degrees-of, sound-of}
 use Rattle.calls_laws.proofs.Nesting.{nested-of, no-tag-fact}
 use Rattle.calls_laws.proofs.NewFacts.{length-new-facts, pass-new}
+use Rattle.calls_laws.proofs.Depths.{depths-test, depths-new}
 use Rattle.calls_laws.proofs.Marks.{mark-sound}
 use Rattle.calls_laws.proofs.Inserts.{insert-sound, rows-end}
 
@@ -64,9 +65,9 @@ load-sound w s r b cs e =
     let a = accepted-load w s r cs e in
     let n = length cs in
     let ks = map kind-of cs in
-    let fs = new-facts no-tag [] 0 ks in
+    let fs = new-facts no-tag [] 0 0 ks in
     let as-kinds : length ks ≡ n = length-map cs kind-of in
-    let counted : length fs ≡ n = length-new-facts no-tag [] 0 ks ∙ as-kinds in
+    let counted : length fs ≡ n = length-new-facts no-tag [] 0 0 ks ∙ as-kinds in
     let few : length fs ≤ no-tag = omega (arith, a .few) in
     let tags-are = tags-loaded s r n (a .degrees .r-least) in
     let free : fact-in fs no-tag .marked ≡ false = ap (λ (t : Fact). t .marked) (no-tag-fact fs few) in
@@ -77,7 +78,8 @@ load-sound w s r b cs e =
       few = rw counted (a .few);
       as-many = size-loaded s r n (a .degrees .r-least) ∙ sym counted;
       each = rw (counted, tags-are) (all-below-numbers n);
-      nesting = nested-of fs no-tag _ (rw tags-are (rw as-kinds at (pass-new fs few no-tag free 0 no-tag [] 0 ks [] refl refl (a .nesting) refl)));
+      nesting = nested-of fs no-tag _ (rw tags-are (rw as-kinds at (pass-new fs few no-tag free 0 no-tag [] 0 0 ks [] refl refl (a .nesting) refl)));
+      depths = depths-test fs 0 _ 0 (rw tags-are (rw as-kinds at (depths-new fs few 0 0 no-tag [] 0 0 ks [] refl refl (a .nesting) refl)));
       stamp-fits = omega arith;
     })
 

@@ -13,7 +13,7 @@ use Rattle.tree.specs.Forest.{size, within-limits}
 use Rattle.tree.specs.Book.{height, root-within, book-within}
 use Rattle.tree.specs.Promise.{Sane}
 use Rattle.calls.specs.Store.{Store, count, row, height-fits, marked-count}
-use Rattle.calls.specs.Nesting.{nested}
+use Rattle.calls.specs.Nesting.{nested, depths-right}
 use Rattle.calls.specs.Sound.{degrees-fit, tree-sound, row-sound, stamp-sound, sound}
 
 -- a call that is not refused passes each test
@@ -44,8 +44,8 @@ unfolding degrees-fit
 degrees-test s r d =
     and-both (and-both (le-leb _ _ (d .s-least)) (le-leb _ _ (d .s-most))) (and-both (le-leb _ _ (d .r-least)) (le-leb _ _ (d .r-most)))
 
--- document 01's "Sound means", as facts
-pub record Sound (st : Store) : Type 0 where
+-- document 01's "Sound means", as facts, with what is known of depths (document 02, CR 7) left open: laws of rows and nesting do not ask
+pub record Sound-with (known : Type 0) (st : Store) : Type 0 where
   pub degrees : Degrees (st .book .s) (st .book .r)
   pub labels-fit : height-fits st (height (st .book)) ≡ true
   pub within : book-within (st .book) ≡ true
@@ -53,7 +53,12 @@ pub record Sound (st : Store) : Type 0 where
   pub as-many : length (row st) ≡ count st
   pub each : all-below (count st) (row st) ≡ true
   pub nesting : nested (st .facts) no-tag (row st) ≡ true
+  pub depths : known
   pub stamp-fits : st .stamp ≤ count st + marked-count (st .facts)
+
+-- of a sound store that they are right
+abbrev pub Sound : Store → Type 0
+Sound st = Sound-with (depths-right (st .facts) 0 (row st) ≡ true) st
 
 pub sane : {st : Store} → Sound st → Sane (st .book)
 sane h = record { s-least = h .degrees .s-least; r-least = h .degrees .r-least; within = h .within }
@@ -73,8 +78,11 @@ root-limits {st} h =
 pub facts-of : (st : Store) → sound st ≡ true → Sound st
 unfolding sound tree-sound row-sound stamp-sound
 facts-of st e =
-    let front = and-left (tree-sound st && row-sound st) (nested (st .facts) no-tag (row st) && stamp-sound st) e in
-    let back = and-right (tree-sound st && row-sound st) (nested (st .facts) no-tag (row st) && stamp-sound st) e in
+    let nesting = nested (st .facts) no-tag (row st) in
+    let depths = depths-right (st .facts) 0 (row st) in
+    let front = and-left (tree-sound st && row-sound st) ((nesting && depths) && stamp-sound st) e in
+    let back = and-right (tree-sound st && row-sound st) ((nesting && depths) && stamp-sound st) e in
+    let passes = and-left (nesting && depths) (stamp-sound st) back in
     let tree = and-left (tree-sound st) (row-sound st) front in
     let tags = and-right (tree-sound st) (row-sound st) front in
     let limits = and-right (degrees-fit (st .book .s) (st .book .r)) (height-fits st (height (st .book)) && book-within (st .book)) tree in
@@ -87,8 +95,9 @@ facts-of st e =
       few = leb-true _ _ (and-left (leb (count st) most-tags) (eqb (length (row st)) (count st) && all-below (count st) (row st)) tags);
       as-many = eqb-true _ _ (and-left (eqb (length (row st)) (count st)) (all-below (count st) (row st)) numbers);
       each = and-right (eqb (length (row st)) (count st)) (all-below (count st) (row st)) numbers;
-      nesting = and-left (nested (st .facts) no-tag (row st)) (stamp-sound st) back;
-      stamp-fits = leb-true _ _ (and-right (nested (st .facts) no-tag (row st)) (stamp-sound st) back);
+      nesting = and-left nesting depths passes;
+      depths = and-right nesting depths passes;
+      stamp-fits = leb-true _ _ (and-right (nesting && depths) (stamp-sound st) back);
     }
 
 pub sound-of : (st : Store) → Sound st → sound st ≡ true
@@ -97,4 +106,4 @@ sound-of st h =
     and-both
     (and-both (and-both (degrees-test _ _ (h .degrees)) (and-both (h .labels-fit) (h .within)))
     (and-both (le-leb _ _ (h .few)) (and-both (eq-eqb _ _ (h .as-many)) (h .each))))
-    (and-both (h .nesting) (le-leb _ _ (h .stamp-fits)))
+    (and-both (and-both (h .nesting) (h .depths)) (le-leb _ _ (h .stamp-fits)))

@@ -1,11 +1,13 @@
 -- Demand 2 over words: the held-pair question answers by what stands along next, and a held pair holds the label words.
 -- Assumes nothing.
 use mathlib.Core.Path.{_≡_, refl, sym, _∙_}
-use mathlib.Core.Bool.{Bool, true, false, false≢true}
+use mathlib.Core.Bool.{Bool, true, false}
 use mathlib.Core.List.{List}
 use mathlib.Core.Logic.{_↔_, _⊎_, inl, inr}
 use Prim.Native.Nat.{ℕ, _%_, _<_}
 use native.Mathlib.Omega.{arith}
+use borrow.Author.Tests.{eqb-true, eq-eqb}
+use lib.Dec.{eqb}
 use Rattle.store_types.specs.declared.HeldPair.{HeldPair}
 use Rattle.store_types.specs.declared.Answer.{Answer}
 use Rattle.store_types.specs.declared.Answer.the-variants.{Yes, No, Stale}
@@ -32,20 +34,14 @@ use Rattle.demands.proofs.Said.{sound-said, tag-said, book-row}
 use Rattle.demands.proofs.Places.{stand-of, places-of}
 
 -- A BEGIN by its word
-begin-word : (k : Kind) (m : Bool) → is-begin k ≡ true → kind-word k m % 16 ≡ 1
+pub begin-code : (k : Kind) (m : Bool) → eqb (kind-word k m % 16) 1 ≡ is-begin k
 unfolding is-begin kind-word code
-begin-word begin true e = refl
-begin-word begin false e = refl
-begin-word end m e = absurd (false≢true e)
-begin-word text m e = absurd (false≢true e)
-
-word-begin : (k : Kind) (m : Bool) → kind-word k m % 16 ≡ 1 → is-begin k ≡ true
-unfolding is-begin kind-word code
-word-begin begin m e = refl
-word-begin end true e = absurd (omega arith)
-word-begin end false e = absurd (omega arith)
-word-begin text true e = absurd (omega arith)
-word-begin text false e = absurd (omega arith)
+begin-code begin true = refl
+begin-code begin false = refl
+begin-code end true = refl
+begin-code end false = refl
+begin-code text true = refl
+begin-code text false = refl
 
 -- WORDS THAT SAY A STORE: what is asked of the one is asked of the other
 module _ (ws : List ℕ) (st : Store) (h : Says ws st) where
@@ -67,7 +63,7 @@ module _ (ws : List ℕ) (st : Store) (h : Says ws st) where
         record {
           tag = omega (arith, a .tag);
           other = omega (arith, a .other);
-          begin = rw (tag-said ws st h (p .tag .0) (a .tag) .kind-is) (begin-word (fact st (p .tag .0) .kind) _ (a .begin));
+          begin = rw (tag-said ws st h (p .tag .0) (a .tag) .kind-is) (eqb-true _ 1 (begin-code (fact st (p .tag .0) .kind) _ ∙ a .begin));
         }
 
     said-asked : (d : ℕ) → Asked-words p d ws → Asked p d st
@@ -77,7 +73,7 @@ module _ (ws : List ℕ) (st : Store) (h : Says ws st) where
         record {
           tag = tag;
           other = omega (arith, a .other);
-          begin = word-begin (fact st (p .tag .0) .kind) _ (rw (tag-said ws st h (p .tag .0) tag .kind-is) at (a .begin));
+          begin = sym (begin-code (fact st (p .tag .0) .kind) _) ∙ eq-eqb _ 1 (rw (tag-said ws st h (p .tag .0) tag .kind-is) at (a .begin));
         }
 
     module _ (l : p .tag .0 < count st) where

@@ -21,7 +21,7 @@ use Rattle.tree_laws.proofs.Rows.{member-numbers}
 use Rattle.calls.specs.Kind.{Kind, kind-of}
 use Rattle.calls.specs.Store.{Store, Fact, no-fact, fact, unmarked, count, row, width, label}
 use Rattle.calls.specs.Nesting.{new-facts}
-use Rattle.calls.specs.Insert.{insert-kinds, position, up-at, book-after, insert-store, insert-moved, insert-sheet-store}
+use Rattle.calls.specs.Insert.{insert-kinds, position, up-at, depth-at, book-after, insert-store, insert-moved, insert-sheet-store}
 use Rattle.calls.specs.Mark.{within, mark-store, new-marks, mark-count, section-refusal}
 use Rattle.calls.specs.Words.{words-of, Says}
 use Rattle.calls.specs.Replies.{said, refusal-over, insert-refused, insert-reply, insert-words, insert-sheet-refused, insert-sheet-reply, insert-sheet-words, mark-reply, mark-words}
@@ -67,16 +67,16 @@ unfolding is-marked
 mark-said ws st says x l = rw (tag-said ws st says x l .kind-is) (kind-back (fact st x .kind) (fact st x .marked) .1)
 
 -- a reply that says so is that of an accepted insertion
-inserted-said : (k : ℕ) (x y : TagId) (m h m′ h′ : ℕ) → replied inserting.Refused k (inserting.Inserted x m h) ≡ inserting.Inserted y m′ h′ → (k ≡ 0) × (m ≡ m′)
+pub inserted-said : (k : ℕ) (x y : TagId) (m h m′ h′ : ℕ) → replied inserting.Refused k (inserting.Inserted x m h) ≡ inserting.Inserted y m′ h′ → (k ≡ 0) × (m ≡ m′) × (x ≡ y)
 inserted-said k x y m h m′ h′ e =
-    let (z, same) = replied-accepted inserting.Refused k (inserting.Inserted x m h) (inserting.Inserted y m′ h′) (λ i f. let n : _≡_ {A = ℕ} 0 1 = cc in omega arith) e in (z, cc)
+    let (z, same) = replied-accepted inserting.Refused k (inserting.Inserted x m h) (inserting.Inserted y m′ h′) (λ i f. let n : _≡_ {A = ℕ} 0 1 = cc in omega arith) e in (z, cc, cc)
 
 -- A ROW OF KINDS at a place: the store afterwards has the tags of the one before, marked or not as they were, and the book with
 -- the new tags. The empty row leaves the store
 still : (ks : List Kind) (y x : ℕ) (st : Store) → x < count st → x < count (insert-sheet-store ks y st)
 unfolding insert-sheet-store insert-store
 still [] y x st l = l
-still (k ∷ ks) y x st l = omega (arith, length-append (st .facts) (new-facts (up-at y st) [] (count st) (k ∷ ks)))
+still (k ∷ ks) y x st l = omega (arith, length-append (st .facts) (new-facts (up-at y st) [] (depth-at y st) (count st) (k ∷ ks)))
 
 mark-same : (ks : List Kind) (y x : ℕ) (st : Store) → x < count st → unmarked (insert-sheet-store ks y st) x ≡ unmarked st x
 unfolding insert-sheet-store Marks-stay
@@ -119,32 +119,32 @@ moved-words ks y ws vs st says says-after =
 
 -- the words after an accepted call say the store after it
 module _ (c : Change) (ws : List ℕ) (z : refusal-over ws (refusal (length ws) c) ≡ 0) where
-  says-before : Says ws (said ws)
+  pub says-before : Says ws (said ws)
   says-before = refusal-passed ws (refusal (length ws) c) z .0
 
-  says-then : Says (written (refusal-over ws (refusal (length ws) c)) (words-of (changed c (said ws))) ws) (changed c (said ws))
+  pub says-then : Says (written (refusal-over ws (refusal (length ws) c)) (words-of (changed c (said ws))) ws) (changed c (said ws))
   unfolding written replied Says
   says-then =
       rw z (says-in-front ws (changed c (said ws)) (changed-sound (length ws) c (said ws) (says-before .0) (refusal-passed ws (refusal (length ws) c) z .1)))
 
 -- an insertion's row is never empty
-insert-is-sheet : (c y : ℕ) (st : Store) → insert-store (insert-kinds c) y st ≡ insert-sheet-store (insert-kinds c) y st
+pub insert-is-sheet : (c y : ℕ) (st : Store) → insert-store (insert-kinds c) y st ≡ insert-sheet-store (insert-kinds c) y st
 unfolding insert-kinds insert-sheet-store
 insert-is-sheet c y st = by-test (eqb c 1) (λ e. rw e) (λ e. rw e)
 
-says-same : (vs : List ℕ) {st su : Store} → st ≡ su → Says vs st → Says vs su
+pub says-same : (vs : List ℕ) {st su : Store} → st ≡ su → Says vs st → Says vs su
 says-same vs e h = rw e at h
 
 pub moved-right : Moved-right
 unfolding Moved-right insert-reply insert-words insert-refused refusal changed
 moved-right c y x m h ws e =
-    let (z, same) = inserted-said (insert-refused c y ws) _ (record { 0 = x }) _ _ m h e in
+    let (z, same, first) = inserted-said (insert-refused c y ws) _ (record { 0 = x }) _ _ m h e in
     sym same ∙ moved-words (insert-kinds c) y ws (insert-words c y ws) (said ws) (says-before (insert c y) ws z) (says-same (insert-words c y ws) (insert-is-sheet c y (said ws)) (says-then (insert c y) ws z))
 
 pub sheet-moved-right : Sheet-moved-right
 unfolding Sheet-moved-right insert-sheet-reply insert-sheet-words insert-sheet-refused refusal changed
 sheet-moved-right cs y x m h ws e =
-    let (z, same) = inserted-said (insert-sheet-refused cs y ws) _ (record { 0 = x }) _ _ m h e in
+    let (z, same, first) = inserted-said (insert-sheet-refused cs y ws) _ (record { 0 = x }) _ _ m h e in
     sym same ∙ moved-words (map kind-of cs) y ws (insert-sheet-words cs y ws) (said ws) (says-before (sheet cs y) ws z) (says-then (sheet cs y) ws z)
 
 -- MARKED

@@ -3,6 +3,7 @@ pub mod Refusals
 pub mod RunsKeep
 pub mod EveryCall
 pub mod Differences
+pub mod Depths
 pub mod Runs
 pub mod Places
 pub mod Asked

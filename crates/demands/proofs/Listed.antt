@@ -28,6 +28,7 @@ use Rattle.calls.specs.Replies.{said, refusal-over, list-refused, list-reply, l
 use Rattle.calls_laws.proofs.Tests.{Sound, passes}
 use Rattle.calls_laws.proofs.Nesting.{Step, begins, ends, stands, Closed}
 use Rattle.calls_laws.proofs.Sections.{place-at, place-first-part, place-middle-part, place-last-part, distinct-row, row-below, row-at, At, pass-at, closed-at}
+use Rattle.calls_laws.proofs.Around.{those-none}
 use Rattle.calls_laws.proofs.WordSteps.{refusal-passed}
 use Rattle.demands.specs.Words.{is-marked, unmarked-of, Inside}
 use Rattle.demands.specs.Promise.{List-right}
@@ -36,11 +37,6 @@ use Rattle.demands.proofs.EveryCall.{list-fronted}
 use Rattle.demands.proofs.Asked.{marked-said, label-said}
 
 -- THE LISTED TAGS of a row, part by part
-listed-none : (st : Store) (x : ℕ) (xs : List ℕ) → ((d : ℕ) → member d xs ≡ true → is-listed st x d ≡ false) → those (is-listed st x) xs ≡ []
-unfolding those
-listed-none st x [] none = refl
-listed-none st x (d ∷ ds) none = rw (none d (member-first d ds)) (listed-none st x ds (λ v m. none v (member-later v d ds m)))
-
 listed-unmarked : (st : Store) (ws : List ℕ) (x : ℕ) (xs : List ℕ) → ((d : ℕ) → member d xs ≡ true → is-listed st x d ≡ not (is-marked ws d)) →
     those (is-listed st x) xs ≡ unmarked-of ws xs
 unfolding those unmarked-of
@@ -148,8 +144,8 @@ module _ (ws : List ℕ) (st : Store) (h : Says ws st) where
               ∙ (parted
               ∙ rw (
                 later,
-                listed-none st x front not-before,
-                listed-none st x (mate ∷ c .behind) not-behind,
+                those-none (is-listed st x) front not-before,
+                those-none (is-listed st x) (mate ∷ c .behind) not-behind,
                 listed-unmarked st ws x (c .inside) inside-listed,
                 append-nil (unmarked-of ws (c .inside)),
               ));

@@ -1,6 +1,6 @@
 -- Words that are sound by document 01's sentences say a store, and words that say one are sound. Assumes nothing.
 use mathlib.Core.Path.{_≡_, refl, ap, sym, _∙_}
-use mathlib.Core.Bool.{Bool, true, false, _||_}
+use mathlib.Core.Bool.{Bool, true, false, _&&_, _||_}
 use mathlib.Core.List.{List, [], _∷_, map, headD, reverseAux}
 use mathlib.Core.Option.{Option, none, some}
 use Prim.Native.Nat.{ℕ, suc, _*_, _-_, _^_, _≤_, _<_}
@@ -12,8 +12,9 @@ use lib.ListN.{length, length-map}
 use Rattle.store_types.specs.Limits.{no-tag}
 use Rattle.store_types.specs.Layout.{at-s, at-r, at-height, at-count, at-first, header-words, at-next, at-prior, word-at, words-for, field, label-at}
 use Rattle.lists.proofs.Tests.{by-test, and-right}
-use Rattle.lists.specs.Lists.{numbers}
+use Rattle.lists.specs.Lists.{numbers, how-many}
 use Rattle.lists.proofs.Numbers.{length-numbers}
+use Rattle.lists.proofs.Those.{length-those}
 use Rattle.tree.specs.Good.{Good}
 use Rattle.tree.specs.Row.{member, all-below}
 use Rattle.tree.specs.Forest.{Forest, leaves, labels, within-limits}
@@ -22,14 +23,18 @@ use Rattle.tree.specs.Promise.{Labels-rise}
 use Rattle.tree_laws.proofs.Rows.{distinct-all-below, member-numbers, member-first, member-later}
 use Rattle.tree_laws.proofs.Good.{good-of}
 use Rattle.tree_laws.proofs.Labels.{labels-rise}
-use Rattle.calls.specs.Kind.{Kind, begin, end, text, code, kind-word}
+use Rattle.calls.specs.Kind.{Kind, begin, end, text, code, kind-word, is-begin}
 use Rattle.calls.specs.Store.{Store, fact, count, row, width}
+use Rattle.calls.specs.Held.{encloses, around}
 use Rattle.calls.specs.Words.{Says, header-width, read}
 use Rattle.calls.specs.Replies.{on-store, refusal-over}
-use Rattle.calls.specs.Promise.{Reader-right}
+use Rattle.calls.specs.Promise.{Depth-right, Reader-right}
 use Rattle.calls_laws.proofs.Widths.{fits-limit, limit-fits, store-widths, header-widths, store-powers, header-powers}
 use Rattle.calls_laws.proofs.Heights.{height-limit}
-use Rattle.calls_laws.proofs.Tests.{Sound, sane, root-limits}
+use Rattle.calls_laws.proofs.Tests.{Sound-with, Sound, sane, root-limits}
+use Rattle.calls_laws.proofs.Fields.{Tag-says}
+use Rattle.calls_laws.proofs.Sections.{row-below}
+use Rattle.calls_laws.proofs.Around.{those-same, counted, depth-right}
 use Rattle.calls_laws.proofs.WordSteps.{words-fit, refusal-said, header-said, labels-said}
 use Rattle.calls_laws.proofs.Reader.{reader-right}
 use Rattle.walk_model.proofs.Passes.{Linked, kinds-pass, total, mark-word}
@@ -37,9 +42,10 @@ use Rattle.walk_model.proofs.Shapes.{Header}
 use Rattle.walk_model.proofs.Counts.{total-same, marks-same}
 use Rattle.walk_model.proofs.Found.{found, found-said}
 use Rattle.demands.specs.Words.{Met, is-marked, count-below}
-use Rattle.demands.specs.Sound.{Sound-words}
+use Rattle.demands.specs.Sound.{stands-around, Sound-words}
 use Rattle.demands.specs.Promise.{Says-some, Sound-says, Unsound-two}
 use Rattle.demands.proofs.Said.{sound-said, tag-said, book-row}
+use Rattle.demands.proofs.Asked.{begin-code}
 use Rattle.demands.proofs.Differences.{count-total}
 use Rattle.demands.proofs.Digits.{spelled-forest, forest-spells}
 use Rattle.demands.proofs.Stacks.{nests-said, under-said, mates-said, passes-nested}
@@ -76,6 +82,16 @@ marks-count ws n xs many each =
     let (once, below) = distinct-all-below n xs each many in
     total-same (mark-word ws) xs (numbers 0 n) once (λ v m. member-numbers v 0 n (omega arith) (omega (arith, below v m))) (omega (arith, length-numbers 0 n))
     ∙ count-total (mark-word ws) _ n (λ x l. refl)
+
+-- DEPTHS BY PLACES over words are those by the store's facts
+around-said : {D : Type 0} (ws : List ℕ) (st : Store) → Sound-with D st → ((x : ℕ) → x < count st → Tag-says ws st x) → (x : ℕ) →
+    length (around st x) ≡ how-many (stands-around ws (row st) x) (row st)
+unfolding around encloses stands-around
+around-said ws st own says x =
+    let test : ℕ → Bool = λ b. is-begin (fact st b .kind) && encloses st b x in
+    ap length (those-same test (stands-around ws (row st) x) (row st)
+    (λ b m. let t = says b (row-below own b m) in rw (t .kind-is, t .mate-word, begin-code (fact st b .kind) (fact st b .marked))))
+    ∙ length-those (stands-around ws (row st) x) (row st)
 
 -- FROM THE SENTENCES to a store
 module _ (ws : List ℕ) (h : Sound-words ws) where
@@ -136,11 +152,14 @@ module _ (ws : List ℕ) (h : Sound-words ws) where
       (rw levels at (h .rise)) (rw levels at (h .spells))
 
   sound-says-some : Says-some ws
+  unfolding found
   sound-says-some =
-      let (f, good, tags, numbers-are) = forest in (
-        found ws s r u n f,
+      let (f, good, tags, numbers-are) = forest in
+      let st = found ws s r u n f in (
+        st,
         found-said ws header f good (ap length tags ∙ h .as-many) (rw tags links) (rw tags numbers-are) (rw tags kinds-are)
-            (rw tags (omega (arith, h .stamp, marks-count ws n (h .row) (h .as-many) (h .each)))),
+            (rw tags (omega (arith, h .stamp, marks-count ws n (h .row) (h .as-many) (h .each))))
+            (λ own says. counted own (λ x l. sym (says x l .depth-is) ∙ (rw tags (h .depths x (omega (arith, own .as-many, ap length tags, h .as-many))) ∙ sym (around-said ws st own says x)))),
       )
 
 -- FROM A STORE to the sentences
@@ -168,7 +187,7 @@ module _ (ws : List ℕ) (st : Store) (h : Says ws st) where
   tag-below x l = omega (arith, header-said ws st h .issued)
 
   says-sound : Sound-words ws
-  unfolding words-for Labels-rise
+  unfolding words-for Labels-rise Says Depth-right
   says-sound =
       let head = header-said ws st h in
       let limits = root-limits own in
@@ -194,6 +213,7 @@ module _ (ws : List ℕ) (st : Store) (h : Says ws st) where
             (leb-true (2 * k .r ^ k .under) (count st) (rw (ne-eqb (k .under) 0 (λ e. omega (arith, head .levels))) at (limits .1)));
         kinds = λ x l. rw (tag-said ws st h x (tag-below x l) .kind-is) (word-small (fact st x .kind) (fact st x .marked));
         nesting = nests-said ws st h;
+        depths = λ x l. tag-said ws st h x (tag-below x l) .depth-is ∙ (depth-right st x (h .0) (tag-below x l) ∙ around-said ws st own (tag-said ws st h) x);
         marks-under = λ x l. under-said ws st h x (tag-below x l);
         marks-mates = λ x l. mates-said ws st h x (tag-below x l);
         stamp =

@@ -13,15 +13,16 @@ use Rattle.store_types.specs.declared.MarkReply.the-variants.{Marked}
 use Rattle.store_types.specs.declared.HoldReply.the-variants as hold-said
 use Rattle.store_types.specs.declared.QuestionReply.the-variants as question-said
 use Rattle.store_types.specs.declared.ListReply.the-variants as list-said
-use Rattle.store_types.specs.Layout.{at-count, at-book, header-words, at-mate, at-kind, word-at, field, label-at}
+use Rattle.store_types.specs.Layout.{at-count, at-book, header-words, at-mate, at-kind, at-depth, word-at, field, label-at}
 use Rattle.calls.specs.Store.{Store}
 use Rattle.calls.specs.Sound.{sound}
 use Rattle.calls.specs.Load.{load-store}
+use Rattle.calls.specs.Insert.{depth-at}
 use Rattle.calls.specs.Listing.{listed-tags, listed-labels}
 use Rattle.calls.specs.Words.{words-of, Says}
 use Rattle.calls.specs.File.{file-of}
 use Rattle.calls.specs.Replies.{said, refusal-over, load-reply, load-words, insert-reply, insert-words, insert-sheet-reply, insert-sheet-words, mark-reply, mark-words, hold-reply, question-reply, list-reply, list-tags, list-labels, read-reply, read-words}
-use Rattle.calls.specs.Changes.{after, judged}
+use Rattle.calls.specs.Changes.{load, insert, sheet, mark, after, judged}
 use Rattle.calls.specs.Reference.{Reference, total, reference-load, reference-after}
 use Rattle.calls.specs.Promise.{Kept, Words-kept}
 use Rattle.system.specs.System.{System, Reading, hold, ask, list, write, Call, changes, reads, keeps, acts, restores, load-with-grants, restore-with-grants, finding-numbers, Reply, loaded, refusal-in, accepted, finding, reading-lists, reply, step}
@@ -91,6 +92,33 @@ Sheet-moved-right =
 
 unfoldable pub Marked-right : Type 0
 Marked-right = (x n : ℕ) (ws : List ℕ) → mark-reply x ws ≡ Marked n → n ≡ became-marked ws (mark-words x ws)
+
+-- DEPTHS over words (document 02, CR 7). Whether a call puts another book in place
+unfoldable pub loads-book : Call → Bool
+loads-book (changes (load s r b cs)) = true
+loads-book (changes (insert c x)) = false
+loads-book (changes (sheet cs x)) = false
+loads-book (changes (mark x)) = false
+loads-book (reads r) = false
+loads-book (keeps k) = false
+loads-book (acts p a) = false
+loads-book (restores bs) = true
+loads-book (load-with-grants s r b cs) = true
+loads-book (restore-with-grants bs) = true
+
+-- no other call changes the depth word of a tag that was there before it
+unfoldable pub Depths-stay : Type 0
+Depths-stay =
+    (c : Call) (y : System) (x : ℕ) → loads-book c ≡ false → x < word-at (y .words) at-count →
+    field (step c y .words) x at-depth ≡ field (y .words) x at-depth
+
+-- the depth word of an insertion's first tag is the depth at its place; of a sheet's too, where it has one
+pub record New-depths : Type 0 where
+  pub of-one :
+      (c y x m h : ℕ) (ws : List ℕ) → insert-reply c y ws ≡ Inserted (record { 0 = x }) m h → field (insert-words c y ws) x at-depth ≡ depth-at y (said ws)
+  pub of-sheet :
+      (cs : List ℕ) (y x m h : ℕ) (ws : List ℕ) → 1 ≤ length cs → insert-sheet-reply cs y ws ≡ Inserted (record { 0 = x }) m h →
+      field (insert-sheet-words cs y ws) x at-depth ≡ depth-at y (said ws)
 
 -- DEMAND 3, of every list of calls after an accepted load in which no file read is accepted, over the words and the replies: exactly
 -- the changes that the definitions refuse were refused, and the words, the reference list, which is fed calls and acceptances alone, and

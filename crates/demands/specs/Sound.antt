@@ -1,16 +1,17 @@
--- Soundness as document 01 writes it ("Sound means"), over words alone: the digits of labels, and mates and ups by a stack.
+-- Soundness as document 01 writes it ("Sound means"), and document 02, CR 7, of depth, over words alone: the digits of labels, mates
+-- and ups by a stack, depths by places.
 -- Assumes nothing: these are definitions.
 use mathlib.Core.Path.{_≡_}
-use mathlib.Core.Bool.{true}
+use mathlib.Core.Bool.{Bool, true, _&&_}
 use mathlib.Core.List.{List, [], _∷_, map, headD}
 use mathlib.Core.Logic.{_⊎_}
 use Prim.Native.Nat.{ℕ, suc, _+_, _*_, _-_, _/_, _%_, _^_, _≤_, _<_}
-use lib.Dec.{eqb}
+use lib.Dec.{ltb, eqb}
 use lib.ListN.{length}
 use Rattle.lists.specs.Lists.{how-many}
 use Rattle.store_types.specs.Limits.{no-tag, label-limit, most-tags}
-use Rattle.store_types.specs.Layout.{at-version, at-s, at-r, at-height, at-count, at-stamp, header-words, at-mate, at-up, at-kind, tag-words, word-at, field, label-at}
-use Rattle.tree.specs.Row.{member, all-below, rises}
+use Rattle.store_types.specs.Layout.{at-version, at-s, at-r, at-height, at-count, at-stamp, header-words, at-mate, at-up, at-kind, at-depth, tag-words, word-at, field, label-at}
+use Rattle.tree.specs.Row.{member, place, all-below, rises}
 use Rattle.tree.specs.Book.{base}
 use Rattle.demands.specs.Words.{Book-row, is-marked, count-below}
 
@@ -43,6 +44,11 @@ Nests ws os (x ∷ xs) =
     × (os ≡ o ∷ around) × (field ws x at-mate ≡ o) × (field ws o at-mate ≡ x) × (field ws x at-up ≡ headD around no-tag) × Nests ws around xs))
     ⊎ ((field ws x at-kind % 16 ≡ 3) × (field ws x at-mate ≡ x) × (field ws x at-up ≡ headD os no-tag) × Nests ws os xs)
 
+-- DEPTHS by places in a row: whether b is a begin that stands before x and whose mate stands after it
+unfoldable pub stands-around : List ℕ → (row : List ℕ) → (tag b : ℕ) → Bool
+stands-around ws xs x b =
+    eqb (field ws b at-kind % 16) 1 && (ltb (place b xs) (place x xs) && ltb (place x xs) (place (field ws b at-mate) xs))
+
 -- SOUND, sentence by sentence
 pub record Sound-words (ws : List ℕ) : Type 0 where
   -- the value 1; words suffice; ranges; b^H ≤ 2^32
@@ -67,6 +73,8 @@ pub record Sound-words (ws : List ℕ) : Type 0 where
   -- kinds are 1, 2, 3, 17, 18, 19; mates and ups spell proper nesting
   pub kinds : (x : ℕ) → x < word-at ws at-count → field ws x at-kind < 32
   pub nesting : Nests ws [] row
+  -- depth is the number of elements around a tag
+  pub depths : (x : ℕ) → x < word-at ws at-count → field ws x at-depth ≡ how-many (stands-around ws row x) row
   -- a tag under a marked begin is marked, and mates are marked together
   pub marks-under : (x : ℕ) → x < word-at ws at-count → (field ws x at-up ≡ no-tag → ⊥) → is-marked ws (field ws x at-up) ≡ true → is-marked ws x ≡ true
   pub marks-mates : (x : ℕ) → x < word-at ws at-count → is-marked ws (field ws x at-mate) ≡ is-marked ws x

@@ -8,7 +8,7 @@ use lib.Dec.{eqb}
 use lib.ListN.{set, replicate}
 use Rattle.store_types.specs.Limits.{no-tag}
 use Rattle.lists.specs.Lists.{same, numbers}
-use Rattle.store_types.specs.Layout.{at-height, at-first, header-words, word-at, words-for, at-version, at-s, at-r, at-count, at-stamp, at-next, at-prior, at-mate, at-up, at-kind, tag-words}
+use Rattle.store_types.specs.Layout.{at-height, at-first, header-words, word-at, words-for, at-version, at-s, at-r, at-count, at-stamp, at-next, at-prior, at-mate, at-up, at-kind, at-depth, tag-words}
 use Rattle.tree.specs.Forest.{spread}
 use Rattle.calls.specs.Kind.{text}
 use Rattle.calls.specs.Store.{Store}
@@ -27,7 +27,7 @@ wide-book n =
       book = record { s = 13; r = 2; under = 5; root = spread 5 2 (numbers 0 n) };
       number = 7;
       stamp = 0;
-      facts = new-facts no-tag [] 0 (replicate n text);
+      facts = new-facts no-tag [] 0 0 (replicate n text);
     }
 
 -- its nodes keep their limits; at 831 tags a text gives 7, at 830 an element does and a text does not; with a word too few 6
@@ -63,7 +63,9 @@ damages =
     -- next past a tag, and round in a circle; a prior
     of-tag 0 at-next 2 ∷ of-tag 5 at-next 0 ∷ of-tag 1 at-prior no-tag ∷
     -- a mate; an up; a kind that is none, one that does not nest, a begin marked without its end or what is inside
-    of-tag 1 at-mate 4 ∷ of-tag 1 at-up no-tag ∷ of-tag 1 at-kind 4 ∷ of-tag 2 at-kind 1 ∷ of-tag 1 at-kind 17 ∷ of-tag 0 at-kind 17 ∷ []
+    of-tag 1 at-mate 4 ∷ of-tag 1 at-up no-tag ∷ of-tag 1 at-kind 4 ∷ of-tag 2 at-kind 1 ∷ of-tag 1 at-kind 17 ∷ of-tag 0 at-kind 17 ∷
+    -- a depth: a begin's counted as around itself, an end's as inside, one of none
+    of-tag 0 at-depth 1 ∷ of-tag 2 at-depth 2 ∷ of-tag 1 at-depth 0 ∷ of-tag 3 at-depth no-tag ∷ []
 
 unfoldable pub all-refused : List Damage → Bool
 all-refused [] = true

@@ -10,7 +10,7 @@ use lib.Dec.{ltb, eqb}
 use lib.ListN.{length, getD, drop, replicate, set, length-set, length-append, length-replicate, getD-replicate, List·getD-append, List·getD-eq-default}
 use lib.Seq.{getD-set-same, getD-set-other, getD-append-add, set-append-left, take-at}
 use Rattle.store_types.specs.Limits.{no-tag, most-tags}
-use Rattle.store_types.specs.Layout.{at-height, at-count, at-first, at-stamp, header-words, label-words, at-next, at-prior, at-mate, at-up, at-kind, tag-words, word-at, words-for, field, label-at, with-field, Room}
+use Rattle.store_types.specs.Layout.{at-height, at-count, at-first, at-stamp, header-words, label-words, at-next, at-prior, at-mate, at-up, at-kind, at-depth, tag-words, word-at, words-for, field, label-at, with-field, Room}
 use Rattle.lists.proofs.Numbers.{length-numbers, getD-numbers}
 use Rattle.lists.proofs.Tests.{by-test, fails}
 use Rattle.lists.specs.Lists.{numbers}
@@ -286,6 +286,7 @@ module _ {v : Image} (h : Proper v) (p : ℕ) (fits : p ≤ length (v .tags)) (t
         (linked-kept x at-mate (omega arith) (λ e. omega arith) (λ e. omega arith) ∙ says .mate-word ∙ rw same)
         (linked-kept x at-up (omega arith) (λ e. omega arith) (λ e. omega arith) ∙ says .up-word ∙ rw same)
         (linked-kept x at-kind (omega arith) (λ e. omega arith) (λ e. omega arith) ∙ says .kind-is ∙ rw same)
+        (linked-kept x at-depth (omega arith) (λ e. omega arith) (λ e. omega arith) ∙ says .depth-is ∙ rw same)
 
   -- the record of a new tag
   module _ (i : ℕ) (inside : i < length ts) where
@@ -326,6 +327,7 @@ module _ {v : Image} (h : Proper v) (p : ℕ) (fits : p ≤ length (v .tags)) (t
         (own-word at-mate (omega arith) (λ e. omega arith) (λ e. omega arith) ∙ rw fact-is)
         (own-word at-up (omega arith) (λ e. omega arith) (λ e. omega arith) ∙ rw fact-is)
         (own-word at-kind (omega arith) (λ e. omega arith) (λ e. omega arith) ∙ rw fact-is)
+        (own-word at-depth (omega arith) (λ e. omega arith) (λ e. omega arith) ∙ rw fact-is)
 
   linked-header : Heads (linked v p ts) (set (image-header v) at-first (getD (insert-at p ns (v .tags)) 0 no-tag))
   linked-header i small =

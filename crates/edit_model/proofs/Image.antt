@@ -63,7 +63,7 @@ own-label v x l = sym (label-front (image-words v) [] x (image-room v x l)) ∙ 
 abbrev pub Record-says : (ws : List ℕ) (v : Image) (x : ℕ) → Type 0
 Record-says ws v x =
     let t = fact-in (v .facts) x in
-    Record-holds ws x (getD (v .labels) (place x (v .tags)) 0) (next-in (v .tags) x) (prior-in (v .tags) x) (t .mate) (t .up) (kind-word (t .kind) (t .marked))
+    Record-holds ws x (getD (v .labels) (place x (v .tags)) 0) (next-in (v .tags) x) (prior-in (v .tags) x) (t .mate) (t .up) (kind-word (t .kind) (t .marked)) (t .depth)
 
 pub record-says : (v : Image) (rest : List ℕ) (x : ℕ) → x < length (v .facts) → Record-says (image-words v ++ rest) v x
 unfolding image-words image-record

@@ -3,7 +3,7 @@
 use mathlib.Core.Path.{_≡_, refl, ap, sym, _∙_}
 use mathlib.Core.Bool.{Bool, true, false, cond}
 use mathlib.Core.List.{List, [], _∷_, _++_, map}
-use mathlib.Core.Logic.{_⊎_, inl, inr}
+use mathlib.Core.Logic.{_⊎_, inl, inr, ⊎-elim}
 use Prim.Native.Nat.{ℕ, suc, _+_, _*_, _-_, _≤_, _<_}
 use native.Mathlib.Nat.{one-mul}
 use native.Mathlib.Omega.{arith}
@@ -12,7 +12,7 @@ use lib.Dec.{leb, eqb}
 use lib.ListN.{length, getD, drop, replicate, length-append, length-replicate}
 use lib.Seq.{getD-append-add}
 use Rattle.store_types.specs.Limits.{no-tag, most-tags}
-use Rattle.store_types.specs.Layout.{at-s, at-r, at-height, header-words, word-at, words-for}
+use Rattle.store_types.specs.Layout.{at-s, at-r, at-height, at-kind, header-words, word-at, words-for, field}
 use Rattle.lists.specs.Lists.{numbers}
 use Rattle.lists.proofs.Tests.{by-test}
 use Rattle.lists.proofs.Numbers.{length-numbers}
@@ -20,7 +20,7 @@ use Rattle.lists.specs.Fronts.{in-front}
 use Rattle.powers.specs.Tables.{entry}
 use Rattle.shape.specs.Tables.{widths-of}
 use Rattle.powers.proofs.TableLaws.{table-at}
-use Rattle.words.specs.Places.{up-word}
+use Rattle.words.specs.Places.{up-word, depth-word}
 use Rattle.tree.specs.Row.{member, insert-at}
 use Rattle.tree.specs.Forest.{size}
 use Rattle.tree.specs.Book.{Book, height, labels-of, base, inserted-row}
@@ -30,10 +30,10 @@ use Rattle.tree_laws.proofs.Rows.{Apart, member-first, member-later, getD-place
 use Rattle.tree_laws.proofs.Insertion.{sane-inserted-row, tags-inserted-row}
 use Rattle.tree_laws.proofs.RowFlat.{Row-flat, row-flat, row-with, row-shift, row-levels, row-lower}
 use Rattle.tree_laws.proofs.RowsGrow.{rows-grow}
-use Rattle.calls.specs.Kind.{Kind, begin, end, text, code, kind-word, is-begin}
+use Rattle.calls.specs.Kind.{Kind, begin, end, text, code, kind-word, is-begin, opens-after}
 use Rattle.calls.specs.Store.{Store, Fact, no-fact, fact, count, row, width, height-fits}
 use Rattle.calls.specs.Nesting.{new-facts}
-use Rattle.calls.specs.Insert.{position, up-at, book-after, insert-store, insert-moved, insert-split}
+use Rattle.calls.specs.Insert.{position, up-at, depth-at, book-after, insert-store, insert-moved, insert-split}
 use Rattle.calls.specs.Words.{words-of, Says}
 use Rattle.calls_laws.proofs.Tests.{Sound, sane}
 use Rattle.calls_laws.proofs.Fields.{length-words, Tag-says, tag-says, header-says}
@@ -96,7 +96,7 @@ module _ (ws : List ℕ) (st : Store) (says : Says ws st) (ks : List Kind) (y : 
   own : Sound st
   own = sound-said ws st says
 
-  -- the place, and the up of what goes in there
+  -- the place, and the up and the depth of what goes in there
   pub place-said : place-tag st (position y st) ≡ y
   unfolding position
   place-said = go (a .place)
@@ -105,15 +105,23 @@ module _ (ws : List ℕ) (st : Store) (says : Says ws st) (ks : List Kind) (y : 
       go (inl e) = rw (eq-eqb y no-tag e) (sym e)
       go (inr l) = rw (ne-eqb y no-tag (λ e. omega (arith, own .few, l .0))) (getD-place y (row st) no-tag (in-row own y (l .0)))
 
+  -- the front, or a tag whose words say what the store does
+  by-place : {G : Type 0} → (eqb y no-tag ≡ true → G) → (eqb y no-tag ≡ false → Tag-says ws st y → eqb (field ws y at-kind) 1 ≡ is-begin (fact st y .kind) → G) → G
+  unfolding Says
+  by-place at-front at-tag =
+      ⊎-elim
+      (λ e. at-front (eq-eqb y no-tag e))
+      (λ l. let tag : Tag-says ws st y = rw (says .1 .1) (tag-says st (says .1 .0) y (l .0)) in
+      at-tag (ne-eqb y no-tag (λ e. omega (arith, own .few, l .0))) tag (rw (tag .kind-is, l .1) (begin-word (fact st y .kind))))
+      (a .place)
+
   pub up-said : up-word ws y ≡ up-at y st
-  unfolding up-word up-at Says
-  up-said = go (a .place)
-    where
-      go : (y ≡ no-tag) ⊎ ((y < count st) × (fact st y .marked ≡ false)) → up-word ws y ≡ up-at y st
-      go (inl e) = rw (eq-eqb y no-tag e)
-      go (inr l) =
-          let tag : Tag-says ws st y = rw (says .1 .1) (tag-says st (says .1 .0) y (l .0)) in
-          rw (ne-eqb y no-tag (λ e. omega (arith, own .few, l .0)), tag .kind-is, l .1, begin-word (fact st y .kind), tag .up-word)
+  unfolding up-word up-at
+  up-said = by-place (λ e. rw e) (λ e tag begins. rw (e, begins, tag .up-word))
+
+  pub depth-said : depth-word ws y ≡ depth-at y st
+  unfolding depth-word depth-at opens-after
+  depth-said = by-place (λ e. rw e) (λ e tag begins. rw (e, begins, tag .depth-is))
 
   -- THE NEW TAGS: where they go, their numbers and facts, and the book with them
   abbrev p : ℕ
@@ -129,7 +137,7 @@ module _ (ws : List ℕ) (st : Store) (says : Says ws st) (ks : List Kind) (y : 
   ns = numbers n k
 
   abbrev ts : List Fact
-  ts = new-facts (up-at y st) [] n ks
+  ts = new-facts (up-at y st) [] (depth-at y st) n ks
 
   abbrev after : Book
   after = inserted-row k p n (st .book)
@@ -141,7 +149,7 @@ module _ (ws : List ℕ) (st : Store) (says : Says ws st) (ks : List Kind) (y : 
   q = plan-of ws k (place-tag st p)
 
   facts-long : length ts ≡ k
-  facts-long = length-new-facts (up-at y st) [] n ks
+  facts-long = length-new-facts (up-at y st) [] (depth-at y st) n ks
 
   numbers-long : length ns ≡ k
   numbers-long = length-numbers n k
@@ -290,7 +298,7 @@ module _ (ws : List ℕ) (st : Store) (says : Says ws st) (ks : List Kind) (y : 
   new-passes =
       all-pass (unmarked-by (st .facts ++ ts)) ns (λ x new.
       let behind : n + (x - n) ≡ x = omega (arith, number-bounds x n k new) in
-      let free = new-unmarked (up-at y st) [] n ks (x - n) in
+      let free = new-unmarked (up-at y st) [] (depth-at y st) n ks (x - n) in
       rw (rw behind at (getD-append-add (st .facts) ts (x - n) no-fact), free))
 
   apart : Apart ns (row st)
@@ -312,7 +320,7 @@ module _ (ws : List ℕ) (st : Store) (says : Says ws st) (ks : List Kind) (y : 
   unfolding row-edit
   edit-is =
       let head = header-said ws st says in
-      rw (head .issued, head .degree-s, head .degree-r, up-said, raised-there, counted, place-said)
+      rw (head .issued, head .degree-s, head .degree-r, up-said, depth-said, raised-there, counted, place-said)
 
   stored : stamped-store su ≡ insert-store ks y st
   unfolding stamped-store insert-store book-after

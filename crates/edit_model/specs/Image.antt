@@ -29,7 +29,7 @@ image-header image =
 unfoldable pub image-record : Image → (tag : ℕ) → List ℕ
 image-record image x =
     let t = fact-in (image .facts) x in
-    record-list (getD (image .labels) (place x (image .tags)) 0) (next-in (image .tags) x) (prior-in (image .tags) x) (t .mate) (t .up) (kind-word (t .kind) (t .marked))
+    record-list (getD (image .labels) (place x (image .tags)) 0) (next-in (image .tags) x) (prior-in (image .tags) x) (t .mate) (t .up) (kind-word (t .kind) (t .marked)) (t .depth)
 
 unfoldable pub image-words : Image → List ℕ
 image-words image = image-header image ++ flatMap (image-record image) (numbers 0 (length (image .facts)))

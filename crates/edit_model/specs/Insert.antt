@@ -7,7 +7,7 @@ use lib.Dec.{ltb, leb, eqb}
 use lib.ListN.{length, take, drop, replicate, set}
 use Rattle.store_types.specs.Limits.{no-tag}
 use Rattle.store_types.specs.Layout.{at-s, at-r, at-height, at-count, at-first, at-stamp, header-words, at-next, at-prior, record-list, word-at, words-for, label-at, with-field}
-use Rattle.words.specs.Places.{behind, up-word, watched-label}
+use Rattle.words.specs.Places.{behind, up-word, depth-word, watched-label}
 use Rattle.powers.specs.Tables.{entry, table-length}
 use Rattle.shape.specs.Tables.{widths-of, highs-of}
 use Rattle.tree.specs.Forest.{labels}
@@ -24,7 +24,7 @@ use Rattle.edit_model.specs.Split.{Border, highest-full, left-border}
 -- NEW TAGS from number x on with their records, one behind the other between two tags. Their labels are none that a tag can
 -- have, so that each counts as moved where it is numbered.
 unfoldable pub new-record : (next prior : ℕ) → Fact → List ℕ
-new-record next prior t = record-list no-tag next prior (t .mate) (t .up) (kind-word (t .kind) (t .marked))
+new-record next prior t = record-list no-tag next prior (t .mate) (t .up) (kind-word (t .kind) (t .marked)) (t .depth)
 
 unfoldable pub row-records : (x prior next : ℕ) → List Fact → List ℕ
 row-records x y z [] = []
@@ -42,6 +42,10 @@ linked-place ws y n = cond (eqb y no-tag) (set ws at-first n) (with-field ws y a
 
 unfoldable pub linked-next : List ℕ → (next n : ℕ) → List ℕ
 linked-next ws x n = cond (eqb x no-tag) ws (with-field ws x at-prior n)
+
+-- the facts of tags of these kinds from number n on behind a place, by its words
+abbrev pub facts-at : List ℕ → (n place : ℕ) → (kinds : List Kind) → List Fact
+facts-at ws n y ks = new-facts (up-word ws y) [] (depth-word ws y) n ks
 
 unfoldable pub added-row : List ℕ → (n place : ℕ) → List Fact → List ℕ
 added-row ws n y ts =
@@ -137,7 +141,7 @@ row-edit ks y ws =
     let n = word-at ws at-count in
     let k = length ks in
     let p = plan-of ws k y in
-    let vs = raised-words (added-row ws n y (new-facts (up-word ws y) [] n ks)) (p .height) in
+    let vs = raised-words (added-row ws n y (facts-at ws n y ks)) (p .height) in
     let q = applied vs (widths-of vs) (word-at ws at-s) (word-at ws at-r) (n + k) p in
     record { words = q .words; moved = q .moved - k; split = p .height }
 

@@ -2,8 +2,8 @@
 ghost use mathlib.Core.Path.{_≡_};
 ghost use Prim.Native.Nat.{suc, _+_, _≤_, _<_};
 ghost use lib.ListN.{length, drop};
-ghost use Rattle.store_types.specs.Layout.{header-words, tag-words, word-at};
-ghost use Rattle.store_types.specs.FileLayout.{front-bytes, row-words, row-bytes, file-bytes};
+ghost use Rattle.store_types.specs.Layout.{header-words, word-at};
+ghost use Rattle.store_types.specs.FileLayout.{kept-words, front-bytes, row-words, row-bytes, file-bytes};
 ghost use Rattle.calls.specs.File.{header-in, count-in, begins as begins-so, tags-formed as tags-formed-so, formed as formed-so, rows-in};
 ghost use Rattle.file_model.specs.Judge.{row-word as word-of-row};
 ghost use Rattle.file_form.specs.Needs.{Row-there};
@@ -52,9 +52,9 @@ pub fn row_word(bytes: &[u8], i: u32, k: usize) -> u32
     little_endian::u32_at(bytes, at + file::WORD_BYTES * k)
 }
 
-// Field k of the i-th tag's record, by its place in the store's record.
+// Field k of the i-th tag's record, by its place in the store's record, of which a file has all words but the depth.
 pub fn row_field(bytes: &[u8], i: u32, k: usize) -> u32
-    requires { ⌜ Row-there (now bytes) i × (k < tag-words) ⌝ }
+    requires { ⌜ Row-there (now bytes) i × (k < kept-words) ⌝ }
     ensures { λ v. ⌜ v ≡ word-of-row (rows-in (now (bytes .entry))) i (suc k) ⌝ }
 {
     row_word(bytes, i, file::AT_LABEL + k)

@@ -9,19 +9,19 @@ use native.Mathlib.Omega.{arith}
 use borrow.Author.Tests.{eq-eqb, eqb-true, ne-eqb, lt-ltb, ltb-true, not-true}
 use lib.Dec.{ltb, eqb}
 use lib.ListN.{length, getD, take, drop, length-map, drop-of-length-le}
-use lib.Seq.{drop-cons, take-at, ext-getD}
+use lib.Seq.{drop-cons, take-at, getD-take, ext-getD}
 use Rattle.lists.specs.Lists.{numbers, same}
 use Rattle.lists.proofs.Same.{same-refl}
 use Rattle.lists.proofs.Tests.{and-left, and-right, and-both, fails}
 use Rattle.store_types.specs.Limits.{no-tag}
-use Rattle.store_types.specs.Layout.{at-count, at-first, header-words, at-next, tag-words, word-at}
-use Rattle.store_types.specs.FileLayout.{row-words, at-number}
+use Rattle.store_types.specs.Layout.{at-count, at-first, header-words, at-next, word-at}
+use Rattle.store_types.specs.FileLayout.{kept-words, row-words, at-number}
 use Rattle.tree.specs.Row.{member, place}
 use Rattle.tree_laws.proofs.Rows.{Distinct, member-nil, member-other, member-getD, place-getD, distinct-all-below}
 use Rattle.calls.specs.Store.{Store, count, row, next-in}
 use Rattle.calls.specs.Sound.{sound}
 use Rattle.calls.specs.Words.{header, tag-record, words-of, Says}
-use Rattle.calls.specs.File.{form, tag-row, file-of, header-in, count-in, formed, rows-in, row-number, record-in, file-words, own-file, read-formed, read-file}
+use Rattle.calls.specs.File.{form, tag-row, file-of, header-in, count-in, formed, rows-in, row-number, deepened, record-in, file-words, own-file, read-formed, read-file}
 use Rattle.calls.specs.Replies.{on-store}
 use Rattle.calls.specs.Promise.{File-reader-right}
 use Rattle.calls_laws.proofs.Tests.{Sound, facts-of}
@@ -121,7 +121,7 @@ module _ (bs : List ℕ) (st : Store) (says : Says (file-words bs) st)
   header-same : header-in bs ≡ header st
   unfolding Says file-words words-of header
   header-same =
-      sym (take-at (header-in bs) (flatMap (record-in (rows-in bs)) (numbers 0 (count-in bs))) header-words (length-header-in bs))
+      sym (take-at (header-in bs) (flatMap (record-in (deepened 0 (rows-in bs))) (numbers 0 (count-in bs))) header-words (length-header-in bs))
       ∙ ap (take header-words) (says .1 .1)
 
   as-many : count-in bs ≡ count st
@@ -134,15 +134,15 @@ module _ (bs : List ℕ) (st : Store) (says : Says (file-words bs) st)
   in-place : (i : ℕ) → i < count st → In-order (count-in bs) (word-at (header-in bs) at-first) [] (rows-in bs) i
   in-place i l = ordered (count-in bs) (word-at (header-in bs) at-first) [] (rows-in bs) order i (omega (arith, length-rows bs, as-many))
 
-  -- a row's words behind its number are those of its tag's record
-  row-said : (i k : ℕ) → i < count st → k < tag-words → row-word (rows-in bs) i (suc k) ≡ getD (tag-record st (number i)) k 0
+  -- a row's words after its number are those of its tag's record
+  row-said : (i k : ℕ) → i < count st → k < kept-words → row-word (rows-in bs) i (suc k) ≡ getD (tag-record st (number i)) k 0
   unfolding Says
   row-said i k l small =
       let h = in-place i l in
       let fresh : member (number i) (met-before (rows-in bs) i) ≡ false = rw append-nil at (h .fresh) in
       let own : number i < count st = omega (arith, h .own, as-many) in
-      sym (fresh-field bs i k (omega (arith, as-many)) (h .own) fresh small)
-      ∙ (rw (says .1 .1) (field-word st (says .1 .0) (number i) own k small))
+      sym (fresh-field bs i (omega (arith, as-many)) (h .own) fresh k small)
+      ∙ (rw (says .1 .1) (field-word st (says .1 .0) (number i) own k (omega arith)))
 
   -- the i-th row has the number of the i-th tag
   number-said : (i : ℕ) → i < count st → number i ≡ getD (row st) i no-tag
@@ -162,7 +162,10 @@ module _ (bs : List ℕ) (st : Store) (says : Says (file-words bs) st)
     where
       go : (k : ℕ) → k < row-words → row-word (rows-in bs) i k ≡ getD (tag-row st (getD (row st) i no-tag)) k 0
       go zero small = number-said i l
-      go (suc k) small = row-said i k l (omega arith) ∙ ap (λ (x : ℕ). getD (tag-record st x) k 0) (number-said i l)
+      go (suc k) small =
+          row-said i k l (omega arith)
+          ∙ ap (λ (x : ℕ). getD (tag-record st x) k 0) (number-said i l)
+          ∙ sym (getD-take kept-words (tag-record st (getD (row st) i no-tag)) k 0 (omega arith))
 
   rows-same : rows-in bs ≡ map (tag-row st) (row st)
   rows-same =

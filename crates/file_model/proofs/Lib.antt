@@ -1,4 +1,5 @@
 pub mod Places
 pub mod Rows
+pub mod RowKinds
 pub mod Judged
 pub mod Written

@@ -1,25 +1,26 @@
--- Reading a file: how many rows there are and how long each is, the words that the file says word by word, and that a row whose
--- number no row before it has gives its tag's words. Assumes nothing.
+-- Reading a file: how many rows there are and how long each is, each with its depth, the words that the file says word by word, and
+-- that a row whose number no row before it has gives its tag's words. Assumes nothing.
 use mathlib.Core.Path.{_≡_, refl, ap, sym, _∙_}
 use mathlib.Core.Bool.{false}
 use mathlib.Core.List.{List, [], _∷_, _++_, append-nil}
-use Prim.Native.Nat.{ℕ, zero, suc, _+_, _<_}
+use Prim.Native.Nat.{ℕ, zero, suc, _+_, _≤_, _<_}
 use native.Mathlib.Nat.{not-suc-le-zero, le-of-suc-le-suc}
 use native.Mathlib.Omega.{arith}
 use borrow.Author.Tests.{eq-eqb, ne-eqb, eqb-false}
 use lib.Dec.{eqb}
-use lib.ListN.{length, getD, drop, length-drop}
-use lib.Seq.{getD-drop}
+use lib.ListN.{length, getD, drop, length-append, length-drop, List·getD-append}
+use lib.Seq.{getD-drop, getD-append-add}
 use Rattle.lists.proofs.Tests.{by-test, or-left-false, or-right-false}
-use Rattle.store_types.specs.Layout.{header-words, tag-words, words-for, field, label-at}
-use Rattle.store_types.specs.FileLayout.{front-bytes, row-words, row-bytes, at-number, at-label}
+use Rattle.store_types.specs.Layout.{header-words, at-depth, tag-words, words-for, field, label-at}
+use Rattle.store_types.specs.FileLayout.{kept-words, front-bytes, row-words, row-bytes, at-number, at-label}
 use Rattle.words.proofs.Records.{length-joined, field-joined, label-joined}
 use Rattle.tree.specs.Row.{member}
 use Rattle.tree_laws.proofs.Rows.{member-append}
-use Rattle.calls.specs.File.{words-in, header-in, count-in, rows-from, rows-in, row-number, record-in, file-words}
+use Rattle.calls.specs.Kind.{own-depth, depth-after}
+use Rattle.calls.specs.File.{header-in, count-in, rows-from, rows-in, row-kind, row-number, deepened, record-in, file-words}
 use Rattle.calls_laws.proofs.FileRecords.{length-words-in}
 use Rattle.calls_laws.proofs.FileForm.{length-rows}
-use Rattle.file_model.specs.Judge.{row-word, met-before}
+use Rattle.file_model.specs.Judge.{row-word, met-before, opens-before}
 
 -- HOW MANY WORDS AND ROWS
 
@@ -37,35 +38,80 @@ pub length-row : (bs : List ℕ) (i : ℕ) → i < count-in bs → length (getD 
 unfolding rows-in
 length-row bs = length-row-from (count-in bs) (drop row-bytes bs)
 
--- the record that rows give a tag, be it one of theirs or not
-length-record-from : (m : ℕ) (bs : List ℕ) (x : ℕ) → length (record-in (rows-from m bs) x) ≡ tag-words
-unfolding rows-from record-in
-length-record-from zero bs x = refl
-length-record-from (suc m) bs x =
-    let row = words-in row-words (drop front-bytes bs) in
-    by-test (eqb (row-number row) x)
-    (λ e. rw e (length-drop 1 row ∙ omega (arith, length-words-in row-words (drop front-bytes bs))))
-    (λ e. rw e (length-record-from m (drop row-bytes bs) x))
+abbrev pub All-long : List (List ℕ) → Type 0
+All-long rows = (i : ℕ) → i < length rows → length (getD rows i []) ≡ row-words
+
+pub all-long : (bs : List ℕ) → All-long (rows-in bs)
+all-long bs i l = length-row bs i (omega (arith, length-rows bs))
+
+-- EACH WITH ITS DEPTH (document 02, CR 7). The number of open begins before a row, seen from the first row on
+pub opens-later : (d : ℕ) (row : List ℕ) (rows : List (List ℕ)) (i : ℕ) → opens-before d (row ∷ rows) (suc i) ≡ opens-before (depth-after (row-kind row) d) rows i
+unfolding opens-before
+opens-later d row rows zero = refl
+opens-later d row rows (suc i) = ap (depth-after (row-kind (getD rows i []))) (opens-later d row rows i)
+
+length-deepened : (d : ℕ) (rows : List (List ℕ)) → length (deepened d rows) ≡ length rows
+unfolding deepened
+length-deepened d [] = refl
+length-deepened d (row ∷ rows) = ap suc (length-deepened (depth-after (row-kind row) d) rows)
+
+row-deepened : (d : ℕ) (rows : List (List ℕ)) (i : ℕ) → i < length rows →
+    getD (deepened d rows) i [] ≡ getD rows i [] ++ own-depth (row-kind (getD rows i [])) (opens-before d rows i) ∷ []
+unfolding deepened opens-before
+row-deepened d [] i l = absurd (not-suc-le-zero l)
+row-deepened d (row ∷ rows) zero l = refl
+row-deepened d (row ∷ rows) (suc i) l = rw (opens-later d row rows i) (row-deepened (depth-after (row-kind row) d) rows i (le-of-suc-le-suc l))
+
+-- the words of a row stay, and its depth is the last
+pub word-before : (row : List ℕ) (depth k : ℕ) → length row ≡ row-words → k < row-words → getD (row ++ depth ∷ []) k 0 ≡ getD row k 0
+word-before row depth k long small = List·getD-append row (depth ∷ []) 0 k (omega arith)
+
+pub depth-last : (row : List ℕ) (depth : ℕ) → length row ≡ row-words → getD (row ++ depth ∷ []) (suc at-depth) 0 ≡ depth
+depth-last row depth long = let last : suc at-depth ≡ length row + 0 = omega arith in rw last (getD-append-add row (depth ∷ []) 0 0)
+
+module _ (d : ℕ) (rows : List (List ℕ)) (long : All-long rows) where
+  word-kept : (i k : ℕ) → i < length rows → k < row-words → row-word (deepened d rows) i k ≡ row-word rows i k
+  word-kept i k l small = rw (row-deepened d rows i l) (word-before (getD rows i []) _ k (long i l) small)
+
+  depth-put : (i : ℕ) → i < length rows → row-word (deepened d rows) i (suc at-depth) ≡ own-depth (row-kind (getD rows i [])) (opens-before d rows i)
+  depth-put i l = rw (row-deepened d rows i l) (depth-last (getD rows i []) _ (long i l))
+
+  met-same : (i : ℕ) → i ≤ length rows → met-before (deepened d rows) i ≡ met-before rows i
+  unfolding met-before
+  met-same zero l = refl
+  met-same (suc i) l = rw (word-kept i at-number (omega arith) (omega arith), met-same i (omega arith))
+
+-- the record that such rows give a tag, be it one of theirs or not
+length-record-of : (d : ℕ) (rows : List (List ℕ)) (x : ℕ) → All-long rows → length (record-in (deepened d rows) x) ≡ tag-words
+unfolding deepened record-in
+length-record-of d [] x long = refl
+length-record-of d (row ∷ rows) x long =
+    let full = row ++ own-depth (row-kind row) d ∷ [] in
+    by-test (eqb (row-number full) x)
+    (λ e. rw e (length-drop 1 full ∙ omega (arith, length-append row (own-depth (row-kind row) d ∷ []), long 0 (omega arith))))
+    (λ e. rw e (length-record-of (depth-after (row-kind row) d) rows x (λ i l. long (suc i) (omega arith))))
 
 -- THE WORDS THAT A FILE SAYS: how many, and those of a tag
 module _ (bs : List ℕ) where
-  length-record : (x : ℕ) → length (record-in (rows-in bs) x) ≡ tag-words
-  unfolding rows-in
-  length-record = length-record-from (count-in bs) (drop row-bytes bs)
+  abbrev full-rows : List (List ℕ)
+  full-rows = deepened 0 (rows-in bs)
+
+  length-record : (x : ℕ) → length (record-in full-rows x) ≡ tag-words
+  length-record x = length-record-of 0 (rows-in bs) x (all-long bs)
 
   pub length-file-words : length (file-words bs) ≡ words-for header-words (count-in bs)
   unfolding file-words
-  length-file-words = length-joined (header-in bs) (record-in (rows-in bs)) (count-in bs) (length-header-in bs) length-record
+  length-file-words = length-joined (header-in bs) (record-in full-rows) (count-in bs) (length-header-in bs) length-record
 
-  pub field-read : (x k : ℕ) → x < count-in bs → k < tag-words → field (file-words bs) x k ≡ getD (record-in (rows-in bs) x) k 0
+  pub field-read : (x k : ℕ) → x < count-in bs → k < tag-words → field (file-words bs) x k ≡ getD (record-in full-rows x) k 0
   unfolding file-words
   field-read x k own small =
-      rw append-nil at (field-joined (header-in bs) (record-in (rows-in bs)) (count-in bs) (length-header-in bs) length-record [] x own k small)
+      rw append-nil at (field-joined (header-in bs) (record-in full-rows) (count-in bs) (length-header-in bs) length-record [] x own k small)
 
-  pub label-read : (x : ℕ) → x < count-in bs → label-at (file-words bs) x ≡ getD (record-in (rows-in bs) x) 0 0
+  pub label-read : (x : ℕ) → x < count-in bs → label-at (file-words bs) x ≡ getD (record-in full-rows x) 0 0
   unfolding file-words
   label-read x own =
-      rw append-nil at (label-joined (header-in bs) (record-in (rows-in bs)) (count-in bs) (length-header-in bs) length-record [] x own)
+      rw append-nil at (label-joined (header-in bs) (record-in full-rows) (count-in bs) (length-header-in bs) length-record [] x own)
 
 -- A ROW WHOSE NUMBER IS FRESH. The numbers before a row, seen from the first row on
 pub met-later : (row : List ℕ) (rows : List (List ℕ)) (i : ℕ) → met-before (row ∷ rows) (suc i) ≡ met-before rows i ++ (row-number row ∷ [])
@@ -86,20 +132,30 @@ fresh-record (row ∷ rows) (suc i) l fresh =
     rw (ne-eqb (row-number row) x (λ same. eqb-false x (row-number row) other (sym same)))
     (fresh-record rows i (le-of-suc-le-suc l) (or-left-false (member x (met-before rows i)) _ parts))
 
-fresh-word : (bs : List ℕ) (i k : ℕ) → i < count-in bs → member (row-word (rows-in bs) i at-number) (met-before (rows-in bs) i) ≡ false →
-    getD (record-in (rows-in bs) (row-word (rows-in bs) i at-number)) k 0 ≡ row-word (rows-in bs) i (suc k)
-fresh-word bs i k inside fresh =
-    let behind : 1 + k ≡ suc k = omega arith in
-    let first = fresh-record (rows-in bs) i (omega (arith, length-rows bs)) fresh in
-    ap (λ (ws : List ℕ). getD ws k 0) first ∙ (rw behind at (getD-drop 1 (getD (rows-in bs) i []) k 0))
+-- so the words that the file says of its tag are the row's, and the depth after them
+module _ (bs : List ℕ) (i : ℕ) (inside : i < count-in bs) (own : row-word (rows-in bs) i at-number < count-in bs)
+    (fresh : member (row-word (rows-in bs) i at-number) (met-before (rows-in bs) i) ≡ false) where
+  among : i < length (rows-in bs)
+  among = omega (arith, length-rows bs)
 
--- so the words that the file says of its tag are the row's
-pub fresh-field : (bs : List ℕ) (i k : ℕ) → i < count-in bs → row-word (rows-in bs) i at-number < count-in bs →
-    member (row-word (rows-in bs) i at-number) (met-before (rows-in bs) i) ≡ false → k < tag-words →
-    field (file-words bs) (row-word (rows-in bs) i at-number) k ≡ row-word (rows-in bs) i (suc k)
-fresh-field bs i k inside own fresh small = field-read bs (row-word (rows-in bs) i at-number) k own small ∙ fresh-word bs i k inside fresh
+  fresh-word : (k : ℕ) → getD (record-in (full-rows bs) (row-word (rows-in bs) i at-number)) k 0 ≡ row-word (full-rows bs) i (suc k)
+  fresh-word k =
+      let behind : 1 + k ≡ suc k = omega arith in
+      let number = word-kept 0 (rows-in bs) (all-long bs) i at-number among (omega arith) in
+      let met = met-same 0 (rows-in bs) (all-long bs) i (omega (arith, among)) in
+      let first = fresh-record (full-rows bs) i (rw (length-deepened 0 (rows-in bs)) among) (rw (number, met) fresh) in
+      ap (λ (ws : List ℕ). getD ws k 0) (rw number at first) ∙ (rw behind at (getD-drop 1 (getD (full-rows bs) i []) k 0))
 
-pub fresh-label : (bs : List ℕ) (i : ℕ) → i < count-in bs → row-word (rows-in bs) i at-number < count-in bs →
-    member (row-word (rows-in bs) i at-number) (met-before (rows-in bs) i) ≡ false →
-    label-at (file-words bs) (row-word (rows-in bs) i at-number) ≡ row-word (rows-in bs) i at-label
-fresh-label bs i inside own fresh = label-read bs (row-word (rows-in bs) i at-number) own ∙ fresh-word bs i 0 inside fresh
+  pub fresh-field : (k : ℕ) → k < kept-words → field (file-words bs) (row-word (rows-in bs) i at-number) k ≡ row-word (rows-in bs) i (suc k)
+  fresh-field k small =
+      field-read bs (row-word (rows-in bs) i at-number) k own (omega arith)
+      ∙ fresh-word k
+      ∙ word-kept 0 (rows-in bs) (all-long bs) i (suc k) among (omega arith)
+
+  pub fresh-label : label-at (file-words bs) (row-word (rows-in bs) i at-number) ≡ row-word (rows-in bs) i at-label
+  fresh-label =
+      label-read bs (row-word (rows-in bs) i at-number) own ∙ fresh-word 0 ∙ word-kept 0 (rows-in bs) (all-long bs) i at-label among (omega arith)
+
+  pub fresh-depth : field (file-words bs) (row-word (rows-in bs) i at-number) at-depth ≡ own-depth (row-kind (getD (rows-in bs) i [])) (opens-before 0 (rows-in bs) i)
+  fresh-depth =
+      field-read bs (row-word (rows-in bs) i at-number) at-depth own (omega arith) ∙ fresh-word at-depth ∙ depth-put 0 (rows-in bs) (all-long bs) i among

@@ -11,7 +11,7 @@ use lib.ListN.{length, getD, drop}
 use Rattle.lists.proofs.Tests.{by-test, or-left-false, or-right-false}
 use Rattle.lists.specs.Fronts.{in-front}
 use Rattle.lists.proofs.Fronts.{length-in-front, drop-in-front}
-use Rattle.store_types.specs.Layout.{header-words, label-words, at-next, at-prior, at-mate, at-up, at-kind, tag-words, word-at, words-for, field, label-at, with-field, with-label, Room}
+use Rattle.store_types.specs.Layout.{header-words, label-words, at-next, at-prior, at-mate, at-up, at-kind, at-depth, tag-words, word-at, words-for, field, label-at, with-field, with-label, Room}
 use Rattle.store_types.specs.FileLayout.{at-label}
 use Rattle.words.proofs.Fields.{header-fits, record-room, room-same, field-same, field-other-tag, field-other-word, label-same, label-other-tag, field-past-label, label-past-field, header-kept, header-kept-label, length-with-field, length-with-label, rest-with-field, rest-with-label}
 use Rattle.words.proofs.Records.{header-of, record-of, rebuilt}
@@ -20,9 +20,11 @@ use Rattle.tree_laws.proofs.Rows.{member-nil, member-cases, member-first, membe
 use Rattle.calls.specs.Store.{Store, count, row}
 use Rattle.calls.specs.Sound.{sound}
 use Rattle.calls.specs.Words.{header, tag-record, words-of}
-use Rattle.calls.specs.File.{tag-row, header-in, rows-in, row-number}
+use Rattle.calls.specs.File.{tag-row, header-in, rows-in, deepened, row-number}
 use Rattle.calls_laws.proofs.Tests.{facts-of}
 use Rattle.calls_laws.proofs.Fields.{length-words}
+use Rattle.calls_laws.proofs.Depths.{depths-of}
+use Rattle.calls_laws.proofs.Files.{full-row, rows-deepened}
 use Rattle.file_model.specs.Judge.{with-row, with-rows}
 
 -- ONE ROW. Words with the first m words of a row's record written over others: all else is as it was
@@ -71,11 +73,12 @@ field-written ws ns vs m past small h =
 pub row-written : (ws ns : List ℕ) → Row-written ws ns tag-words (with-row ws ns)
 unfolding with-row
 row-written ws ns =
-    field-written ws ns _ at-kind (omega arith) (omega arith)
+    field-written ws ns _ at-depth (omega arith) (omega arith)
+    (field-written ws ns _ at-kind (omega arith) (omega arith)
     (field-written ws ns _ at-up (omega arith) (omega arith)
     (field-written ws ns _ at-mate (omega arith) (omega arith)
     (field-written ws ns _ at-prior (omega arith) (omega arith)
-    (field-written ws ns _ at-next (omega arith) (omega arith) (label-written ws ns)))))
+    (field-written ws ns _ at-next (omega arith) (omega arith) (label-written ws ns))))))
 
 pub length-with-row : (ws ns : List ℕ) → length (with-row ws ns) ≡ length ws
 length-with-row ws ns = row-written ws ns .long
@@ -109,18 +112,19 @@ record-of-same vs ws x label f =
       f at-mate (omega arith) (omega arith),
       f at-up (omega arith) (omega arith),
       f at-kind (omega arith) (omega arith),
+      f at-depth (omega arith) (omega arith),
     )
 
--- THE ROWS OF A STORE'S TAGS, over any words that have room for their records
+-- THE ROWS OF A STORE'S TAGS with their depths, over any words that have room for their records
 module _ (st : Store) where
   abbrev written : (ws xs : List ℕ) → List ℕ
-  written ws xs = with-rows ws (map (tag-row st) xs)
+  written ws xs = with-rows ws (map (full-row st) xs)
 
   -- a row writes its tag's record, and keeps those of others
-  tag-written : (ws : List ℕ) (x : ℕ) → Room ws x → record-of (with-row ws (tag-row st x)) x ≡ tag-record st x
-  unfolding tag-row tag-record
+  tag-written : (ws : List ℕ) (x : ℕ) → Room ws x → record-of (with-row ws (full-row st x)) x ≡ tag-record st x
+  unfolding tag-record
   tag-written ws x room =
-      let h = row-written ws (tag-row st x) in
+      let h = row-written ws (full-row st x) in
       rw (
         h .own-label room,
         h .own-field room at-next (omega arith) (omega arith),
@@ -128,16 +132,17 @@ module _ (st : Store) where
         h .own-field room at-mate (omega arith) (omega arith),
         h .own-field room at-up (omega arith) (omega arith),
         h .own-field room at-kind (omega arith) (omega arith),
+        h .own-field room at-depth (omega arith) (omega arith),
       )
 
   record-kept : (ws xs : List ℕ) (y : ℕ) → member y xs ≡ false → record-of (written ws xs) y ≡ record-of ws y
-  unfolding with-rows member tag-row
+  unfolding with-rows member
   record-kept ws [] y out = refl
   record-kept ws (x ∷ xs) y out =
-      let h = row-written ws (tag-row st x) in
+      let h = row-written ws (full-row st x) in
       let other = eqb-false y x (or-left-false (eqb y x) (member y xs) out) in
-      record-kept (with-row ws (tag-row st x)) xs y (or-right-false (eqb y x) (member y xs) out)
-      ∙ record-of-same (with-row ws (tag-row st x)) ws y (h .other-label y other) (λ k past small. h .other-field y k other past small)
+      record-kept (with-row ws (full-row st x)) xs y (or-right-false (eqb y x) (member y xs) out)
+      ∙ record-of-same (with-row ws (full-row st x)) ws y (h .other-label y other) (λ k past small. h .other-field y k other past small)
 
   -- so rows write the record of each of their tags; one that stands twice writes the same again
   records-written : (ws xs : List ℕ) → ((x : ℕ) → member x xs ≡ true → Room ws x) → (y : ℕ) → member y xs ≡ true →
@@ -145,9 +150,9 @@ module _ (st : Store) where
   unfolding with-rows
   records-written ws [] rooms y m = absurd (false≢true (sym (member-nil y) ∙ m))
   records-written ws (x ∷ xs) rooms y m =
-      let vs = with-row ws (tag-row st x) in
+      let vs = with-row ws (full-row st x) in
       let later : (z : ℕ) → member z xs ≡ true → Room vs z =
-      λ z k. room-same (rooms z (member-later z x xs k)) (length-with-row ws (tag-row st x)) in
+      λ z k. room-same (rooms z (member-later z x xs k)) (length-with-row ws (full-row st x)) in
       by-test (member y xs) (λ k. records-written vs xs later y k)
       (λ out. member-cases y x xs m
       (λ e. record-kept vs xs y out ∙ (rw e (tag-written ws x (rooms x (member-first x xs)))))
@@ -156,11 +161,11 @@ module _ (st : Store) where
   -- and where each tag is one of n, what stands past the records of n tags is kept
   rest-written : (n : ℕ) (ws xs : List ℕ) → ((x : ℕ) → member x xs ≡ true → x < n) →
       drop (words-for header-words n) (written ws xs) ≡ drop (words-for header-words n) ws
-  unfolding with-rows tag-row
+  unfolding with-rows
   rest-written n ws [] own = refl
   rest-written n ws (x ∷ xs) own =
-      rest-written n (with-row ws (tag-row st x)) xs (λ z k. own z (member-later z x xs k))
-      ∙ row-written ws (tag-row st x) .rest n (own x (member-first x xs))
+      rest-written n (with-row ws (full-row st x)) xs (λ z k. own z (member-later z x xs k))
+      ∙ row-written ws (full-row st x) .rest n (own x (member-first x xs))
 
 -- A SOUND STORE'S HEADER AND ROWS leave its words
 module _ (st : Store) (ws : List ℕ) (e : sound st ≡ true) (long : words-for header-words (count st) ≤ length ws) where
@@ -172,11 +177,11 @@ module _ (st : Store) (ws : List ℕ) (e : sound st ≡ true) (long : words-for 
   length-front = length-in-front (header st) ws (omega (arith, header-fits (count st)))
 
   length-all : length (written st front (row st)) ≡ length ws
-  length-all = length-with-rows front (map (tag-row st) (row st)) ∙ length-front
+  length-all = length-with-rows front (map (full-row st) (row st)) ∙ length-front
 
   header-written : header st ≡ header-of (written st front (row st))
   unfolding header in-front
-  header-written = sym (header-of-same (written st front (row st)) front (header-with-rows front (map (tag-row st) (row st))))
+  header-written = sym (header-of-same (written st front (row st)) front (header-with-rows front (map (full-row st) (row st))))
 
   own : (x : ℕ) → member x (row st) ≡ true → x < count st
   own = distinct-all-below (count st) (row st) (facts-of st e .each) (facts-of st e .as-many) .1
@@ -198,5 +203,7 @@ module _ (st : Store) (ws : List ℕ) (e : sound st ≡ true) (long : words-for 
       ∙ rw (rest-kept, length-words st)
 
 pub rows-written : (bs : List ℕ) (st : Store) (ws : List ℕ) → sound st ≡ true → rows-in bs ≡ map (tag-row st) (row st) → header-in bs ≡ header st →
-    words-for header-words (count st) ≤ length ws → with-rows (in-front (header-in bs) ws) (rows-in bs) ≡ in-front (words-of st) ws
-rows-written bs st ws e rows-are header-is long = rw (rows-are, header-is) (store-written st ws e long)
+    words-for header-words (count st) ≤ length ws → with-rows (in-front (header-in bs) ws) (deepened 0 (rows-in bs)) ≡ in-front (words-of st) ws
+rows-written bs st ws e rows-are header-is long =
+    let deep = depths-of (st .facts) 0 (row st) (facts-of st e .depths) in
+    rw (rows-are, header-is, rows-deepened st 0 (row st) (deep .0) (deep .1)) (store-written st ws e long)

@@ -8,32 +8,33 @@ use Prim.Native.Nat.{ℕ, zero, suc, _+_, _*_, _-_, _%_, _≤_, _<_}
 use native.Mathlib.Numerals.{add-one}
 use native.Mathlib.Decide.{ℕ-discrete}
 use native.Mathlib.Omega.{arith}
-use borrow.Author.Tests.{eq-eqb, ne-eqb, eqb-true, ltb-true, not-true, not-false}
-use lib.Dec.{eqb}
+use borrow.Author.Tests.{ne-eqb, eqb-true, ltb-true, not-true, not-false}
+use lib.Dec.{leb, eqb}
 use lib.ListN.{length, getD, set, drop, replicate, drop-of-length-le, List·getD-append}
 use lib.Seq.{drop-cons}
 use Rattle.store_types.specs.Limits.{no-tag, most-tags}
-use Rattle.store_types.specs.declared.TagId.{TagId}
-use Rattle.words.specs.declared.Offset.{Offset}
 use Rattle.words.specs.Offsets.{offset-of}
-use Rattle.store_types.specs.Layout.{at-first, at-stamp, header-words, at-next, at-kind, word-at, field}
+use Rattle.store_types.specs.Layout.{at-first, at-stamp, header-words, at-next, at-kind, at-depth, word-at, field}
 use Rattle.tree.specs.Row.{member}
+use Rattle.calls.specs.Kind.{word-kind, is-end, own-depth, opens-after, depth-after}
 use Rattle.calls.specs.File.{header-in, count-in, rows-in, file-words}
 use Rattle.calls_laws.proofs.FileForm.{length-rows}
-use Rattle.kind_pick.specs.Needs.{Kind-word}
-use Rattle.walk_model.specs.Walk.{kind-fits}
+use Rattle.walk_model.specs.Walk.{kind-fits, depth-fits, depth-after as word-after}
+use Rattle.walk_model.proofs.Found.{word-back}
+use Rattle.walk_model.proofs.Depths.{own-test, depth-by}
 use Rattle.walk_tags.proofs.TagLaws.{kind-fitting}
 use Rattle.powers.specs.Tables.{table-length}
 use Rattle.shape.specs.Packed.{widths-in, lows-in, highs-in}
-use Rattle.walk.specs.Needs.{Standing, Behind, shape-with, shape-in, state-with, ends-from}
+use Rattle.walk.specs.Needs.{Standing, Behind, shape-with, shape-in, first-state, state-with, ends-from}
 use Rattle.walk.proofs.PassLaws.{walk-at, walk-whole, walk-start, standing-start}
 use Rattle.walk.specs.declared.State as code
 use Rattle.number_set.specs.Bits.{set-words, Holds}
 use Rattle.number_set.proofs.SetLaws.{holds-none}
-use Rattle.file_model.specs.Judge.{row-word, met-before, in-order}
-use Rattle.file_model.proofs.Rows.{length-header-in, fresh-field, fresh-label}
-use Rattle.file_tags.specs.Needs.{number-at, Row-read, depth-behind, number-passes}
-use Rattle.file_pass.specs.Needs.{Opened, order-left, Met-so-far, File-fits, first-state, too-deep, Judged-so}
+use Rattle.file_model.specs.Judge.{row-word, met-before, opens-before, in-order}
+use Rattle.file_model.proofs.Rows.{length-header-in, fresh-field, fresh-label, fresh-depth}
+use Rattle.file_model.proofs.RowKinds.{word-tests, opens-few}
+use Rattle.file_tags.specs.Needs.{number-at, Row-read, number-passes}
+use Rattle.file_pass.specs.Needs.{Opened, order-left, Met-so-far, File-fits, too-deep, Judged-so}
 use Rattle.file_pass.proofs.OpenLaws.{end-deep, opened-more, too-many-open}
 
 -- THE ORDER: a is whether the row's number passes
@@ -64,7 +65,13 @@ module _ (bs : List ℕ) (i x : ℕ) {a whole : Bool} (more : i < count-in bs) (
         let own = parts .0 .0 in
         let below : number-at bs i < count-in bs = rw own (parts .0 .1) in
         let fresh : member (number-at bs i) (met-before (rows-in bs) i) ≡ false = rw own (parts .1) in
-        record { inside = more; below = below; label = fresh-label bs i more below fresh; fields = λ k small. fresh-field bs i k more below fresh small }
+        record {
+          inside = more;
+          below = below;
+          label = fresh-label bs i more below fresh;
+          fields = fresh-field bs i more below fresh;
+          depth = fresh-depth bs i more below fresh;
+        }
 
     pub order-more : order-left bs (i + 1) (row-word (rows-in bs) i (suc at-next)) ≡ whole
     unfolding order-left met-before
@@ -93,48 +100,60 @@ top-read bs i opens (suc d) o top reads (before, own, rest) is some =
 reads-more : (bs : List ℕ) (i : ℕ) → ((j : ℕ) → j < i → Row-read bs j) → Row-read bs i → (j : ℕ) → j < suc i → Row-read bs j
 reads-more bs i reads read j l = by-cases (ℕ-discrete j i) (λ e. rw e read) (λ ne. reads j (omega arith))
 
-depth-most : (c d i : ℕ) → d ≤ i → depth-behind c d ≤ suc i
-depth-most c d i l =
-    by-cases (ℕ-discrete (c % 16) 1) (λ e. rw (eq-eqb (c % 16) 1 e) (omega arith))
-    (λ ne. by-cases (ℕ-discrete (c % 16) 2) (λ e. rw (ne-eqb (c % 16) 1 ne, eq-eqb (c % 16) 2 e) (omega arith))
-    (λ no. rw (ne-eqb (c % 16) 1 ne, ne-eqb (c % 16) 2 no) (omega arith)))
+-- no more begins are open than tags stand before
+pub shallow : {bs met opens : List ℕ} {v : code.State} → Met-so-far bs v met opens → v .depth ≤ v .place
+shallow {bs} {v = v} so-far = rw (so-far .counted) (opens-few (rows-in bs) (v .place))
 
-module _ (bs : List ℕ) (v : code.State) (met opens : List ℕ) (depth : ℕ) (so-far : Met-so-far bs v met opens depth) (own : v .tag .0 ≡ number-at bs (v .place)) (read : Row-read bs (v .place))
-    (room : depth < length opens) (fits : kind-fits (file-words bs) (count-in bs) (v .parent .0) (v .tag .0) (field (file-words bs) (v .tag .0) at-kind) ≡ true) where
-  fits-row : kind-fits (file-words bs) (count-in bs) (v .parent .0) (number-at bs (v .place)) (field (file-words bs) (number-at bs (v .place)) at-kind) ≡ true
+module _ (bs : List ℕ) (v : code.State) (met opens : List ℕ) (so-far : Met-so-far bs v met opens) (own : v .tag .0 ≡ number-at bs (v .place)) (read : Row-read bs (v .place))
+    (room : v .depth < length opens) (fits : kind-fits (file-words bs) (count-in bs) (v .parent .0) (v .tag .0) (field (file-words bs) (v .tag .0) at-kind) ≡ true) where
+  abbrev x : ℕ
+  x = number-at bs (v .place)
+
+  abbrev c : ℕ
+  c = field (file-words bs) x at-kind
+
+  fits-row : kind-fits (file-words bs) (count-in bs) (v .parent .0) x c ≡ true
   fits-row = rw (← own) fits
 
-  -- its kind word, as it is read
-  pub kind-read : {c : ℕ} → c ≡ row-word (rows-in bs) (v .place) (suc at-kind) → c ≡ field (file-words bs) (number-at bs (v .place)) at-kind
-  kind-read e = e ∙ sym (read .fields at-kind (omega arith))
+  -- its depth, by its kind: it fits with no test, since some begin is open before an end
+  own-word : field (file-words bs) x at-depth ≡ own-depth (word-kind c) (v .depth)
+  own-word = rw (so-far .counted, read .fields at-kind (omega arith)) (read .depth)
 
-  -- it may be counted
-  pub opened-fits : {c : ℕ} → c ≡ row-word (rows-in bs) (v .place) (suc at-kind) → count-in bs ≤ most-tags →
-      Kind-word c × (depth < length opens) × (depth ≤ most-tags) × (c % 16 ≡ 2 → 1 ≤ depth)
-  opened-fits e few =
-      rw (kind-read e)
-      (kind-fitting (file-words bs) (count-in bs) (v .parent .0) _ _ fits-row, room, omega (arith, so-far .shallow, read .inside), end-deep bs (v .place) opens depth (v .parent .0) room (so-far .reads) read (so-far .opened) fits-row)
+  by-kind : (depth-fits (file-words bs) x c (v .depth) ≡ eqb (field (file-words bs) x at-depth + cond (is-end (word-kind c)) 1 0) (v .depth))
+      × (word-after (file-words bs) x c ≡ opens-after (word-kind c) (field (file-words bs) x at-depth))
+  by-kind =
+      let kind = kind-fitting (file-words bs) (count-in bs) (v .parent .0) x c fits-row in
+      rw (word-back c (kind .small) (kind .low) (kind .high)) at (depth-by (file-words bs) x (v .depth) (word-kind c) (leb 16 c))
 
-  pub so-far-more : {met′ opens′ : List ℕ} {c depth′ end : ℕ} (q : code.State) → c ≡ row-word (rows-in bs) (v .place) (suc at-kind) → depth′ ≡ depth-behind c depth → opens′ ≡ set opens depth (v .place) →
-      Holds met′ (met-before (rows-in bs) (v .place + 1)) → Behind (file-words bs) end v q → Met-so-far bs q met′ opens′ depth′
-  so-far-more {met′} {opens′} {c} {depth′} q e deep written holds behind =
+  deep-row : depth-fits (file-words bs) x c (v .depth) ≡ true
+  deep-row =
+      let kind = kind-fitting (file-words bs) (count-in bs) (v .parent .0) x c fits-row in
+      let some : is-end (word-kind c) ≡ true → 1 ≤ v .depth =
+      λ e. end-deep bs (v .place) opens (v .depth) (v .parent .0) room (so-far .reads) read (so-far .opened) fits-row
+      (eqb-true (c % 16) 2 (word-tests c (kind .small) (kind .low) (kind .high) .0 ∙ e)) in
+      by-kind .0 ∙ own-test (word-kind c) (field (file-words bs) x at-depth) (v .depth) some own-word
+
+  pub depth-right : depth-fits (file-words bs) (v .tag .0) (field (file-words bs) (v .tag .0) at-kind) (v .depth) ≡ true
+  depth-right = rw own deep-row
+
+  pub so-far-more : {met′ opens′ : List ℕ} {end : ℕ} (q : code.State) → opens′ ≡ set opens (v .depth) (v .place) →
+      Holds met′ (met-before (rows-in bs) (v .place + 1)) → Behind (file-words bs) end v q → Met-so-far bs q met′ opens′
+  unfolding opens-before depth-after
+  so-far-more q written holds behind =
       let next : q .place ≡ suc (v .place) = behind .place ∙ add-one (v .place) in
       record {
         holds = rw (behind .place) holds;
         reads = rw next (reads-more bs (v .place) (so-far .reads) read);
-        opened = rw (next, written, deep, behind .parent, own, kind-read e) (opened-more bs (v .place) opens depth (v .parent .0) room (so-far .reads) read (so-far .opened) fits-row);
-        shallow = rw (deep, next) (depth-most c depth (v .place) (so-far .shallow));
+        opened = rw (next, written, behind .depth, behind .parent, own)
+            (opened-more bs (v .place) opens (v .depth) (v .parent .0) room (so-far .reads) read (so-far .opened) fits-row deep-row);
+        counted = rw (next, behind .depth, own, by-kind .1, own-word, so-far .counted, read .fields at-kind (omega arith));
       }
 
 -- AT THE START nothing is met or open
-pub started : (first : TagId) (at : Offset) {x : ℕ} → first .0 ≡ x → at .0 ≡ offset-of (first .0) →
-    _≡_ {A = code.State} (record { place = 0; tag = first; at = at; prior = record { 0 = no-tag }; parent = record { 0 = no-tag }; marks = 0; expect = 0 }) (first-state x)
-started first at e f = rw (← e, ← f)
-
-pub so-far-start : (bs opens : List ℕ) (v : code.State) → v .place ≡ 0 → v .parent .0 ≡ no-tag → Met-so-far bs v (replicate {A = ℕ} set-words 0) opens 0
-unfolding met-before Opened
-so-far-start bs opens v e none =
-    record { holds = rw e holds-none; reads = λ j l. absurd (omega arith); opened = none; shallow = omega arith }
+pub so-far-start : (bs opens : List ℕ) (v : code.State) → v .place ≡ 0 → v .parent .0 ≡ no-tag → v .depth ≡ 0 → Met-so-far bs v (replicate {A = ℕ} set-words 0) opens
+unfolding met-before opens-before Opened
+so-far-start bs opens v e none flat =
+    record { holds = rw e holds-none; reads = λ j l. absurd (omega arith); opened = rw flat none; counted = rw (e, flat) }
 
 -- AT THE END every row stood in order
 pub order-end : (bs : List ℕ) (i x : ℕ) {whole : Bool} → count-in bs ≤ i → order-left bs i x ≡ whole → true ≡ whole
@@ -168,29 +187,29 @@ module _ {bs header tables : List ℕ} {n u : ℕ} (fits : File-fits bs header n
   few-tags = omega (arith, fits .counted, fits .walk-fits .records .few)
 
   -- so the walk begins at its first tag
-  pub pass-start : {w : List ℕ} {v : code.State} (opens : List ℕ) → w ≡ widths-in tables → v ≡ first-state (word-at header at-first) →
+  pub pass-start : {w : List ℕ} {v : code.State} {first p : ℕ} (opens : List ℕ) → w ≡ widths-in tables → first ≡ word-at header at-first → p ≡ offset-of first → v ≡ first-state first p →
       (v .place ≤ n) × Standing (file-words bs) n w v
       × (walk-at (file-words bs) tables n u v w (replicate table-length 0) ≡ walk-whole (file-words bs) tables n u)
       × (order-left bs (v .place) (v .tag .0) ≡ order-left bs 0 (word-at (header-in bs) at-first))
-      × Met-so-far bs v (replicate {A = ℕ} set-words 0) opens 0
-  pass-start {w} {v} opens of-w e =
+      × Met-so-far bs v (replicate {A = ℕ} set-words 0) opens
+  pass-start {w} {v} {first} {p} opens of-w of-first there e =
       let x = word-at (file-words bs) at-first in
-      let first : word-at header at-first ≡ x = ap (λ (ws : List ℕ). word-at ws at-first) (fits .header-is) ∙ sym (header-said bs at-first (omega arith)) in
-      let here : v ≡ first-state x = e ∙ ap first-state first in
+      let is-first : first ≡ x = of-first ∙ ap (λ (ws : List ℕ). word-at ws at-first) (fits .header-is) ∙ sym (header-said bs at-first (omega arith)) in
+      let here : v ≡ first-state x p = e ∙ ap (λ (y : ℕ). first-state y p) is-first in
       rw here (
         omega arith,
-        standing-start (file-words bs) tables n u (fits .walk-fits) of-w refl,
-        walk-start (file-words bs) tables n u (offset-of x) of-w,
+        standing-start (file-words bs) tables n u (fits .walk-fits) of-w (rw is-first at there),
+        walk-start (file-words bs) tables n u p of-w,
         ap (order-left bs 0) (header-said bs at-first (omega arith)),
-        so-far-start bs opens (first-state x) refl refl,
+        so-far-start bs opens (first-state x p) refl refl refl,
       )
 
   -- more begins are open than rows are left
-  pub deep-fails : {met opens : List ℕ} {depth : ℕ} {whole : Bool} (v : code.State) (ends firsts : List ℕ) → Met-so-far bs v met opens depth →
-      walk-at (file-words bs) tables n u v ends firsts ≡ whole → n - v .place < depth → false ≡ whole
+  pub deep-fails : {met opens : List ℕ} {whole : Bool} (v : code.State) (ends firsts : List ℕ) → Met-so-far bs v met opens →
+      walk-at (file-words bs) tables n u v ends firsts ≡ whole → n - v .place < v .depth → false ≡ whole
   unfolding state-with shape-with
-  deep-fails {met} {opens} {depth} v ends firsts so-far inv deep =
-      sym (too-many-open bs (v .place) opens depth (shape-in tables u n) (n - v .place) (state-with (file-words bs) v ends firsts) (fits .counted) few-tags (so-far .reads) (so-far .opened) deep) ∙ inv
+  deep-fails {met} {opens} v ends firsts so-far inv deep =
+      sym (too-many-open bs (v .place) opens (v .depth) (shape-in tables u n) (n - v .place) (state-with (file-words bs) v ends firsts) (fits .counted) few-tags (so-far .reads) (so-far .opened) deep) ∙ inv
 
   -- its end is that of the walk: only the stamp is read
   pub ends-said : (firsts : List ℕ) (x o m : ℕ) {t : Bool} → t ≡ ends-from header n u (lows-in tables) (highs-in tables) firsts x o m →

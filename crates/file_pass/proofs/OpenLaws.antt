@@ -4,7 +4,7 @@ use mathlib.Core.Path.{_≡_, refl, sym, _∙_}
 use mathlib.Core.Bool.{true, false, and-false, and-eq-true-iff}
 use mathlib.Core.List.{List}
 use mathlib.Core.Logic.{by-cases}
-use Prim.Native.Nat.{ℕ, zero, suc, _-_, _%_, _≤_, _<_}
+use Prim.Native.Nat.{ℕ, zero, suc, _+_, _-_, _%_, _≤_, _<_}
 use native.Mathlib.Decide.{ℕ-discrete}
 use native.Mathlib.Omega.{arith}
 use borrow.Author.Tests.{eq-eqb, ne-eqb, ltb-true}
@@ -12,14 +12,15 @@ use lib.ListN.{length, getD, set}
 use lib.Seq.{getD-set-same, getD-set-other}
 use Rattle.lists.proofs.Tests.{by-test}
 use Rattle.store_types.specs.Limits.{no-tag, most-tags}
-use Rattle.store_types.specs.Layout.{at-up, at-kind, field}
+use Rattle.store_types.specs.Layout.{at-up, at-kind, at-depth, field}
 use Rattle.calls.specs.File.{count-in, rows-in, file-words}
-use Rattle.walk_model.specs.Walk.{Shape, State, kind-fits, open-after, tag-passes, passed, ends-well, walk}
+use Rattle.walk_model.specs.Walk.{Shape, State, kind-fits, open-after, depth-fits, depth-after, tag-passes, passed, ends-well, walk}
 use Rattle.walk_tags.proofs.TagLaws.{kind-fitting}
 use Rattle.walk_tags.proofs.TestLaws.{inner-up}
 use Rattle.walk.proofs.PassLaws.{end-open}
 use Rattle.file_model.specs.Judge.{row-word}
-use Rattle.file_tags.specs.Needs.{number-at, Row-read, depth-behind}
+use Rattle.file_tags.specs.Needs.{number-at, Row-read}
+use Rattle.file_tags.proofs.TagRows.{depth-sum}
 use Rattle.file_pass.specs.Needs.{Opened}
 
 -- places below the one that is written stay, and rows before i are before the next
@@ -67,16 +68,20 @@ module _ (bs : List ℕ) (i : ℕ) (opens : List ℕ) (depth o : ℕ) (room : de
             let one : suc d - 1 ≡ d = omega arith in
             rw (one, up) (opened-later bs i opens depth i d _ (omega arith) rest)
 
-    pub opened-more : Opened bs (suc i) (set opens depth i) (depth-behind c depth) (open-after (file-words bs) o x c)
-    unfolding open-after
-    opened-more =
+    pub opened-more : depth-fits (file-words bs) x c depth ≡ true → Opened bs (suc i) (set opens depth i) (depth-after (file-words bs) x c) (open-after (file-words bs) o x c)
+    unfolding open-after depth-after
+    opened-more deep =
+        let w = field (file-words bs) x at-depth in
+        let sum = depth-sum (file-words bs) x depth deep in
         by-cases (ℕ-discrete (c % 16) 1)
-        (λ one. rw (ne-eqb (c % 16) 3 (λ e. omega arith), eq-eqb (c % 16) 1 one) (at-begin one))
+        (λ one. let more : w + 1 ≡ suc depth = omega (arith, rw (ne-eqb (c % 16) 2 (λ e. omega arith)) at sum) in
+        rw (ne-eqb (c % 16) 3 (λ e. omega arith), eq-eqb (c % 16) 1 one, more) (at-begin one))
         (λ no-begin. by-cases (ℕ-discrete (c % 16) 2)
-        (λ two. rw (ne-eqb (c % 16) 3 (λ e. omega arith), ne-eqb (c % 16) 1 no-begin, eq-eqb (c % 16) 2 two) (at-end two))
+        (λ two. let less : w + 0 ≡ depth - 1 = omega (arith, rw (eq-eqb (c % 16) 2 two) at sum) in
+        rw (ne-eqb (c % 16) 3 (λ e. omega arith), ne-eqb (c % 16) 1 no-begin, less) (at-end two))
         (λ no-end. let kind = kind-fitting (file-words bs) (count-in bs) o x c fits in
-        rw (eq-eqb (c % 16) 3 (omega (arith, kind)), ne-eqb (c % 16) 1 no-begin, ne-eqb (c % 16) 2 no-end)
-        (opened-later bs i opens depth i depth o (omega arith) opened)))
+        let same : w + 0 ≡ depth = omega (arith, rw (ne-eqb (c % 16) 2 no-end) at sum) in
+        rw (eq-eqb (c % 16) 3 (omega (arith, kind)), ne-eqb (c % 16) 1 no-begin, same) (opened-later bs i opens depth i depth o (omega arith) opened)))
 
 -- MORE OPEN THAN LEFT: so many begins are open at least, in the words that the file says
 unfoldable Chained : (ws : List ℕ) → (depth o : ℕ) → Type 0
@@ -92,11 +97,11 @@ chained-less ws (suc d) o (some, rest) = (some, chained-less ws d (field ws o at
 module _ (ws : List ℕ) (shape : Shape) (i : ℕ) (v : State) (small : shape .n ≤ most-tags) (e : tag-passes ws shape i v ≡ true) where
   below : v .tag < shape .n
   unfolding tag-passes
-  below = let all = simp and-eq-true-iff at e in ltb-true (v .tag) (shape .n) (all .0 .0)
+  below = let all = simp and-eq-true-iff at e in ltb-true (v .tag) (shape .n) (all .0 .0 .0)
 
   fits-here : kind-fits ws (shape .n) (v .open-begin) (v .tag) (field ws (v .tag) at-kind) ≡ true
   unfolding tag-passes
-  fits-here = let all = simp and-eq-true-iff at e in all .1 .1
+  fits-here = let all = simp and-eq-true-iff at e in all .0 .1 .1
 
   chained-behind : (d : ℕ) → Chained ws (suc d) (v .open-begin) → Chained ws d (passed ws shape i v .open-begin)
   unfolding Chained passed open-after

@@ -9,14 +9,13 @@ use lib.ListN.{length, getD, drop}
 use Rattle.store_types.specs.Limits.{no-tag}
 use Rattle.store_types.specs.Layout.{at-first, at-up, word-at}
 use Rattle.store_types.specs.FileLayout.{file-bytes}
-use Rattle.words.specs.Offsets.{offset-of}
 use Rattle.calls.specs.File.{header-in, count-in, rows-in, file-words}
 use Rattle.number_set.specs.Bits.{Holds}
 use Rattle.shape.specs.Packed.{widths-in}
 use Rattle.walk_model.specs.Walk.{walk}
 use Rattle.walk.specs.Needs.{Pass-fits, shape-in, start-with}
 use Rattle.walk.specs.declared.State as code
-use Rattle.file_model.specs.Judge.{row-word, met-before, in-order}
+use Rattle.file_model.specs.Judge.{row-word, met-before, opens-before, in-order}
 use Rattle.file_tags.specs.Needs.{number-at, Row-read}
 
 -- THE OPEN BEGINS at place i, the innermost being o: so many places of rows before i, of each of which the up is the number of the
@@ -26,15 +25,16 @@ Opened bs i opens zero o = o ≡ no-tag
 Opened bs i opens (suc d) o =
     let p = getD opens d 0 in (p < i) × (o ≡ number-at bs p) × Opened bs i opens d (row-word (rows-in bs) p (suc at-up))
 
--- WHERE THE PASS STANDS: the numbers met, the rows read, the begins that are open, and what is left of the order
+-- WHERE THE PASS STANDS: what is left of the order; the numbers met, the rows read, the begins that are open, and that they are as
+-- many as the kinds say
 unfoldable pub order-left : (bytes : List ℕ) → (place due : ℕ) → Bool
 order-left bs i x = in-order (count-in bs) x (met-before (rows-in bs) i) (drop i (rows-in bs))
 
-pub record Met-so-far (bs : List ℕ) (v : code.State) (met opens : List ℕ) (depth : ℕ) : Type 0 where
+pub record Met-so-far (bs : List ℕ) (v : code.State) (met opens : List ℕ) : Type 0 where
   pub holds : Holds met (met-before (rows-in bs) (v .place))
   pub reads : (j : ℕ) → j < v .place → Row-read bs j
-  pub opened : Opened bs (v .place) opens depth (v .parent .0)
-  pub shallow : depth ≤ v .place
+  pub opened : Opened bs (v .place) opens (v .depth) (v .parent .0)
+  pub counted : v .depth ≡ opens-before 0 (rows-in bs) (v .place)
 
 -- THE JUDGEMENT: refusal 2 or none, or too deep for the places that are lent, which is so only where these are less than half of n
 abbrev pub too-deep : ℕ
@@ -58,8 +58,3 @@ Judging-fits bs header n under widths tables = File-fits bs header n under table
 abbrev pub passes-all : (bytes tables : List ℕ) → (under n : ℕ) → Bool
 passes-all bs t u n =
     order-left bs 0 (word-at (header-in bs) at-first) && walk (file-words bs) (shape-in t u n) n 0 (start-with (file-words bs) (widths-in t))
-
--- where it begins
-abbrev pub first-state : (first : ℕ) → code.State
-first-state x =
-    record { place = 0; tag = record { 0 = x }; at = record { 0 = offset-of x }; prior = record { 0 = no-tag }; parent = record { 0 = no-tag }; marks = 0; expect = 0 }

@@ -1,21 +1,18 @@
 // The judging pass over the records of a file (document 02, CR 3): the soundness walk of the words that they say, record by record in
 // the order of the file. What the walk reads of the open begins is read at their places; these and the numbers met so far are all
-// that it keeps.
+// that it keeps. It makes no test of depth: what the kinds give is right where the other tests pass (document 02, CR 7).
 ghost use mathlib.Core.Path.{_≡_};
 ghost use mathlib.Core.Bool.{cond};
 ghost use Prim.Native.Nat.{_-_, _≤_};
 ghost use lib.Dec.{eqb};
 ghost use lib.ListN.{length, getD};
-ghost use Rattle.store_types.specs.Layout.{at-first, header-words, word-at};
-ghost use Rattle.file_pass.specs.Needs.{Judging-fits, first-state, passes-all, Judged-so};
+ghost use Rattle.file_pass.specs.Needs.{Judging-fits, passes-all, Judged-so};
 use number_set::SET_WORDS;
 use shape::PACKED_LENGTH;
 use shape::TABLE_LENGTH;
 use store_types::Label;
-use store_types::TagId;
 use store_types::file;
 use walk::Extent;
-use walk::State;
 use words::Offset;
 
 // What a pass says of a file: that its book is sound; that more begins are open than there are places, which settles
@@ -37,23 +34,6 @@ fn top_of(opens: &[u32], depth: usize) -> u32
     opens[depth - 1]
 }
 
-// Before the first row.
-fn start(header: &[u32]) -> State
-    requires { ⌜ header-words ≤ length (now header) ⌝ }
-    ensures { λ v. ⌜ v ≡ first-state (word-at (now (header .entry)) at-first) ⌝ }
-{
-    let first = words::first_of(header);
-    State {
-        place: 0,
-        tag: first,
-        at: Offset::of(first),
-        prior: TagId::NONE,
-        parent: TagId::NONE,
-        marks: 0,
-        expect: 0,
-    }
-}
-
 // The pass: one row after the other. Where more begins are open than rows are left, not all can be closed; so no more are ever
 // open than half of the tags.
 pub fn pass(
@@ -72,13 +52,13 @@ pub fn pass(
     let mut ends = widths;
     let mut firsts = [0u32; TABLE_LENGTH];
     let mut sizes = [0u32; TABLE_LENGTH];
-    let mut depth: usize = 0;
-    let mut v = start(header);
+    let first = words::first_of(header);
+    let mut v = walk::started(first, Offset::of(first));
     while v.place < size.n {
-        if ((size.n - v.place) as usize) < depth {
+        if ((size.n - v.place) as u64) < v.depth {
             return UNSOUND;
         }
-        if opens.len() <= depth {
+        if opens.len() <= v.depth as usize {
             return TOO_DEEP;
         }
         if !file_tags::number_fits(bytes, size.n, v, &mut met) {
@@ -88,13 +68,12 @@ pub fn pass(
         if !file_tags::label_fits(label, size, v, tables, &mut ends, &mut firsts, &mut sizes) {
             return UNSOUND;
         }
-        if !file_tags::tag_fits(&pairs, bytes, size.n, v, top_of(opens, depth)) {
+        if !file_tags::tag_fits(&pairs, bytes, size.n, v, top_of(opens, v.depth as usize)) {
             return UNSOUND;
         }
-        let kind = file_form::row_field(bytes, v.place, words::AT_KIND);
         // Before the place is written, so that what has been read of the row need not be read again.
         let behind = file_tags::passed(bytes, ends[1], v);
-        depth = file_tags::opened(opens, depth, kind, v.place);
+        file_tags::opened(opens, v);
         v = behind;
     }
     if walk::ends_well(header, size, v, tables, &ends, &firsts, &mut sizes) {

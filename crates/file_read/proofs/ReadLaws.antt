@@ -18,11 +18,12 @@ use Rattle.store_types.specs.declared.LoadReply.the-variants as load
 use Rattle.words.proofs.Fields.{header-fits, record-room}
 use Rattle.calls.specs.Store.{Store, count}
 use Rattle.calls.specs.Words.{header}
-use Rattle.calls.specs.File.{header-in, count-in, formed, rows-in, read-file}
+use Rattle.calls.specs.File.{header-in, count-in, formed, rows-in, deepened, read-file}
 use Rattle.calls.specs.Replies.{store-or, file-refusal, read-reply, read-words}
 use Rattle.calls_laws.proofs.FileForm.{parts-of, length-rows}
 use Rattle.file_model.specs.Judge.{row-word, in-order, judged, with-rows}
 use Rattle.file_model.proofs.Rows.{length-header-in}
+use Rattle.file_model.proofs.RowKinds.{Kind-row, kind-row}
 use Rattle.file_model.proofs.Judged.{ordered, File-holds, file-holds, judged-some, judged-refusal}
 use Rattle.file_model.proofs.Written.{rows-written}
 use Rattle.file_read.specs.Needs.{Rows-fit}
@@ -95,6 +96,10 @@ module _ {bs ws : List ℕ} (p : Passed bs ws) where
       let order = and-left (in-order (count-in bs) (word-at (header-in bs) at-first) [] (rows-in bs)) _ (p .good) in
       ordered (count-in bs) (word-at (header-in bs) at-first) [] (rows-in bs) order i (omega (arith, length-rows bs)) .own
 
+  -- and its kind is that of the store's tag
+  kind-of-row : (i : ℕ) → i < count-in bs → Kind-row (rows-in bs) i
+  kind-of-row i l = rw (holds .rows-are) (kind-row st (holds .is-sound) i (rw (← counted) l))
+
   -- with the header in front there is room for each row's record; with the rows in their places all is written
   module _ {head hs : List ℕ} (head-is : head ≡ header-in bs) (headed : hs ≡ in-front head ws) where
     pub rows-fit : {n : ℕ} → n ≡ count-in bs → Rows-fit bs n hs
@@ -105,9 +110,11 @@ module _ {bs ws : List ℕ} (p : Passed bs ws) where
           long = parts-of bs (p .of-form) .long;
           all = count-is;
           rooms = λ i l. record-room (count-in bs) (row-word (rows-in bs) i at-number) hs (rw long (p .room)) (row-below i (rw (← count-is) l));
+          kinds = λ i l. let k = kind-of-row i (rw (← count-is) l) in record { small = k .small; low = k .low; high = k .high };
+          opened = λ i l. kind-of-row i (rw (← count-is) l) .opened;
         }
 
-    pub accepted-words : {vs : List ℕ} → vs ≡ with-rows hs (rows-in bs) → vs ≡ read-words bs ws
+    pub accepted-words : {vs : List ℕ} → vs ≡ with-rows hs (deepened 0 (rows-in bs)) → vs ≡ read-words bs ws
     unfolding read-words written replied store-or
     accepted-words put =
         let enough : words-for header-words (count st) ≤ length ws = rw (← counted) (p .room) in

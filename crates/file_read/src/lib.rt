@@ -1,12 +1,12 @@
 // Reading a file into lent words (document 02, CR 3): the bytes are judged first, and nothing is written before.
 ghost use mathlib.Core.Path.{_≡_};
-ghost use mathlib.Core.List.{[]};
+ghost use mathlib.Core.List.{[], _∷_, _++_};
 ghost use Prim.Native.Nat.{_≤_};
 ghost use lib.ListN.{length, getD};
 ghost use Rattle.store_types.specs.Layout.{header-words, Room};
 ghost use Rattle.store_types.specs.FileLayout.{at-number};
 ghost use Rattle.lists.specs.Fronts.{in-front};
-ghost use Rattle.calls.specs.File.{rows-in};
+ghost use Rattle.calls.specs.File.{rows-in, deepened};
 ghost use Rattle.calls.specs.Replies.{read-reply, read-words};
 ghost use Rattle.file_form.specs.Needs.{Row-there};
 ghost use Rattle.file_model.specs.Judge.{row-word as word-of-row, with-row, with-rows};
@@ -30,10 +30,10 @@ fn put_header(words: &mut [u32], header: &[u32])
     }
 }
 
-// The six words of the i-th row go into the record of its number.
-fn put_row(bytes: &[u8], i: u32, words: &mut [u32])
+// The words of the i-th row and its depth go into the record of its number.
+fn put_row(bytes: &[u8], i: u32, depth: u32, words: &mut [u32])
     requires { ⌜ Row-there (now bytes) i × Room (now words) (word-of-row (rows-in (now bytes)) i at-number) ⌝ }
-    ensures { λ _. ⌜ now (words .exit) ≡ with-row (now (words .entry)) (getD (rows-in (now (bytes .entry))) i []) ⌝ }
+    ensures { λ _. ⌜ now (words .exit) ≡ with-row (now (words .entry)) (getD (rows-in (now (bytes .entry))) i [] ++ depth ∷ []) ⌝ }
 {
     let x = TagId(file_form::row_word(bytes, i, file::AT_NUMBER));
     let label = Label(file_form::row_word(bytes, i, file::AT_LABEL));
@@ -48,16 +48,22 @@ fn put_row(bytes: &[u8], i: u32, words: &mut [u32])
     words::set_mate(words, x, mate);
     words::set_up(words, x, up);
     words::set_kind(words, x, kind);
+    words::set_depth(words, x, depth);
 }
 
-// All n rows, in the order of the file.
+// All n rows, in the order of the file. That is the order of the book, so the begins that are open are counted along it and give each
+// tag its depth (document 02, CR 7).
 fn put_rows(bytes: &[u8], n: u32, words: &mut [u32])
     requires { ⌜ Rows-fit (now bytes) n (now words) ⌝ }
-    ensures { λ _. ⌜ now (words .exit) ≡ with-rows (now (words .entry)) (rows-in (now (bytes .entry))) ⌝ }
+    ensures { λ _. ⌜ now (words .exit) ≡ with-rows (now (words .entry)) (deepened 0 (rows-in (now (bytes .entry)))) ⌝ }
 {
     let mut i: u32 = 0;
+    let mut opens: u32 = 0;
     while i < n {
-        put_row(bytes, i, words);
+        let kind = file_form::row_field(bytes, i, words::AT_KIND);
+        let depth = kind_pick::own_depth(kind, opens);
+        put_row(bytes, i, depth, words);
+        opens = kind_pick::opens_after(kind, depth);
         i += 1;
     }
 }

@@ -3,7 +3,7 @@
 ghost use mathlib.Core.Path.{_≡_};
 ghost use mathlib.Core.Bool.{true, cond};
 ghost use mathlib.Core.List.{List, _∷_};
-ghost use Prim.Native.Nat.{ℕ, _<_, _≤_, _%_, _+_, _-_};
+ghost use Prim.Native.Nat.{ℕ, _<_, _≤_};
 ghost use lib.Dec.{ltb};
 ghost use lib.ListN.{length, set};
 ghost use Rattle.store_types.specs.Limits.{most-tags};
@@ -11,14 +11,14 @@ ghost use Rattle.store_types.specs.Layout.{at-kind, field, label-at};
 ghost use Rattle.store_types.specs.FileLayout.{file-bytes};
 ghost use Rattle.calls.specs.File.{count-in, rows-in, file-words};
 ghost use Rattle.kind_pick.specs.Needs.{Kind-word};
-ghost use Rattle.walk_model.specs.Walk.{kind-fits, placed};
+ghost use Rattle.walk_model.specs.Walk.{kind-fits, depth-fits, placed};
 ghost use Rattle.walk_tags.specs.Needs.{Open, pair-table, links-fit as links-so, fits-at};
 ghost use Rattle.walk_levels.specs.Needs.{Tables-fit, levels-of};
 ghost use Rattle.walk.specs.Needs.{Standing, Behind, label-passes, shape-in, state-with};
 ghost use Rattle.number_set.specs.Bits.{Holds};
 ghost use Rattle.file_form.specs.Needs.{Row-there};
 ghost use Rattle.file_model.specs.Judge.{met-before};
-ghost use Rattle.file_tags.specs.Needs.{number-at, Row-read, Tag-row, depth-behind, number-passes};
+ghost use Rattle.file_tags.specs.Needs.{number-at, Row-read, Tag-row, number-passes};
 use number_set::SET_WORDS;
 use shape::PACKED_LENGTH;
 use shape::TABLE_LENGTH;
@@ -112,17 +112,21 @@ pub fn tag_fits(pairs: &[u32; 32], bytes: &[u8], n: u32, v: State, top: u32) -> 
     links_fit(bytes, v, q, kind)
 }
 
-// Behind a tag that fits: end is where the open node of height 1 ends.
+// Behind a tag that fits: end is where the open node of height 1 ends. A row has no depth: its tag's is the number of begins that are
+// open before it, one less for an end, and fits with no test (document 02, CR 7).
 pub fn passed(bytes: &[u8], end: u64, v: State) -> State
     requires tag { ⌜ (length (now bytes) ≡ file-bytes (count-in (now bytes))) × (v .tag .0 ≡ number-at (now bytes) (v .place)) × Row-read (now bytes) (v .place) ⌝ }
     requires fits { ⌜ kind-fits (file-words (now bytes)) (count-in (now bytes)) (v .parent .0) (v .tag .0) (field (file-words (now bytes)) (v .tag .0) at-kind) ≡ true ⌝ }
-    requires counts { ⌜ (v .place < 4000000000) × (v .marks < 4000000000) ⌝ }
+    requires deep { ⌜ depth-fits (file-words (now bytes)) (v .tag .0) (field (file-words (now bytes)) (v .tag .0) at-kind) (v .depth) ≡ true ⌝ }
+    requires counts { ⌜ (v .place < 4000000000) × (v .depth < 4000000000) × (v .marks < 4000000000) ⌝ }
     ensures { λ q. ⌜ Behind (file-words (now (bytes .entry))) end v q ⌝ }
 {
     let x = v.tag;
     let kind = file_form::row_field(bytes, v.place, words::AT_KIND);
     let up = file_form::row_field(bytes, v.place, words::AT_UP);
     let parent = TagId(kind_pick::at_begin(kind, x.0, up));
+    let own = v.depth - kind_pick::at_end(kind, 1, 0) as u64;
+    let depth = own + kind_pick::at_begin(kind, 1, 0) as u64;
     let next = TagId(file_form::row_field(bytes, v.place, words::AT_NEXT));
     let label = Label(file_form::row_word(bytes, v.place, file::AT_LABEL));
     State {
@@ -131,19 +135,17 @@ pub fn passed(bytes: &[u8], end: u64, v: State) -> State
         at: Offset::of(next),
         prior: x,
         parent,
+        depth,
         marks: v.marks + kind / words::MARK,
         expect: walk_levels::expected(label, end),
     }
 }
 
-// The begins that are open behind a tag: a begin opens at its place, an end closes one. What stands from the depth on is of no
-// account, so the place is written in any case, and nothing branches on the kind.
-pub fn opened(opens: &mut [u32], depth: usize, kind: u32, place: u32) -> usize
-    requires { ⌜ Kind-word kind × (depth < length (now opens)) × (depth ≤ most-tags) × (kind % 16 ≡ 2 → 1 ≤ depth) ⌝ }
-    ensures depth { λ d. ⌜ d ≡ depth-behind kind depth ⌝ }
-    ensures opens { λ _. ⌜ now (opens .exit) ≡ set (now (opens .entry)) depth place ⌝ }
+// A tag's place goes where that of one more open begin stands. What stands from the number of those that are open on is of no account,
+// so the place is written in any case, and nothing branches on the kind.
+pub fn opened(opens: &mut [u32], v: State)
+    requires { ⌜ v .depth < length (now opens) ⌝ }
+    ensures { λ _. ⌜ now (opens .exit) ≡ set (now (opens .entry)) (v .depth) (v .place) ⌝ }
 {
-    opens[depth] = place;
-    let begun = depth + kind_pick::at_begin(kind, 1, 0) as usize;
-    begun - kind_pick::at_end(kind, 1, 0) as usize
+    opens[v.depth as usize] = v.place;
 }

@@ -1,12 +1,12 @@
 -- Records of a file: what is stored one behind the other is a record of the header, of a tag or of one word. Assumes nothing.
-use mathlib.Core.Path.{_≡_, refl, _∙_}
+use mathlib.Core.Path.{_≡_, refl, ap, sym, _∙_}
 use mathlib.Core.List.{List, [], _∷_, append-nil, flatMap, map}
 use Prim.Native.Nat.{ℕ, suc, _+_, _*_, _-_, _≤_}
 use native.Mathlib.Omega.{arith}
 use lib.ListN.{length, take, drop, length-append}
-use lib.Seq.{sets}
+use lib.Seq.{take-take, sets}
 use Rattle.store_types.specs.Layout.{header-words, tag-words, words-for}
-use Rattle.store_types.specs.FileLayout.{header-kind, tag-kind, length-bytes, kind-bytes, word-bytes, front-bytes, row-words, row-bytes}
+use Rattle.store_types.specs.FileLayout.{kept-words, header-kind, tag-kind, length-bytes, kind-bytes, word-bytes, front-bytes, row-words, row-bytes}
 use Rattle.little_endian.specs.Numbers.{low-first}
 use Rattle.little_endian.proofs.Numbers.{length-low}
 use Rattle.little_endian.proofs.Stores.{stored-behind}
@@ -58,27 +58,28 @@ pub header-stored : (ws : List ℕ) (st : Store) (bs : List ℕ) {cs ds : List �
 unfolding header
 header-stored ws st bs says front words = words-stored bs 0 header-kind (drop 1 (header st)) front (rw (header-part ws st says) at words)
 
--- A TAG'S RECORD: its number and its six words
+-- A TAG'S RECORD: its number and the words of its record that are kept
 module _ {ws : List ℕ} {x : ℕ} (h : Tag-said ws x) where
   pub tag-fits : words-for header-words x + tag-words ≤ length ws
   tag-fits = omega (arith, words-fit ws (said ws) (h .says), words-up (suc x) (count (said ws)) (h .tag), words-next x)
 
-  tag-part : {from : ℕ} → from ≡ words-for header-words x → take (from + tag-words - from) (drop from ws) ≡ tag-record (said ws) x
+  tag-part : {from : ℕ} → from ≡ words-for header-words x → take (from + kept-words - from) (drop from ws) ≡ take kept-words (tag-record (said ws) x)
   unfolding tag-record
   tag-part {from} e =
-      let size : from + tag-words - from ≡ tag-words = omega arith in
+      let size : from + kept-words - from ≡ kept-words = omega arith in
       let says = words-of-tag h in
       rw (size, e)
-      (record-part ws x tag-fits
+      (sym (take-take kept-words tag-words (drop (words-for header-words x) ws) (omega arith))
+      ∙ ap (take kept-words) (record-part ws x tag-fits)
       ∙ rw (says .label-word, says .next-word, says .prior-word, says .mate-word, says .up-word, says .kind-is))
 
   pub tag-stored : (bs : List ℕ) (at : ℕ) {from : ℕ} {cs ds es : List ℕ} → from ≡ words-for header-words x →
       cs ≡ sets bs at (record-front tag-kind row-words) → ds ≡ sets cs (at + front-bytes) (low-first word-bytes x) →
-      es ≡ sets ds (at + front-bytes + word-bytes) (flatMap (low-first word-bytes) (take (from + tag-words - from) (drop from ws))) →
+      es ≡ sets ds (at + front-bytes + word-bytes) (flatMap (low-first word-bytes) (take (from + kept-words - from) (drop from ws))) →
       es ≡ sets bs at (file-record tag-kind (tag-row (said ws) x))
   unfolding tag-row tag-record
   tag-stored bs at e front number words =
-      row-stored bs at tag-kind x (tag-record (said ws) x) front number (rw (tag-part e) at words)
+      row-stored bs at tag-kind x (take kept-words (tag-record (said ws) x)) front number (rw (tag-part e) at words)
 
 -- A ROW OF TAGS: each has a record of so many bytes
 length-row : (st : Store) (x : ℕ) → length (tag-row st x) ≡ row-words

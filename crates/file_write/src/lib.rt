@@ -41,7 +41,7 @@ fn put_header(words: &[u32], bytes: &mut [u8])
     little_endian::put_words(bytes, file::FRONT_BYTES, &words[from..to]);
 }
 
-// A tag: its number and its record.
+// A tag: its number and the words of its record that a file keeps.
 fn put_tag(words: &[u32], tag: TagId, bytes: &mut [u8], at: usize)
     requires { ⌜ Tag-said (now words) (tag .0) ⌝ }
     requires { ⌜ at + row-bytes ≤ length (now bytes) ⌝ }
@@ -51,7 +51,7 @@ fn put_tag(words: &[u32], tag: TagId, bytes: &mut [u8], at: usize)
     let number = at + file::FRONT_BYTES;
     little_endian::put_u32(bytes, number, tag.0);
     let from = words::words_for(tag.0 as usize);
-    let to = from + words::TAG_WORDS;
+    let to = from + file::KEPT_WORDS;
     little_endian::put_words(bytes, number + file::WORD_BYTES, &words[from..to]);
 }
 

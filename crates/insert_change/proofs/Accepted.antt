@@ -12,8 +12,7 @@ use lib.ListN.{length, getD, replicate, length-map}
 use Rattle.store_types.specs.Limits.{no-tag, most-tags}
 use Rattle.store_types.specs.Layout.{at-s, at-r, at-height, at-count, word-at, Records}
 use Rattle.lists.proofs.Tests.{by-test}
-use Rattle.words.specs.Places.{Tag-or-none, Place-there, behind, up-word}
-use Rattle.words.proofs.PlaceLaws.{place-in}
+use Rattle.words.specs.Places.{Tag-or-none, behind, up-word, depth-word}
 use Rattle.powers.specs.Tables.{entry, entry-limit, table-length}
 use Rattle.shape.specs.Tables.{widths-of, lows-of, highs-of}
 use Rattle.shape.specs.Packed.{s-in, r-in}
@@ -26,13 +25,14 @@ use Rattle.tree_laws.proofs.RowHeight.{search-least, height-grown}
 use Rattle.calls.specs.Kind.{Kind, kind-of, is-begin}
 use Rattle.calls.specs.Store.{Store, fact, count, row}
 use Rattle.calls.specs.Nesting.{new-facts}
-use Rattle.calls.specs.Insert.{position, up-at, book-after, insert-store, insert-sheet-refusal}
+use Rattle.calls.specs.Insert.{position, up-at, depth-at, book-after, insert-store, insert-sheet-refusal}
 use Rattle.calls.specs.Words.{Says}
 use Rattle.calls.specs.Promise.{Insert-sound}
 use Rattle.calls.specs.Replies.{said, insert-sheet-refused}
 use Rattle.calls_laws.proofs.Tests.{Sound, sane, facts-of}
 use Rattle.calls_laws.proofs.Heights.{sound-height}
 use Rattle.calls_laws.proofs.Sections.{up-fits}
+use Rattle.calls_laws.proofs.Depths.{depth-at-few}
 use Rattle.calls_laws.proofs.Inserts.{row-degrees, Row-accepted, accepted-row, insert-sound}
 use Rattle.calls_laws.proofs.Steps.{Sheet-accepted, accepted-sheet}
 use Rattle.calls_laws.proofs.WordSteps.{header-said}
@@ -44,7 +44,7 @@ use Rattle.edit_model.specs.Insert.{Plan, numbers-at, added-row, raised-words, 
 use Rattle.edit_model.proofs.Image.{proper-image}
 use Rattle.edit_model.proofs.Plans.{sound-said, image-said, behind-said, sizes-few}
 use Rattle.edit_model.proofs.Renumbered.{Words-in}
-use Rattle.edit_model.proofs.Row.{place-said, up-said, fits, row-found, path-there, lower-there, header-there}
+use Rattle.edit_model.proofs.Row.{place-said, up-said, depth-said, fits, row-found, path-there, lower-there, header-there}
 use Rattle.store_refuse.proofs.Laws.{accepted-says, accepted-store}
 use Rattle.insert_link.specs.Needs.{New-row-fits}
 use Rattle.insert_plan.specs.Parts.{inner-plan}
@@ -117,9 +117,6 @@ module _ {ws cs : List ℕ} {y : ℕ} (a : Accepted ws cs y) where
       go (inl e) other = absurd (other e)
       go (inr l) other = rw issued (l .0)
 
-  pub place-there : Place-there ws y
-  place-there = place-in records-said place-or-front
-
   next-or-none : Tag-or-none n (behind ws y)
   unfolding image-of words-said
   next-or-none =
@@ -141,7 +138,14 @@ module _ {ws cs : List ℕ} {y : ℕ} (a : Accepted ws cs y) where
           rw (ne-eqb y no-tag (λ e. omega (arith, own .few, l .0)))
           (by-test (is-begin (fact st y .kind)) (λ t. rw t (around y (inr (l .0)))) (λ t. rw t (around (fact st y .up) (up-fits own y (l .0)))))
 
-  pub new-row : New-row-fits ws cs n y (up-word ws y)
+  deep-few : depth-word ws y ≤ n
+  deep-few = rw (depth-said ws st says ks y some-kinds accepted, issued) (depth-at-few own y (go (accepted .place)))
+    where
+      go : (y ≡ no-tag) ⊎ ((y < count st) × (fact st y .marked ≡ false)) → (y ≡ no-tag) ⊎ (y < count st)
+      go (inl e) = inl e
+      go (inr l) = inr (l .0)
+
+  pub new-row : New-row-fits ws cs n y
   new-row =
       record {
         records = record { few = few-all; long = rw (issued, ← as-many) (accepted .room) };
@@ -151,6 +155,7 @@ module _ {ws cs : List ℕ} {y : ℕ} (a : Accepted ws cs y) where
         place = place-or-front;
         next = next-or-none;
         up = up-or-none;
+        deep = deep-few;
       }
 
   -- H AFTERWARDS is the least height with room, and labels fit there
@@ -201,16 +206,16 @@ module _ {ws cs : List ℕ} {y : ℕ} (a : Accepted ws cs y) where
   q = plan-of ws (length cs) y
 
   -- the words with the new tags
-  put-is : row-put ws cs n y (up-word ws y) q ≡ raised-words (added-row ws (count st) y (new-facts (up-at y st) [] (count st) ks)) (plan-of ws (length ks) y .height)
+  put-is : row-put ws cs n y q ≡ raised-words (added-row ws (count st) y (new-facts (up-at y st) [] (depth-at y st) (count st) ks)) (plan-of ws (length ks) y .height)
   unfolding row-put
-  put-is = rw (issued, up-said ws st says ks y some-kinds accepted, as-many)
+  put-is = rw (issued, up-said ws st says ks y some-kinds accepted, depth-said ws st says ks y some-kinds accepted, as-many)
 
   by-fits : (k : ℕ) → plan-of ws k y .by ≤ entry-limit
   unfolding plan-of
   by-fits k = plan-by ws _ _ _ _ y _ _ _ _
 
   module _ {t : List ℕ} (packed : Tables-to s r top t) where
-    pub applicable : Applicable (row-put ws cs n y (up-word ws y) q) q t
+    pub applicable : Applicable (row-put ws cs n y q) q t
     applicable =
         let e = row-found ws st says ks y some-kinds accepted in
         let few = accepted .few in
@@ -232,14 +237,15 @@ module _ {ws cs : List ℕ} {y : ℕ} (a : Accepted ws cs y) where
         })
 
     -- and doing it is the edit of the row
-    pub edits-row : put-edit ws cs n y (up-word ws y) q t ≡ row-edit ks y ws
+    pub edits-row : put-edit ws cs n y q t ≡ row-edit ks y ws
     unfolding put-edit row-put row-edit widths-of
     edits-row =
         let up = up-said ws st says ks y some-kinds accepted in
+        let deep = depth-said ws st says ks y some-kinds accepted in
         let e = row-found ws st says ks y some-kinds accepted in
-        let counted = rw (← issued, ← up, as-many) at (rows.issued-in (e .words-in) (accepted .few)) in
+        let counted = rw (← issued, ← up, ← deep, as-many) at (rows.issued-in (e .words-in) (accepted .few)) in
         let head = header-said ws st says in
-        let there = rw (← issued, ← up, as-many) at (header-there ws st says ks y some-kinds accepted) in
+        let there = rw (← issued, ← up, ← deep, as-many) at (header-there ws st says ks y some-kinds accepted) in
         let high = rw (← issued, as-many) at top-is in
         rw (
           as-many,
@@ -253,12 +259,12 @@ module _ {ws cs : List ℕ} {y : ℕ} (a : Accepted ws cs y) where
         )
 
     -- as the code has read it
-    module _ {m u : ℕ} {p : Plan} (counted : m ≡ n) (around : u ≡ up-word ws y) (planned : p ≡ q) where
-      pub put-fits : Put-fits ws cs m y u p t
-      put-fits = rw (counted, around, planned) (record { row = new-row; plan = applicable })
+    module _ {m : ℕ} {p : Plan} (counted : m ≡ n) (planned : p ≡ q) where
+      pub put-fits : Put-fits ws cs m y p t
+      put-fits = rw (counted, planned) (record { row = new-row; plan = applicable })
 
-      pub put-edits : {xs : List ℕ} {d e : ℕ} → Edits xs d e (put-edit ws cs m y u p t) → Edits xs d e (row-edit ks y ws)
-      put-edits done = rw (counted, around, planned, edits-row) at done
+      pub put-edits : {xs : List ℕ} {d e : ℕ} → Edits xs d e (put-edit ws cs m y p t) → Edits xs d e (row-edit ks y ws)
+      put-edits done = rw (counted, planned, edits-row) at done
 
     -- what plans read
     node-fits : (h : ℕ) → h ≤ top → Node-fits h (length cs) t

@@ -18,9 +18,9 @@ pub record Edits (after : List ℕ) (moved split : ℕ) (e : Edited) : Type 0 wh
   pub split-is : split ≡ e .split
 
 -- new tags and a plan
-pub record Put-fits (ws cs : List ℕ) (n y u : ℕ) (p : Plan) (tables : List ℕ) : Type 0 where
-  pub row : New-row-fits ws cs n y u
-  pub plan : Applicable (row-put ws cs n y u p) p tables
+pub record Put-fits (ws cs : List ℕ) (n y : ℕ) (p : Plan) (tables : List ℕ) : Type 0 where
+  pub row : New-row-fits ws cs n y
+  pub plan : Applicable (row-put ws cs n y p) p tables
 
 -- an accepted sheet that has tags
 pub record Accepted (ws cs : List ℕ) (y : ℕ) : Type 0 where

@@ -40,15 +40,14 @@ fn put(
     n: u32,
     kinds: &[u8],
     place: TagId,
-    up: TagId,
     p: Plan,
     tables: &[u64; PACKED_LENGTH],
 ) -> Done
-    requires { ⌜ Put-fits (now words) (now kinds) n (place .0) (up .0) (plan-record p) (now tables) ⌝ }
-    ensures { λ d. ⌜ Edits (now (words .exit)) (d .moved) (d .split) (put-edit (now (words .entry)) (now (kinds .entry)) n (place .0) (up .0) (plan-record p) (now (tables .entry))) ⌝ }
+    requires { ⌜ Put-fits (now words) (now kinds) n (place .0) (plan-record p) (now tables) ⌝ }
+    ensures { λ d. ⌜ Edits (now (words .exit)) (d .moved) (d .split) (put-edit (now (words .entry)) (now (kinds .entry)) n (place .0) (plan-record p) (now (tables .entry))) ⌝ }
 {
     let split = p.height;
-    insert_link::add_row(words, n, kinds, place, up);
+    insert_link::add_row(words, n, kinds, place);
     insert_link::raise(words, split);
     let numbered = insert_plan::apply(words, p, tables);
     Done {
@@ -63,12 +62,11 @@ fn change_root(kinds: &[u8], place: TagId, words: &mut [u32], top: u32) -> Done
     ensures { λ d. ⌜ Edits (now (words .exit)) (d .moved) (d .split) (row-edit (map kind-of (now (kinds .entry))) (place .0) (now (words .entry))) ⌝ }
 {
     let n = words::count_of(words);
-    let up = words::places::up_at(words, place);
     let s = words[words::AT_S];
     let r = words[words::AT_R];
     let tables = shape::tables_for(s, r, top as usize);
     let p = insert_plan::root_plan(words, kinds.len() as u32, place, top as usize - 1, &tables);
-    put(words, n, kinds, place, up, p, &tables)
+    put(words, n, kinds, place, p, &tables)
 }
 
 // An accepted sheet, but for the stamp; `top` is H with its tags, `tables` and `sizes` are those of its place.
@@ -88,7 +86,6 @@ pub fn change(
     if words::height_of(words) < top {
         return change_root(kinds, place, words, top);
     }
-    let up = words::places::up_at(words, place);
     let p = insert_plan::inner_plan(words, k, place, tables, sizes);
-    put(words, n, kinds, place, up, p, tables)
+    put(words, n, kinds, place, p, tables)
 }

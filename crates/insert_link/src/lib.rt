@@ -1,13 +1,12 @@
 // The records of new tags, and their place along next.
 ghost use mathlib.Core.Path.{_≡_};
-ghost use mathlib.Core.List.{[], map};
+ghost use mathlib.Core.List.{map};
 ghost use Prim.Native.Nat.{_≤_, _<_};
 ghost use lib.ListN.{length};
 ghost use Rattle.store_types.specs.Layout.{header-words};
 ghost use Rattle.words.specs.Places.{Place-there};
 ghost use Rattle.calls.specs.Kind.{kind-of};
-ghost use Rattle.calls.specs.Nesting.{new-facts};
-ghost use Rattle.edit_model.specs.Insert.{linked-place, linked-next, added-row, raised-words};
+ghost use Rattle.edit_model.specs.Insert.{linked-place, linked-next, facts-at, added-row, raised-words};
 ghost use Rattle.insert_link.specs.Needs.{New-row-fits};
 use load_record::Row;
 use store_types::TagId;
@@ -35,12 +34,14 @@ fn link_next(words: &mut [u32], n: u32, next: TagId)
     words::set_prior(words, next, TagId(n));
 }
 
-// Tags of these kinds, from number n on, go in behind a place, inside the begin `up` or inside none.
-pub fn add_row(words: &mut [u32], n: u32, kinds: &[u8], place: TagId, up: TagId)
-    requires { ⌜ New-row-fits (now words) (now kinds) n (place .0) (up .0) ⌝ }
-    ensures { λ _. ⌜ now (words .exit) ≡ added-row (now (words .entry)) n (place .0) (new-facts (up .0) [] n (map kind-of (now (kinds .entry)))) ⌝ }
+// Tags of these kinds, from number n on, go in behind a place, with the up and the depth that new tags have there.
+pub fn add_row(words: &mut [u32], n: u32, kinds: &[u8], place: TagId)
+    requires { ⌜ New-row-fits (now words) (now kinds) n (place .0) ⌝ }
+    ensures { λ _. ⌜ now (words .exit) ≡ added-row (now (words .entry)) n (place .0) (facts-at (now (words .entry)) n (place .0) (map kind-of (now (kinds .entry)))) ⌝ }
 {
     let next = words::places::behind(words, place);
+    let up = words::places::up_at(words, place);
+    let depth = words::places::depth_at(words, place);
     let end = n + kinds.len() as u32;
     let row = Row {
         first: n,
@@ -48,7 +49,7 @@ pub fn add_row(words: &mut [u32], n: u32, kinds: &[u8], place: TagId, up: TagId)
         prior: place,
         next,
     };
-    load_tags::write_row(words, kinds, row, up);
+    load_tags::write_row(words, kinds, row, up, depth);
     link_place(words, n, place);
     link_next(words, end - 1, next);
     words::set_count(words, end);

@@ -1,11 +1,13 @@
 -- What decides between two numbers: the last bits of a kind word, or its mark. Assumes nothing.
-use mathlib.Core.Path.{_≡_, sym, _∙_}
-use mathlib.Core.Bool.{cond}
+use mathlib.Core.Path.{_≡_, refl, sym, _∙_}
+use mathlib.Core.Bool.{Bool, true, false, cond}
 use mathlib.Core.Logic.{by-cases}
-use Prim.Native.Nat.{ℕ, _/_, _%_, _≤_, _<_}
+use Prim.Native.Nat.{ℕ, suc, _+_, _-_, _/_, _%_, _≤_, _<_}
 use native.Mathlib.Decide.{ℕ-discrete}
 use native.Mathlib.Omega.{arith}
-use borrow.Author.Tests.{eq-eqb, ne-eqb, le-leb, lt-leb}
+use borrow.Author.Tests.{eqb-true, eq-eqb, ne-eqb, le-leb, lt-leb}
+use native.Mathlib.Numerals.{add-one}
+use native.Mathlib.Nat.{add-zero, sub-zero}
 use lib.Dec.{eqb, leb}
 use Rattle.kind_pick.specs.Needs.{Kind-word}
 
@@ -35,6 +37,30 @@ module _ (c a b : ℕ) where
 
   pub mark-there : 16 ≤ c → b ≡ cond (leb 16 c) b a
   mark-there l = rw (le-leb 16 c l)
+
+-- 1 or 0 by a test, taken off a number or added to it
+module _ (n : ℕ) (t : Bool) where
+  pub less-by : n - cond t 1 0 ≡ cond t (n - 1) n
+  less-by = go t
+    where
+      go : (t : Bool) → n - cond t 1 0 ≡ cond t (n - 1) n
+      go true = refl
+      go false = sub-zero n
+
+  pub more-by : n + cond t 1 0 ≡ cond t (suc n) n
+  more-by = go t
+    where
+      go : (t : Bool) → n + cond t 1 0 ≡ cond t (suc n) n
+      go true = add-one n
+      go false = add-zero n
+
+pub at-most-one : (t : Bool) → cond t 1 0 ≤ 1
+at-most-one true = omega arith
+at-most-one false = omega arith
+
+pub within-by : (n a b : ℕ) (t : Bool) → (t ≡ true → a ≤ n) → (t ≡ false → b ≤ n) → cond t a b ≤ n
+within-by n a b true h k = h refl
+within-by n a b false h k = k refl
 
 -- a kind is a kind word with no mark
 module _ (c : ℕ) (least : 1 ≤ c) (most : c ≤ 3) where

@@ -85,7 +85,7 @@ module _ (s r h b : ℕ) (cs ls : List ℕ) where
     record-word x l =
         let p = t .places x l in
         by-field (λ k. field vs x k ≡ getD (image-record (fresh s r h b cs ls) x) k 0)
-        (p .next-word ∙ sym (next-is (length cs) x l)) (p .prior-word ∙ sym (prior-is (length cs) x l)) (t .mates x l) (p .up-word) (p .kind-is)
+        (p .next-word ∙ sym (next-is (length cs) x l)) (p .prior-word ∙ sym (prior-is (length cs) x l)) (t .mates x l) (p .up-word) (p .kind-is) (p .depth-is)
 
     front : take (words-for header-words (length cs)) vs ≡ image-words (fresh s r h b cs ls)
     unfolding header-new

@@ -7,10 +7,11 @@ use native.Mathlib.Omega.{arith}
 use borrow.Author.Tests.{eq-eqb, ne-eqb, eqb-true, eqb-false}
 use lib.Dec.{eqb}
 use lib.ListN.{length}
-use Rattle.store_types.specs.Layout.{header-words, label-words, at-next, at-prior, at-mate, at-up, at-kind, tag-words, words-for, field, label-at, with-field, with-label}
+use Rattle.store_types.specs.Layout.{header-words, label-words, at-next, at-prior, at-mate, at-up, at-kind, at-depth, tag-words, words-for, field, label-at, with-field, with-label}
 use Rattle.lists.proofs.Tests.{by-test}
 use Rattle.words.proofs.Fields.{record-room, field-same, field-other-tag, field-other-word, label-same, label-other-tag, field-past-label, label-past-field, length-with-field, length-with-label, front-with-field, front-with-label, rest-with-field, rest-with-label}
 use Rattle.words.proofs.Records.{Record-holds, record-by}
+use Rattle.calls.specs.Kind.{kind-of, own-depth}
 use Rattle.load_record.specs.declared.Row as rows
 use Rattle.load_record.specs.Record.{next-of, prior-of, place-written, new-mate, new-up, links-written, tag-written, open-behind, Beside}
 
@@ -85,14 +86,17 @@ module _ (w : rows.Row) (x : ℕ) (past : w .first ≤ x) (below : x < w .end) w
       beside-both ws (with-field ws x k v) _ w (beside-one ws x k v w past below (all .1)) (puts-beside ps (with-field ws x k v) (all .2))
 
 -- TAG x of kind number c with label a behind the tags before it; `begun` gets its mate too
-pub record One-more (w : rows.Row) (x c a mate up begun : ℕ) (ws vs : List ℕ) : Type 0 where
+pub record One-more (w : rows.Row) (x c a mate up depth begun : ℕ) (ws vs : List ℕ) : Type 0 where
   pub beside : Beside ws vs w
-  pub here : Record-holds vs x a (next-of w x) (prior-of w x) mate up c
+  pub here : Record-holds vs x a (next-of w x) (prior-of w x) mate up c depth
   pub kept : (y j : ℕ) → label-words ≤ j → j < tag-words → (y ≡ x → ⊥) → (y ≡ begun → j ≡ at-mate → ⊥) → field vs y j ≡ field ws y j
   pub label-kept : (y : ℕ) → (y ≡ x → ⊥) → label-at vs y ≡ label-at ws y
 
-module _ (ws : List ℕ) (w : rows.Row) (x c a o : ℕ) (past : w .first ≤ x) (below : x < w .end) (long : words-for header-words (w .end) ≤ length ws) where
-  -- its label, and what every tag's record has, with this mate
+module _ (ws : List ℕ) (w : rows.Row) (x c a o d : ℕ) (past : w .first ≤ x) (below : x < w .end) (long : words-for header-words (w .end) ≤ length ws) where
+  -- its depth, its label, and what every tag's record has, with this mate
+  abbrev deep : ℕ
+  deep = own-depth (kind-of c) d
+
   abbrev labelled : List ℕ
   labelled = with-label ws x a
 
@@ -103,10 +107,10 @@ module _ (ws : List ℕ) (w : rows.Row) (x c a o : ℕ) (past : w .first ≤ x) 
   own-label = label-same ws x a (record-room (w .end) x ws long below)
 
   abbrev common : (mate : ℕ) → (rest : List (ℕ × ℕ)) → List (ℕ × ℕ)
-  common m ps = (at-kind, c) ∷ (at-next, next-of w x) ∷ (at-prior, prior-of w x) ∷ (at-mate, m) ∷ ps
+  common m ps = (at-kind, c) ∷ (at-next, next-of w x) ∷ (at-prior, prior-of w x) ∷ (at-depth, deep) ∷ (at-mate, m) ∷ ps
 
   -- a begin or text is its own mate so far, and stands under o
-  pub inner-more : (c ≡ 2 → ⊥) → One-more w x c a x o x ws (tag-written w x c a o ws)
+  pub inner-more : (c ≡ 2 → ⊥) → One-more w x c a x o deep x ws (tag-written w x c a o d ws)
   unfolding tag-written links-written place-written new-mate new-up puts
   inner-more inner =
       let ps = common x ((at-mate, x) ∷ (at-up, o) ∷ []) in
@@ -140,14 +144,14 @@ module _ (ws : List ℕ) (w : rows.Row) (x c a o : ℕ) (past : w .first ≤ x) 
     all-front : Places front
     all-front = omega arith
 
-    written : tag-written w x c a o ws ≡ with-field second x at-up (field ws o at-up)
+    written : tag-written w x c a o d ws ≡ with-field second x at-up (field ws o at-up)
     unfolding tag-written links-written place-written new-mate new-up puts
     written = rw (eq-eqb c 2 is-end) (ap (λ (up : ℕ). with-field second x at-up up) (up-kept apart))
 
     first-long : words-for header-words (w .end) ≤ length first
     first-long = rw (puts-beside w x past below front labelled all-front .size) labelled-long
 
-    pub end-more : One-more w x c a o (field ws o at-up) o ws (tag-written w x c a o ws)
+    pub end-more : One-more w x c a o (field ws o at-up) deep o ws (tag-written w x c a o d ws)
     end-more =
         let up = field ws o at-up in
         rw written (record {
@@ -175,7 +179,7 @@ module _ (ws : List ℕ) (w : rows.Row) (x c a o : ℕ) (past : w .first ≤ x) 
             label-past-field second x y at-up (field ws o at-up) (omega arith) (omega arith)
             ∙ label-past-field first o y at-mate x (omega arith) (omega arith) ∙ puts-label w x past below front labelled all-front y
 
-    pub end-mates : field (tag-written w x c a o ws) o at-mate ≡ x
+    pub end-mates : field (tag-written w x c a o d ws) o at-mate ≡ x
     end-mates =
         rw written (field-other-tag second x o at-up at-mate (field ws o at-up) (omega arith) (omega arith) (λ e. apart (sym e))
         ∙ field-same first o at-mate x (record-room (w .end) o first first-long begun) (omega arith))

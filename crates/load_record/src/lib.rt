@@ -1,9 +1,12 @@
-// The record of one new tag of a row: its place in the row, its mate and its up. An open begin's own up word serves as the stack.
+// The record of one new tag of a row: its place in the row, its mate, its up and its depth. An open begin's own up word serves as
+// the stack.
 ghost use mathlib.Core.Path.{_≡_};
 ghost use mathlib.Core.Bool.{true};
-ghost use Prim.Native.Nat.{_+_, _<_};
+ghost use Prim.Native.Nat.{suc, _+_, _<_};
+ghost use Rattle.store_types.specs.Limits.{word-limit};
 ghost use Rattle.store_types.specs.Layout.{at-up, field, Room};
-ghost use Rattle.load_record.specs.Record.{next-of, prior-of, place-written, Kind-number, new-mate, new-up, links-written, tag-written, open-behind, Opened, Around-known, Tag-fits};
+ghost use Rattle.calls.specs.Kind.{kind-of, own-depth, depth-after};
+ghost use Rattle.load_record.specs.Record.{next-of, prior-of, place-written, Kind-number, new-mate, new-up, links-written, tag-written, open-behind, Opened, Around-known, Depth-fits, Tag-fits};
 use store_types::BEGIN;
 use store_types::END;
 use store_types::Label;
@@ -50,11 +53,12 @@ fn write_place(words: &mut [u32], i: u32, row: Row, kind: u8, label: Label)
 }
 
 // The innermost open begin, and what stands around it where that is known: behind an end it is not, and only another end
-// asks for it.
+// asks for it. And how many begins are open before the next tag (document 02, CR 7).
 pub struct Open {
     pub begin: TagId,
     pub around: TagId,
     pub known: bool,
+    pub depth: u32,
 }
 
 // The up of a tag: the innermost open begin, and of an end what stands around that. It is read only where it is not known, so
@@ -77,24 +81,34 @@ fn mate_at(x: TagId, kind: u8, parent: TagId) -> TagId
     TagId(kind_pick::at_end(kind as u32, parent.0, x.0))
 }
 
-// Behind tag x, which has this up.
-fn open_behind(x: TagId, kind: u8, up: TagId, inside: Open) -> Open
-    requires { ⌜ Kind-number kind ⌝ }
-    ensures { λ q. ⌜ Opened (x .0) kind (up .0) inside q ⌝ }
+// The depth of a tag, where so many begins are open before it.
+fn depth_at(kind: u8, opens: u32) -> u32
+    requires { ⌜ Depth-fits kind opens ⌝ }
+    ensures { λ d. ⌜ d ≡ own-depth (kind-of kind) opens ⌝ }
+{
+    kind_pick::own_depth(kind as u32, opens)
+}
+
+// Behind tag x, which has this up and depth.
+fn open_behind(x: TagId, kind: u8, up: TagId, depth: u32, inside: Open) -> Open
+    requires { ⌜ Kind-number kind × (suc depth < word-limit) ⌝ }
+    ensures { λ q. ⌜ Opened (x .0) kind (up .0) depth inside q ⌝ }
 {
     Open {
         begin: TagId(kind_pick::at_begin(kind as u32, x.0, up.0)),
         around: TagId(kind_pick::at_begin(kind as u32, up.0, inside.around.0)),
+        depth: kind_pick::opens_after(kind as u32, depth),
         known: kind == BEGIN || (kind != END && inside.known),
     }
 }
 
-// Mate and up of a tag, and it is the mate of its mate: a tag that is no end is written twice as its own, which costs less than
-// a branch.
-fn write_links(words: &mut [u32], x: TagId, mate: TagId, up: TagId)
+// Depth, mate and up of a tag, and it is the mate of its mate: a tag that is no end is written twice as its own, which costs less
+// than a branch.
+fn write_links(words: &mut [u32], x: TagId, mate: TagId, up: TagId, depth: u32)
     requires { ⌜ Room (now words) (x .0) × Room (now words) (mate .0) ⌝ }
-    ensures { λ _. ⌜ now (words .exit) ≡ links-written (x .0) (mate .0) (up .0) (now (words .entry)) ⌝ }
+    ensures { λ _. ⌜ now (words .exit) ≡ links-written (x .0) (mate .0) (up .0) depth (now (words .entry)) ⌝ }
 {
+    words::set_depth(words, x, depth);
     words::set_mate(words, x, mate);
     words::set_mate(words, mate, x);
     words::set_up(words, x, up);
@@ -102,15 +116,17 @@ fn write_links(words: &mut [u32], x: TagId, mate: TagId, up: TagId)
 
 // Tag i of a row with its record, and its begin's mate where it is an end; what is open behind it.
 pub fn write_tag(words: &mut [u32], i: u32, row: Row, kind: u8, label: Label, inside: Open) -> Open
-    requires { ⌜ Tag-fits (now words) row i kind (inside .begin .0) × Around-known (now words) i inside ⌝ }
-    ensures words { λ _. ⌜ now (words .exit) ≡ tag-written row i kind (label .0) (inside .begin .0) (now (words .entry)) ⌝ }
+    requires { ⌜ Tag-fits (now words) row i kind (inside .begin .0) (inside .depth) × Around-known (now words) i inside ⌝ }
+    ensures words { λ _. ⌜ now (words .exit) ≡ tag-written row i kind (label .0) (inside .begin .0) (inside .depth) (now (words .entry)) ⌝ }
     ensures begin { λ q. ⌜ q .begin .0 ≡ open-behind row i kind (label .0) (inside .begin .0) (now (words .entry)) ⌝ }
     ensures around { λ q. ⌜ Around-known (now (words .exit)) (i + 1) q ⌝ }
+    ensures depth { λ q. ⌜ q .depth ≡ depth-after (kind-of kind) (inside .depth) ⌝ }
 {
     write_place(words, i, row, kind, label);
     let x = TagId(i);
     let up = up_at(words, kind, inside);
     let mate = mate_at(x, kind, inside.begin);
-    write_links(words, x, mate, up);
-    open_behind(x, kind, up, inside)
+    let depth = depth_at(kind, inside.depth);
+    write_links(words, x, mate, up, depth);
+    open_behind(x, kind, up, depth, inside)
 }

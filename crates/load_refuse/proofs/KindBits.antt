@@ -6,10 +6,9 @@ use native.Mathlib.Omega.{arith}
 use borrow.Author.Tests.{eq-eqb, eqb-true, leb-true}
 use lib.Dec.{eqb, leb}
 use Rattle.lists.proofs.Tests.{by-test, and-left, and-right}
-use Rattle.calls.specs.Kind.{is-kind}
+use Rattle.calls.specs.Kind.{is-kind, kind-of, is-begin, is-end, own-depth, opens-after, depth-after}
 use Rattle.kind_pick.specs.Needs.{Kind-word}
 use Rattle.kind_pick.proofs.PickLaws as pick
-use Rattle.load_refuse.specs.Refusals.{depth-behind}
 
 -- a kind is a kind word with no mark
 module _ (c : ℕ) (k : is-kind c ≡ true) where
@@ -36,8 +35,8 @@ module _ (d c : ℕ) where
   pub end-closes : cond (eqb c 2) 1 0 ≤ d → c ≡ 2 → 1 ≤ d
   end-closes l e = rw (eq-eqb c 2 e) at l
 
-  pub depth-sum : d + cond (eqb c 1) 1 0 - cond (eqb c 2) 1 0 ≡ depth-behind d c
-  unfolding depth-behind
+  pub depth-sum : d + cond (eqb c 1) 1 0 - cond (eqb c 2) 1 0 ≡ depth-after (kind-of c) d
+  unfolding depth-after opens-after own-depth is-begin is-end kind-of
   depth-sum =
       by-test (eqb c 1) (λ e. rw (eqb-true c 1 e) (omega arith))
       (λ e. by-test (eqb c 2) (λ f. rw (e, f) (omega arith)) (λ f. rw (e, f) (omega arith)))

@@ -11,17 +11,17 @@ use lib.ListN.{length, getD, drop, drop-of-length-le}
 use lib.Seq.{drop-cons}
 use Rattle.lists.specs.Lists.{first}
 use Rattle.lists.proofs.Tests.{by-test}
-use Rattle.calls.specs.Kind.{Kind, end, is-kind, kind-of}
+use Rattle.calls.specs.Kind.{Kind, begin, end, text, is-kind, kind-of, is-begin, is-end, own-depth, opens-after, depth-after}
 use Rattle.calls.specs.Nesting.{nests}
 use Rattle.calls.specs.Load.{all-kinds, kinds-tests}
-use Rattle.load_refuse.specs.Refusals.{kinds-refusal, rest-refusal, depth-behind}
+use Rattle.load_refuse.specs.Refusals.{kinds-refusal, rest-refusal}
 
 -- ONE KIND
-nests-goes : (d c : ℕ) (ks : List Kind) → (c ≡ 2 → 1 ≤ d) → nests d (kind-of c ∷ ks) ≡ nests (depth-behind d c) ks
-unfolding kind-of depth-behind nests
+nests-goes : (d c : ℕ) (ks : List Kind) → (c ≡ 2 → 1 ≤ d) → nests d (kind-of c ∷ ks) ≡ nests (depth-after (kind-of c) d) ks
+unfolding kind-of depth-after opens-after own-depth is-begin is-end nests
 nests-goes d c ks some =
     by-test (eqb c 1)
-    (λ e. rw (e, add-one))
+    (λ e. rw e)
     (λ e. by-test (eqb c 2) (λ f. rw (e, f) (closes d (some (eqb-true c 2 f)))) (λ f. rw (e, f)))
   where
     closes : (m : ℕ) → 1 ≤ m → nests m (end ∷ ks) ≡ nests (m - 1) ks
@@ -58,7 +58,7 @@ module _ (cs : List ℕ) (i : ℕ) (inside : i < length cs) where
   kinds-break e = rw (next-kind cs i inside, e, end-closes-none)
 
   pub kinds-go : (d : ℕ) → is-kind (getD cs i 0) ≡ true → (getD cs i 0 ≡ 2 → 1 ≤ d) →
-      kinds-refusal d (drop i cs) ≡ kinds-refusal (depth-behind d (getD cs i 0)) (drop (i + 1) cs)
+      kinds-refusal d (drop i cs) ≡ kinds-refusal (depth-after (kind-of (getD cs i 0)) d) (drop (i + 1) cs)
   unfolding kinds-refusal kinds-tests first all-kinds
   kinds-go d e some = rw (next-kind cs i inside, e, nests-goes d (getD cs i 0) (map kind-of (drop (i + 1) cs)) some)
 
@@ -71,7 +71,8 @@ unfolding kinds-refusal kinds-tests first all-kinds nests
 kinds-end d cs i l = rw (none-left cs i l)
 
 -- at most one begin more is open
-pub depth-most : (d c : ℕ) → depth-behind d c ≤ d + 1
-unfolding depth-behind
-depth-most d c =
-    by-test (eqb c 1) (λ e. rw e omega arith) (λ e. by-test (eqb c 2) (λ f. rw (e, f) omega arith) (λ f. rw (e, f) omega arith))
+pub depth-most : (k : Kind) (d : ℕ) → depth-after k d ≤ d + 1
+unfolding depth-after opens-after own-depth is-begin is-end
+depth-most begin d = omega arith
+depth-most end d = omega arith
+depth-most text d = omega arith

@@ -1,8 +1,7 @@
 -- The refusals of load that come before a word is written, but for the last (7). Assumes nothing: these are definitions.
 use mathlib.Core.Bool.{not, cond}
 use mathlib.Core.List.{List}
-use Prim.Native.Nat.{ℕ, _+_, _-_, _≤_}
-use lib.Dec.{eqb}
+use Prim.Native.Nat.{ℕ, _≤_}
 use Rattle.lists.specs.Lists.{first}
 use Rattle.store_types.specs.Limits.{most-tags}
 use Rattle.calls.specs.Load.{all-kinds, kinds-tests, early-tests}
@@ -14,10 +13,6 @@ kinds-refusal depth cs = first (kinds-tests depth cs) 0
 -- the same where an end before them closes none
 unfoldable pub rest-refusal : List ℕ → ℕ
 rest-refusal cs = cond (not (all-kinds cs)) 4 5
-
--- how many begins are open behind a kind
-unfoldable pub depth-behind : (open-begins kind : ℕ) → ℕ
-depth-behind depth c = cond (eqb c 1) (depth + 1) (cond (eqb c 2) (depth - 1) depth)
 
 -- 3, 6, 1, 4 and 5 in this order, 0 where there is none
 unfoldable pub refusal-before : (lent s r : ℕ) → (kinds : List ℕ) → ℕ

@@ -5,8 +5,8 @@ ghost use Prim.Native.Nat.{_<_, _≤_};
 ghost use lib.Dec.{eqb};
 ghost use lib.ListN.{length, drop};
 ghost use Rattle.tree.specs.Book.{load-under as least-under};
-ghost use Rattle.calls.specs.Kind.{is-kind};
-ghost use Rattle.load_refuse.specs.Refusals.{Height-fits, kinds-refusal, rest-refusal, depth-behind, refusal-before};
+ghost use Rattle.calls.specs.Kind.{is-kind, kind-of, depth-after};
+ghost use Rattle.load_refuse.specs.Refusals.{Height-fits, kinds-refusal, rest-refusal, refusal-before};
 use store_types::BEGIN;
 use store_types::MOST_TAGS;
 use store_types::TEXT;
@@ -46,7 +46,7 @@ fn ends(kind: u8) -> usize
 // How many begins are open behind a kind.
 fn depth_after(depth: usize, kind: u8) -> usize
     requires { ⌜ (depth < 9223372036854775808) × (is-kind kind ≡ true) × (cond (eqb kind 2) 1 0 ≤ depth) ⌝ }
-    ensures { λ d. ⌜ d ≡ depth-behind depth kind ⌝ }
+    ensures { λ d. ⌜ d ≡ depth-after (kind-of kind) depth ⌝ }
 {
     let begins = kind_pick::at_begin(kind as u32, 1, 0) as usize;
     depth + begins - ends(kind)

@@ -12,8 +12,8 @@ use lib.Dec.{ltb, eqb}
 use lib.ListN.{length}
 use Rattle.store_types.specs.Limits.{no-tag}
 use Rattle.lists.proofs.Tests.{by-test}
-use Rattle.store_types.specs.Layout.{header-words, at-next, at-prior, at-mate, at-up, at-kind, words-for, field, Records}
-use Rattle.calls.specs.Kind.{Kind, begin, end, text, code, kind-word}
+use Rattle.store_types.specs.Layout.{header-words, at-next, at-prior, at-mate, at-up, at-kind, at-depth, words-for, field, Records}
+use Rattle.calls.specs.Kind.{Kind, begin, end, text, code, kind-word, kind-of, own-depth}
 use Rattle.calls.specs.Store.{Fact, fact-in}
 use Rattle.calls_laws.proofs.Nesting.{Ends, Step, begins, ends, stands}
 use Rattle.load_record.specs.declared.Row as rows
@@ -46,10 +46,10 @@ up-to : {P : ℕ → Type 0} (w : rows.Row) (x : ℕ) → P x → ((y : ℕ) →
 up-to {P} w x own before y new l =
     by-test (eqb y x) (λ e. rw (eqb-true y x e) own) (λ e. let other = eqb-false y x e in before y new other (omega arith))
 
--- ONE TAG MORE, of kind number c, with label a
+-- ONE TAG MORE, of kind number c, with label a, where d begins are open before it
 module _ (w : rows.Row) (fs : List Fact) (ls : ℕ → ℕ) (before : List ℕ) (records : Records before (w .end)) (old : (y : ℕ) → y < w .first → fact-in fs y .mate ≡ no-tag)
-    (x : ℕ) (ws : List ℕ) (u : ℕ) (f : Filled w fs ls before x ws u) (past : w .first ≤ x) (own : x < w .end) (c a : ℕ) (labelled : a ≡ ls x)
-    (number : c ≡ code (fact-in fs x .kind)) (unmarked : fact-in fs x .marked ≡ false) where
+    (x : ℕ) (ws : List ℕ) (u : ℕ) (f : Filled w fs ls before x ws u) (past : w .first ≤ x) (own : x < w .end) (c a d : ℕ) (labelled : a ≡ ls x)
+    (number : c ≡ code (fact-in fs x .kind)) (unmarked : fact-in fs x .marked ≡ false) (deep : own-depth (kind-of c) d ≡ fact-in fs x .depth) where
   tag : x ≡ no-tag → ⊥
   tag e = omega (arith, records .few)
 
@@ -61,10 +61,10 @@ module _ (w : rows.Row) (fs : List Fact) (ls : ℕ → ℕ) (before : List ℕ) 
   still-long = rw (f .beside .size) (records .long)
 
   -- all but mates
-  places-more : (mate up begun : ℕ) (vs : List ℕ) → One-more w x c a mate up begun ws vs → up ≡ fact-in fs x .up → (y : ℕ) → w .first ≤ y → y < suc x →
+  places-more : (mate up begun : ℕ) (vs : List ℕ) → One-more w x c a mate up (own-depth (kind-of c) d) begun ws vs → up ≡ fact-in fs x .up → (y : ℕ) → w .first ≤ y → y < suc x →
       Between vs y (next-of w y) (prior-of w y) (ls y) (fact-in fs y)
   places-more mate up begun vs t is-up = up-to w x
-      (record { label-word = t .here .label-word ∙ labelled; next-word = t .here .next-word; prior-word = t .here .prior-word; up-word = t .here .up-word ∙ is-up; kind-is = t .here .kind-is ∙ is-word })
+      (record { label-word = t .here .label-word ∙ labelled; next-word = t .here .next-word; prior-word = t .here .prior-word; up-word = t .here .up-word ∙ is-up; kind-is = t .here .kind-is ∙ is-word; depth-is = t .here .depth-is ∙ deep })
       (λ y new other l.
       let p = f .places y new l in
       record {
@@ -73,10 +73,11 @@ module _ (w : rows.Row) (fs : List Fact) (ls : ℕ → ℕ) (before : List ℕ) 
         prior-word = t .kept y at-prior (omega arith) (omega arith) other (λ s i. omega arith) ∙ p .prior-word;
         up-word = t .kept y at-up (omega arith) (omega arith) other (λ s i. omega arith) ∙ p .up-word;
         kind-is = t .kept y at-kind (omega arith) (omega arith) other (λ s i. omega arith) ∙ p .kind-is;
+        depth-is = t .kept y at-depth (omega arith) (omega arith) other (λ s i. omega arith) ∙ p .depth-is;
       })
 
   -- a begin or text, under u: the mates that were right are, and those that were open may be so still
-  module _ (vs : List ℕ) (t : One-more w x c a x u x ws vs) (is-up : u ≡ fact-in fs x .up) where
+  module _ (vs : List ℕ) (t : One-more w x c a x u (own-depth (kind-of c) d) x ws vs) (is-up : u ≡ fact-in fs x .up) where
     inner-mates : {m : ℕ} → ((y : ℕ) → Open fs u y → Open fs m y) → (y : ℕ) → w .first ≤ y → (y ≡ x → ⊥) → y < x →
         (field vs y at-mate ≡ fact-in fs y .mate) ⊎ Open fs m y
     inner-mates still y new other l =
@@ -109,7 +110,7 @@ module _ (w : rows.Row) (fs : List Fact) (ls : ℕ → ℕ) (before : List ℕ) 
   own-begin m h = by-test (ltb u (w .first)) (λ e. absurd (tag (sym (h .back) ∙ old u (ltb-true u (w .first) e)))) (λ e. ltb-false u (w .first) e)
 
   -- whose mate is right now
-  turned-end : (m : ℕ) (vs : List ℕ) → (u ≡ no-tag → ⊥) → One-more w x c a u (field ws u at-up) u ws vs → field vs u at-mate ≡ x → Ends fs u x m →
+  turned-end : (m : ℕ) (vs : List ℕ) → (u ≡ no-tag → ⊥) → One-more w x c a u (field ws u at-up) (own-depth (kind-of c) d) u ws vs → field vs u at-mate ≡ x → Ends fs u x m →
       Filled w fs ls before (suc x) vs (fact-in fs u .up)
   turned-end m vs shut t back h =
       let up-is : field ws u at-up ≡ fact-in fs u .up = f .places u (own-begin m h) (f .below u (here shut refl)) .up-word in
@@ -135,12 +136,12 @@ module _ (w : rows.Row) (fs : List Fact) (ls : ℕ → ℕ) (before : List ℕ) 
   begun m (ends shut h) e = omega (arith, f .below u (here shut refl))
   begun m (stands h) e = absurd (omega (arith, numbered text (h .kind)))
 
-  pub turned : (m : ℕ) → Step fs no-tag u x m → Filled w fs ls before (suc x) (tag-written w x c a u ws) m × (open-behind w x c a u ws ≡ m)
+  pub turned : (m : ℕ) → Step fs no-tag u x m → Filled w fs ls before (suc x) (tag-written w x c a u d ws) m × (open-behind w x c a u ws ≡ m)
   unfolding code
   turned m (begins h) =
       let is-one : c ≡ 1 = numbered begin (h .kind) in
       rw (h .next) (
-        turned-begin _ (inner-more ws w x c a u past own still-long (λ e. omega arith)) (sym (h .up)),
+        turned-begin _ (inner-more ws w x c a u d past own still-long (λ e. omega arith)) (sym (h .up)),
         begin-opens w x c a u ws is-one,
       )
   turned m (ends shut h) =
@@ -150,12 +151,12 @@ module _ (w : rows.Row) (fs : List Fact) (ls : ℕ → ℕ) (before : List ℕ) 
       let fits : u < w .end = omega arith in
       let apart : x ≡ u → ⊥ = λ e. omega arith in
       rw (h .next) (
-        turned-end m _ shut (end-more ws w x c a u past own still-long is-two new fits apart) (end-mates ws w x c a u past own still-long is-two new fits apart) h,
-        end-opens ws w x c a u past own still-long is-two new fits apart ∙ f .places u new inside .up-word,
+        turned-end m _ shut (end-more ws w x c a u d past own still-long is-two new fits apart) (end-mates ws w x c a u d past own still-long is-two new fits apart) h,
+        end-opens ws w x c a u d past own still-long is-two new fits apart ∙ f .places u new inside .up-word,
       )
   turned m (stands h) =
       let is-three : c ≡ 3 = numbered text (h .kind) in
       rw (h .next) (
-        turned-text _ (inner-more ws w x c a u past own still-long (λ e. omega arith)) (sym (h .up)) (sym (h .mate)),
+        turned-text _ (inner-more ws w x c a u d past own still-long (λ e. omega arith)) (sym (h .up)) (sym (h .mate)),
         text-opens w x c a u ws is-three,
       )

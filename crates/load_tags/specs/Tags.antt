@@ -5,7 +5,7 @@ use mathlib.Core.List.{List, [], map}
 use Prim.Native.Nat.{ℕ, _+_, _*_, _^_, _≤_, _<_}
 use lib.ListN.{length, getD, drop}
 use Rattle.store_types.specs.Limits.{no-tag}
-use Rattle.store_types.specs.Layout.{header-words, at-next, at-prior, at-mate, at-up, at-kind, word-at, words-for, field, label-at, Records}
+use Rattle.store_types.specs.Layout.{header-words, at-next, at-prior, at-mate, at-up, at-kind, at-depth, word-at, words-for, field, label-at, Records}
 use Rattle.lists.specs.Lists.{numbers}
 use Rattle.powers.specs.Tables.{entry, entry-limit}
 use Rattle.tree.specs.Forest.{labels, spread}
@@ -35,13 +35,14 @@ pub record Tags-fit (ws cs : List ℕ) : Type 0 where
   pub kinds : all-kinds cs ≡ true
   pub nesting : nests 0 (map kind-of cs) ≡ true
 
--- and a row of new ones inside a begin u, or inside none
-pub record Row-fits (ws cs : List ℕ) (w : rows.Row) (u : ℕ) : Type 0 where
+-- and a row of new ones inside a begin u, or inside none, where v begins are open: no more than there are tags before the row
+pub record Row-fits (ws cs : List ℕ) (w : rows.Row) (u v : ℕ) : Type 0 where
   pub records : Records ws (w .end)
   pub count : w .first + length cs ≡ w .end
   pub kinds : all-kinds cs ≡ true
   pub nesting : nests 0 (map kind-of cs) ≡ true
   pub up : Tag-or-none (w .first) u
+  pub deep : v ≤ w .first
 
 -- of tag x between two others, with this label and fact: all but the mate
 pub record Between (ws : List ℕ) (x next prior label : ℕ) (t : Fact) : Type 0 where
@@ -50,6 +51,7 @@ pub record Between (ws : List ℕ) (x next prior label : ℕ) (t : Fact) : Type 
   pub prior-word : field ws x at-prior ≡ prior
   pub up-word : field ws x at-up ≡ t .up
   pub kind-is : field ws x at-kind ≡ kind-word (t .kind) (t .marked)
+  pub depth-is : field ws x at-depth ≡ t .depth
 
 -- and of n tags in the order of their numbers
 abbrev pub Placed : (ws : List ℕ) (n x label : ℕ) (t : Fact) → Type 0
@@ -63,7 +65,7 @@ pub record Around (before after : List ℕ) (n : ℕ) : Type 0 where
 
 -- the facts of tags of these kinds
 abbrev pub facts-new : (kinds : List ℕ) → List Fact
-facts-new cs = new-facts no-tag [] 0 (map kind-of cs)
+facts-new cs = new-facts no-tag [] 0 0 (map kind-of cs)
 
 -- their records, with these labels
 pub record Tags-written (before after cs ls : List ℕ) : Type 0 where

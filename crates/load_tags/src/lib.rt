@@ -41,6 +41,7 @@ pub fn write_tags(
         begin: TagId::NONE,
         around: TagId::NONE,
         known: false,
+        depth: 0,
     };
     let mut label: u64 = 0;
     let mut i: u32 = 0;
@@ -59,16 +60,17 @@ pub fn write_tags(
     }
 }
 
-// The records of a row inside a begin, or inside none. Their labels are none that a tag can have: they are numbered later, and
-// count as moved there.
-pub fn write_row(words: &mut [u32], kinds: &[u8], row: Row, up: TagId)
-    requires { ⌜ Row-fits (now words) (now kinds) row (up .0) ⌝ }
-    ensures { λ _. ⌜ now (words .exit) ≡ with-records (now (words .entry)) (row .first) (row .prior .0) (row .next .0) (new-facts (up .0) [] (row .first) (map kind-of (now (kinds .entry)))) ⌝ }
+// The records of a row inside a begin, or inside none, where so many begins are open. Their labels are none that a tag can have:
+// they are numbered later, and count as moved there.
+pub fn write_row(words: &mut [u32], kinds: &[u8], row: Row, up: TagId, depth: u32)
+    requires { ⌜ Row-fits (now words) (now kinds) row (up .0) depth ⌝ }
+    ensures { λ _. ⌜ now (words .exit) ≡ with-records (now (words .entry)) (row .first) (row .prior .0) (row .next .0) (new-facts (up .0) [] depth (row .first) (map kind-of (now (kinds .entry)))) ⌝ }
 {
     let mut inside = Open {
         begin: up,
         around: TagId::NONE,
         known: false,
+        depth,
     };
     let mut i: u32 = row.first;
     while i < row.end {

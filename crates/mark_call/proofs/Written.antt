@@ -22,7 +22,7 @@ use Rattle.calls.specs.Words.{header, tag-record, words-of}
 use Rattle.calls_laws.proofs.Tests.{Sound}
 use Rattle.calls_laws.proofs.Fields.{length-words, label-word, field-word, header-says}
 use Rattle.calls_laws.proofs.Sections.{Section}
-use Rattle.calls_laws.proofs.Marks.{length-marked, alike-marked, mark-of, own-below, within-own}
+use Rattle.calls_laws.proofs.Marks.{length-marked, alike-marked, level-marked, mark-of, own-below, within-own}
 use Rattle.mark_call.specs.Run.{with-mark, mark-each}
 use Rattle.mark_call.proofs.Each.{length-each, each-header, each-label, each-other-word, each-kind, each-front}
 
@@ -52,7 +52,7 @@ module _ (x : ℕ) (st : Store) where
   unfolding tag-record mark-store
   marked-record y l =
       let same = alike-marked st x 0 (st .facts) y in
-      rw (same .kind, same .mate, same .up, mark-of st x 0 (st .facts) y l, zero-add)
+      rw (same .kind, same .mate, same .up, mark-of st x 0 (st .facts) y l, zero-add, level-marked st x 0 (st .facts) y .depth)
 
   marked-count-same : count (mark-store x st) ≡ count st
   unfolding mark-store

@@ -22,7 +22,7 @@ use Rattle.tree_laws.proofs.Insertion.{tags-inserted-row}
 use Rattle.calls.specs.Kind.{Kind, is-begin}
 use Rattle.calls.specs.Store.{Store, fact, count, row, place-of}
 use Rattle.calls.specs.Nesting.{new-facts}
-use Rattle.calls.specs.Insert.{insert-kinds, position, up-at, book-after, insert-store, insert-refusal, row-refusal}
+use Rattle.calls.specs.Insert.{insert-kinds, position, up-at, depth-at, book-after, insert-store, insert-refusal, row-refusal}
 use Rattle.calls.specs.Words.{words-of, Says}
 use Rattle.calls.specs.Replies.{said, insert-refused, insert-reply, insert-words}
 use Rattle.calls.specs.Rights.{party-words}
@@ -63,7 +63,7 @@ module _ {st : Store} (h : Sound st) (w d x : ℕ) (ks : List Kind) (passed : ro
 
   mate-is : fact su x .mate ≡ mate
   unfolding insert-store
-  mate-is = ap (λ f. f .mate) (List·getD-append (st .facts) (new-facts (up-at d st) [] (count st) ks) _ x x-fits)
+  mate-is = ap (λ f. f .mate) (List·getD-append (st .facts) (new-facts (up-at d st) [] (depth-at d st) (count st) ks) _ x x-fits)
 
   around : (place-of st x ≤ place-of st d) × (place-of st d < place-of st mate)
   unfolding Encloses
@@ -75,7 +75,7 @@ module _ {st : Store} (h : Sound st) (w d x : ℕ) (ks : List Kind) (passed : ro
 
   counted : count su ≡ count st + length ks
   unfolding insert-store
-  counted = length-append (st .facts) (new-facts (up-at d st) [] (count st) ks) ∙ ap (λ m. count st + m) (length-new-facts (up-at d st) [] (count st) ks)
+  counted = length-append (st .facts) (new-facts (up-at d st) [] (depth-at d st) (count st) ks) ∙ ap (λ m. count st + m) (length-new-facts (up-at d st) [] (depth-at d st) (count st) ks)
 
   abbrev behind : ℕ
   behind = suc (place-of st d)

@@ -49,7 +49,11 @@ record-place i = row-bytes + row-bytes * i
 abbrev pub row-place : (i : ℕ) → ℕ
 row-place i = record-place i + front-bytes
 
--- words of a row: the tag's number and its label; its fields stand behind them in the order of a record
+-- the words of a tag's record that a file keeps: all but the last, its depth, which the kinds give (document 02, CR 7)
+abbrev pub kept-words : ℕ
+kept-words = 6
+
+-- words of a row: the tag's number and its label; its fields stand after them in the order of a record
 abbrev pub at-number : ℕ
 at-number = 0
 

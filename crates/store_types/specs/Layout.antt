@@ -34,7 +34,7 @@ at-stamp = 7
 abbrev pub header-words : ℕ
 header-words = 8
 
--- A RECORD: so many words of a label; then next, prior, mate, up and kind
+-- A RECORD: so many words of a label; then next, prior, mate, up, kind and depth (document 02, CR 7)
 abbrev pub label-words : ℕ
 label-words = 1
 
@@ -53,15 +53,18 @@ at-up = 4
 abbrev pub at-kind : ℕ
 at-kind = 5
 
+abbrev pub at-depth : ℕ
+at-depth = 6
+
 abbrev pub tag-words : ℕ
-tag-words = 6
+tag-words = 7
 
 -- THE WORDS one after the other: of a header, and of a record
 abbrev pub header-list : (s r height n first number stamp : ℕ) → List ℕ
 header-list s r h n first number stamp = 1 ∷ s ∷ r ∷ h ∷ n ∷ first ∷ number ∷ stamp ∷ []
 
-abbrev pub record-list : (label next prior mate up kind : ℕ) → List ℕ
-record-list l next prior mate up kind = l ∷ next ∷ prior ∷ mate ∷ up ∷ kind ∷ []
+abbrev pub record-list : (label next prior mate up kind depth : ℕ) → List ℕ
+record-list l next prior mate up kind depth = l ∷ next ∷ prior ∷ mate ∷ up ∷ kind ∷ depth ∷ []
 
 -- the label of such a record
 abbrev pub label-in : List ℕ → ℕ

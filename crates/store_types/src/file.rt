@@ -28,6 +28,9 @@ pub const ROW_BYTES: usize = FRONT_BYTES + WORD_BYTES * ROW_WORDS;
 
 pub const END_BYTES: usize = FRONT_BYTES + WORD_BYTES * END_WORDS;
 
+// Words of the store's record of a tag that a file keeps: all but the last, its depth, which the kinds give (document 02, CR 7).
+pub const KEPT_WORDS: usize = 6;
+
 // Words of a tag's record: its number and its label; its fields stand behind them in the order of the store's record.
 pub const AT_NUMBER: usize = 0;
 

@@ -9,12 +9,12 @@ use Rattle.tree.specs.Row.{member, place, insert-at, all-below}
 use Rattle.tree.specs.Forest.{leaves, labels, joined, leaf-row, parts, spread, put, split-height, within-limits}
 use Rattle.tree.specs.Book.{label-of, base, power-width, under-from, load-under, loaded, root-full, root-split, put-inside, inserted, split-of, inserted-row, split-of-row, moved-among, root-within, book-within}
 use Rattle.tree.specs.Spelling.{front-below, spelled-nodes, spelled}
-use Rattle.calls.specs.Kind.{code, is-kind, kind-of, kind-word, is-begin, is-end}
+use Rattle.calls.specs.Kind.{code, is-kind, kind-of, kind-word, word-kind, own-depth, opens-after, depth-after, is-begin, is-end}
 use Rattle.calls.specs.Store.{labels-fit, next-in, prior-in}
-use Rattle.calls.specs.Nesting.{nests, closing, new-facts, fits, opened, nested}
+use Rattle.calls.specs.Nesting.{nests, closing, new-facts, fits, opened, nested, depths-right}
 use Rattle.calls.specs.Sound.{degrees-fit, tree-sound, row-sound, stamp-sound, sound}
 use Rattle.calls.specs.Load.{all-kinds, kinds-tests, early-tests, load-refusal, load-store}
-use Rattle.calls.specs.Insert.{insert-kinds, position, up-at, book-after, insert-store, insert-moved, insert-split, raised, labels-end, place-tests, room-tests, insert-refusal}
+use Rattle.calls.specs.Insert.{insert-kinds, position, up-at, depth-at, book-after, insert-store, insert-moved, insert-split, raised, labels-end, place-tests, room-tests, insert-refusal}
 use Rattle.calls.specs.Mark.{within, mark-facts, mark-store, new-marks, mark-count, section-tests, section-refusal}
 use Rattle.calls.specs.Held.{hold-pair, encloses, current, question-tests, question}
 use Rattle.calls.specs.Listing.{is-listed, listed-tags, listed-labels, inside-tests, list-refusal}
@@ -29,9 +29,9 @@ use Rattle.system.specs.Feed.{party-inserted, acted-in, told-of, told, t
 use Rattle.system.specs.Specimens.{record-numbers, exchanges-hold, specimen-holds, specimen-table, feed-right}
 
 pub specimens : all-hold specimen-holds specimen-table ≡ true
-unfolding headD numbers member place insert-at all-below leaves labels joined leaf-row parts spread put split-height within-limits label-of base power-width under-from load-under loaded root-full root-split put-inside inserted split-of inserted-row split-of-row moved-among root-within book-within front-below spelled-nodes spelled first same how-many code is-kind kind-of kind-word is-begin is-end next-in prior-in labels-fit nests closing new-facts fits opened nested degrees-fit tree-sound row-sound stamp-sound sound words-for all-kinds kinds-tests early-tests load-refusal load-store insert-kinds position up-at book-after insert-store insert-moved insert-split labels-end place-tests room-tests insert-refusal within mark-facts mark-store new-marks mark-count section-tests section-refusal hold-pair encloses current question-tests question is-listed listed-tags listed-labels inside-tests list-refusal header tag-record flatMap words-of records-at field follow read-fact label-at header-width read-book read-store starts-with header-in-range read-in-range read in-front on-store refusal-over store-or said written replied load-reply load-words insert-refused insert-reply insert-words mark-reply mark-words hold-reply question-reply list-refused list-reply list-tags list-labels load-numbers insert-numbers mark-numbers hold-numbers answer-number question-numbers list-numbers emptied-by some-holds those names gives held others range-refusal grant-tests grant-refused grant-reply grant-count grant-list revoke-refused revoke-reply revoke-count revoke-list is-allowed turned-away inserted-reply allowed-reply allowed-words act-reply act-words is-right party-refused party-reply party-words grant-numbers revoke-numbers party-numbers pair finding-numbers keeping-numbers numbers-of refusal-in accepted change-reply change-words finding reading-lists keeping kept-grants kept-count reply with-words ended-by step record-numbers exchanges-hold specimen-holds all-hold
+unfolding headD numbers member place insert-at all-below leaves labels joined leaf-row parts spread put split-height within-limits label-of base power-width under-from load-under loaded root-full root-split put-inside inserted split-of inserted-row split-of-row moved-among root-within book-within front-below spelled-nodes spelled first same how-many code is-kind kind-of kind-word word-kind own-depth opens-after depth-after is-begin is-end next-in prior-in labels-fit nests closing new-facts fits opened nested depths-right degrees-fit tree-sound row-sound stamp-sound sound words-for all-kinds kinds-tests early-tests load-refusal load-store insert-kinds position up-at depth-at book-after insert-store insert-moved insert-split labels-end place-tests room-tests insert-refusal within mark-facts mark-store new-marks mark-count section-tests section-refusal hold-pair encloses current question-tests question is-listed listed-tags listed-labels inside-tests list-refusal header tag-record flatMap words-of records-at field follow read-fact label-at header-width read-book read-store starts-with header-in-range read-in-range read in-front on-store refusal-over store-or said written replied load-reply load-words insert-refused insert-reply insert-words mark-reply mark-words hold-reply question-reply list-refused list-reply list-tags list-labels load-numbers insert-numbers mark-numbers hold-numbers answer-number question-numbers list-numbers emptied-by some-holds those names gives held others range-refusal grant-tests grant-refused grant-reply grant-count grant-list revoke-refused revoke-reply revoke-count revoke-list is-allowed turned-away inserted-reply allowed-reply allowed-words act-reply act-words is-right party-refused party-reply party-words grant-numbers revoke-numbers party-numbers pair finding-numbers keeping-numbers numbers-of refusal-in accepted change-reply change-words finding reading-lists keeping kept-grants kept-count reply with-words ended-by step record-numbers exchanges-hold specimen-holds all-hold
 specimens = refl
 
 pub feed : feed-right ≡ true
-unfolding headD numbers member place insert-at all-below leaves labels joined leaf-row parts spread put split-height within-limits label-of base power-width under-from load-under loaded root-full root-split put-inside inserted split-of inserted-row split-of-row moved-among root-within book-within front-below spelled-nodes spelled first same how-many code is-kind kind-of kind-word is-begin is-end next-in prior-in labels-fit nests closing new-facts fits opened nested degrees-fit tree-sound row-sound stamp-sound sound words-for all-kinds kinds-tests early-tests load-refusal load-store insert-kinds position up-at book-after insert-store insert-moved insert-split labels-end place-tests room-tests insert-refusal within mark-facts mark-store new-marks mark-count section-tests section-refusal hold-pair encloses current question-tests question is-listed listed-tags listed-labels inside-tests list-refusal header tag-record flatMap words-of records-at field follow read-fact label-at header-width read-book read-store starts-with header-in-range read-in-range read in-front on-store refusal-over store-or said written replied load-reply load-words insert-refused insert-reply insert-words mark-reply mark-words hold-reply question-reply list-refused list-reply list-tags list-labels load-numbers insert-numbers mark-numbers hold-numbers answer-number question-numbers list-numbers emptied-by some-holds those names gives held others range-refusal grant-tests grant-refused grant-reply grant-count grant-list revoke-refused revoke-reply revoke-count revoke-list is-allowed turned-away inserted-reply allowed-reply allowed-words act-reply act-words is-right party-refused party-reply party-words grant-numbers revoke-numbers party-numbers pair finding-numbers keeping-numbers numbers-of refusal-in accepted change-reply change-words finding reading-lists keeping kept-grants kept-count reply with-words ended-by step record-numbers raised reference-load reference-position raised-by reference-insert reference-change reference-told reference-after replies party-inserted acted-in told-of told total-after-insert total-after-act total-after total-moved feed-right
+unfolding headD numbers member place insert-at all-below leaves labels joined leaf-row parts spread put split-height within-limits label-of base power-width under-from load-under loaded root-full root-split put-inside inserted split-of inserted-row split-of-row moved-among root-within book-within front-below spelled-nodes spelled first same how-many code is-kind kind-of kind-word word-kind own-depth opens-after depth-after is-begin is-end next-in prior-in labels-fit nests closing new-facts fits opened nested depths-right degrees-fit tree-sound row-sound stamp-sound sound words-for all-kinds kinds-tests early-tests load-refusal load-store insert-kinds position up-at depth-at book-after insert-store insert-moved insert-split labels-end place-tests room-tests insert-refusal within mark-facts mark-store new-marks mark-count section-tests section-refusal hold-pair encloses current question-tests question is-listed listed-tags listed-labels inside-tests list-refusal header tag-record flatMap words-of records-at field follow read-fact label-at header-width read-book read-store starts-with header-in-range read-in-range read in-front on-store refusal-over store-or said written replied load-reply load-words insert-refused insert-reply insert-words mark-reply mark-words hold-reply question-reply list-refused list-reply list-tags list-labels load-numbers insert-numbers mark-numbers hold-numbers answer-number question-numbers list-numbers emptied-by some-holds those names gives held others range-refusal grant-tests grant-refused grant-reply grant-count grant-list revoke-refused revoke-reply revoke-count revoke-list is-allowed turned-away inserted-reply allowed-reply allowed-words act-reply act-words is-right party-refused party-reply party-words grant-numbers revoke-numbers party-numbers pair finding-numbers keeping-numbers numbers-of refusal-in accepted change-reply change-words finding reading-lists keeping kept-grants kept-count reply with-words ended-by step record-numbers raised reference-load reference-position raised-by reference-insert reference-change reference-told reference-after replies party-inserted acted-in told-of told total-after-insert total-after-act total-after total-moved feed-right
 feed = refl

@@ -1,4 +1,4 @@
--- Histories of one system, worked out by hand from document 02, CR 6, and document 01, "The bare list"; proofs/Specimens.antt shows
+-- Histories of one system, worked out by hand from document 02, CR 6 and CR 7, and document 01, "The bare list"; proofs/Specimens.antt shows
 -- them to hold. A contractor's rights are one table: each is a list of calls, with the numbers that each replies and what the system
 -- then holds.
 use mathlib.Core.Bool.{Bool, true, _&&_}
@@ -8,7 +8,7 @@ use lib.Dec.{eqb}
 use lib.ListN.{replicate}
 use Rattle.lists.specs.Lists.{same}
 use Rattle.store_types.specs.Limits.{no-tag}
-use Rattle.store_types.specs.Layout.{header-words, words-for, at-stamp, word-at, label-at}
+use Rattle.store_types.specs.Layout.{header-words, words-for, at-stamp, at-depth, word-at, field, label-at}
 use Rattle.store_types.specs.declared.Grant.{Grant}
 use Rattle.calls.specs.Changes.{load, insert, mark}
 use Rattle.calls.specs.Reference.{reference-load, reference-after}
@@ -17,11 +17,13 @@ use Rattle.system.specs.System.{System, hold, grant, revoke, lend, Call,
 use Rattle.system.specs.Histories.{replies}
 use Rattle.system.specs.Feed.{told, total-moved}
 
--- what a call replies, or what the system holds: all records of the list, live or not, as numbers, and the count; a tag's label; the stamp
+-- what a call replies, or what the system holds: all records of the list, live or not, as numbers, and the count; a tag's
+-- label; its depth; the stamp
 pub data Exchange : Type 0 where
   says : Call → (numbers : List ℕ) → Exchange
   grants : (records : List ℕ) → (count : ℕ) → Exchange
   label : (tag value : ℕ) → Exchange
+  depth : (tag value : ℕ) → Exchange
   stamp : ℕ → Exchange
 
 unfoldable pub record-numbers : Grant → List ℕ
@@ -32,6 +34,7 @@ exchanges-hold y [] = true
 exchanges-hold y (says c ns ∷ es) = same (numbers-of (reply c y)) ns && exchanges-hold (step c y) es
 exchanges-hold y (grants ns n ∷ es) = (same (flatMap record-numbers (y .grants)) ns && eqb (y .count) n) && exchanges-hold y es
 exchanges-hold y (label x l ∷ es) = eqb (label-at (y .words) x) l && exchanges-hold y es
+exchanges-hold y (depth x d ∷ es) = eqb (field (y .words) x at-depth) d && exchanges-hold y es
 exchanges-hold y (stamp n ∷ es) = eqb (word-at (y .words) at-stamp) n && exchanges-hold y es
 
 -- so many tags fit the lent words, so many records the lent list; the count at first
@@ -117,6 +120,15 @@ specimen-table =
           says (load-with-grants 1 2 7 []) (refused 3) ∷ grants (65535 ∷ 0 ∷ 7 ∷ []) 1 ∷ says (changes (mark 0)) (accepted 2) ∷ says (keeps (grant 5 0 7)) (refused 9) ∷
           says (shows 65535 0 0 2 1 2 0) stale ∷ says (changes (load 2 2 9 [])) (0 ∷ 0 ∷ 1 ∷ []) ∷ grants (65535 ∷ 0 ∷ 7 ∷ []) 1 ∷
           says (load-with-grants 2 2 8 []) (0 ∷ 0 ∷ 1 ∷ []) ∷ grants (65535 ∷ 0 ∷ 7 ∷ []) 0 ∷ [];
+    } ∷
+    -- a party's tags are as deep as their place, right after the begin and after its own; the words have room for one of an element's
+    record {
+      room = 8;
+      records = 1;
+      count = 0;
+      exchanges =
+          says printed (0 ∷ 6 ∷ 2 ∷ []) ∷ says (keeps (grant 6 1 7)) (accepted 1) ∷ says (shows 6 1 1 3 1 4 3) (0 ∷ 3 ∷ 6 ∷ 0 ∷ 0 ∷ []) ∷ depth 6 2 ∷
+          says (shows 6 1 1 3 6 4 1) (refused 6) ∷ says (shows 6 1 1 3 6 4 3) (0 ∷ 3 ∷ 7 ∷ 5 ∷ 2 ∷ []) ∷ depth 7 2 ∷ [];
     } ∷
     -- no list: a party's call is refused with 18, a grant with 19
     record {

@@ -17,7 +17,7 @@ use Rattle.store_types.specs.Layout.{at-first, at-stamp, at-up, at-kind, word-a
 use Rattle.words.specs.Offsets.{offset-of}
 use Rattle.words.proofs.Offsets.{offset-beyond}
 use Rattle.walk_model.specs.Levels.{Levels, closes, all-close}
-use Rattle.walk_model.specs.Walk.{State, end-fits, kind-fits, open-after, placed, tag-passes, passed, ends-well, walk}
+use Rattle.walk_model.specs.Walk.{State, end-fits, kind-fits, open-after, depth-fits, placed, tag-passes, passed, ends-well, walk}
 use Rattle.walk_model.specs.Watch.{place-sizes, settle-sizes, close-sizes, walk-sizes}
 use Rattle.walk_tags.specs.Needs.{Open, none, begin, Tag-reads, fits-at, marks-at}
 use Rattle.walk_tags.proofs.TagLaws.{kind-fitting, begin-of, open-cases}
@@ -27,8 +27,12 @@ use Rattle.shape.specs.Sums.{cut}
 use Rattle.walk_levels.specs.Needs.{tables-of, levels-of, settle-from, place-from, close-from, expected-label}
 use Rattle.walk_levels.proofs.LevelLaws.{place-waited, place-settled}
 use Rattle.walk_levels.proofs.SizeLaws.{place-sizes-waited, place-sizes-settled}
-use Rattle.walk.specs.Needs.{Pass-fits, Standing, Behind, ends-from, label-passes, shape-with, shape-in, label-due, state-with, start-with}
+use Rattle.walk.specs.Needs.{Pass-fits, Standing, Behind, ends-from, label-passes, shape-with, shape-in, label-due, first-state, state-with, start-with}
 use Rattle.walk.specs.declared.State as code
+
+-- a test that did not fail holds
+pub held : {t s : Bool} → t ≡ s → not t ≡ false → s ≡ true
+held {t} e n = sym e ∙ not-false t n
 
 -- BEHIND THE LAST TAG
 module _ (ws : List ℕ) (n u : ℕ) (l h f : List ℕ) (x o m : ℕ) {t : Bool} where
@@ -105,9 +109,12 @@ module _ (ws t : List ℕ) (n u : ℕ) (v : code.State) (e f : List ℕ) where
   abbrev pub tag-at : Bool
   tag-at = tag-passes ws (shape-in t u n) (v .place) (state-with ws v e f)
 
-  pub tag-joined : {a b : Bool} → a ≡ label-here → b ≡ fits-at ws n (v .parent .0) (v .tag .0) (v .prior .0) → (a && b) ≡ tag-at
+  abbrev pub depth-here : Bool
+  depth-here = depth-fits ws (v .tag .0) (field ws (v .tag .0) at-kind) (v .depth)
+
+  pub tag-joined : {a b d : Bool} → a ≡ label-here → b ≡ fits-at ws n (v .parent .0) (v .tag .0) (v .prior .0) → d ≡ depth-here → ((a && b) && d) ≡ tag-at
   unfolding tag-passes label-passes fits-at shape-with state-with
-  tag-joined p q = rw (p, q)
+  tag-joined p q d = rw (p, q, d)
 
   pub label-below : {a : Bool} → a ≡ label-here → not a ≡ false → v .tag .0 < n
   unfolding label-passes shape-with state-with
@@ -121,7 +128,7 @@ module _ (ws t : List ℕ) (n u : ℕ) (v q : code.State) (e f e′ f′ : List 
 
   passed-by : levels-of e′ f′ ≡ levels-at ws t n u v e f → {end : ℕ} → Behind ws end v q → state-with ws q e′ f′ ≡ passed ws (shape-in t u n) (v .place) (state-with ws v e f)
   unfolding passed state-with shape-with tables-of marks-at
-  passed-by c b = rw (b .tag, b .prior, b .parent, b .marks, next-behind, fits .unit, c)
+  passed-by c b = rw (b .tag, b .prior, b .parent, b .depth, b .marks, next-behind, fits .unit, c)
 
 -- THE WALK FROM A TAG ON: what is left comes to the whole
 module _ (ws t : List ℕ) (n u : ℕ) where
@@ -138,19 +145,18 @@ module _ (ws t : List ℕ) (n u : ℕ) where
   abbrev pub sizes-whole : (sizes : List ℕ) → List ℕ
   sizes-whole sz = walk-sizes ws (shape-in t u n) (numbers-in t) n 0 (start-with ws (widths-in t)) sz
 
-  abbrev first-state : (at : ℕ) → code.State
-  first-state p =
-      record { place = 0; tag = record { 0 = word-at ws at-first }; at = record { 0 = p }; prior = record { 0 = no-tag }; parent = record { 0 = no-tag }; marks = 0; expect = 0 }
+  abbrev start-state : (at : ℕ) → code.State
+  start-state p = first-state (word-at ws at-first) p
 
-  pub walk-start : (p : ℕ) {w : List ℕ} → w ≡ widths-in t → walk-at (first-state p) w (replicate table-length 0) ≡ walk-whole
+  pub walk-start : (p : ℕ) {w : List ℕ} → w ≡ widths-in t → walk-at (start-state p) w (replicate table-length 0) ≡ walk-whole
   unfolding state-with start-with label-due
   walk-start p e = rw (sub-zero n, e)
 
-  pub sizes-start : (p : ℕ) {w : List ℕ} → w ≡ widths-in t → (sz : List ℕ) → sizes-at-tag (first-state p) w (replicate table-length 0) sz ≡ sizes-whole sz
+  pub sizes-start : (p : ℕ) {w : List ℕ} → w ≡ widths-in t → (sz : List ℕ) → sizes-at-tag (start-state p) w (replicate table-length 0) sz ≡ sizes-whole sz
   unfolding state-with start-with label-due
   sizes-start p e sz = rw (sub-zero n, e)
 
-  pub standing-start : {p : ℕ} {w : List ℕ} → Pass-fits ws n u t → w ≡ widths-in t → p ≡ offset-of (word-at ws at-first) → Standing ws n w (first-state p)
+  pub standing-start : {p : ℕ} {w : List ℕ} → Pass-fits ws n u t → w ≡ widths-in t → p ≡ offset-of (word-at ws at-first) → Standing ws n w (start-state p)
   unfolding label-due expected-label
   standing-start fits e q =
       record { there = q; waits = rw (e, ne-eqb 0 (getD (widths-in t) 1 0) (λ z. omega (arith, fits .wide))); around = none; marks-few = omega arith }
@@ -169,24 +175,28 @@ module _ (ws t : List ℕ) (n u : ℕ) where
     walk-end r s = let z : n - v .place ≡ 0 = omega arith in s ∙ ends-same ws t e f n u v ∙ (rw z at inv)
 
     module _ {a : Bool} (more : v .place < n) (one : a ≡ label-here ws t n u v e f) where
-      walk-turn : {b : Bool} → b ≡ fits-at ws n (v .parent .0) (v .tag .0) (v .prior .0) →
-          ((a && b) && walk ws (shape-in t u n) (n - (v .place + 1)) (v .place + 1) (passed ws (shape-in t u n) (v .place) (state-with ws v e f))) ≡ walk-whole
+      walk-turn : {b d : Bool} → b ≡ fits-at ws n (v .parent .0) (v .tag .0) (v .prior .0) → d ≡ depth-here ws t n u v e f →
+          (((a && b) && d) && walk ws (shape-in t u n) (n - (v .place + 1)) (v .place + 1) (passed ws (shape-in t u n) (v .place) (state-with ws v e f))) ≡ walk-whole
       unfolding walk
-      walk-turn two =
+      walk-turn two three =
           let z : n - v .place ≡ suc (n - (v .place + 1)) = omega arith in
-          rw (tag-joined ws t n u v e f one two) (rw (z, ← add-one (v .place)) at inv)
+          rw (tag-joined ws t n u v e f one two three) (rw (z, ← add-one (v .place)) at inv)
 
       pub walk-misplaced : not a ≡ true → false ≡ walk-whole
-      walk-misplaced r = rw (not-true a r) at (walk-turn refl)
+      walk-misplaced r = rw (not-true a r) at (walk-turn refl refl)
 
       module _ {b : Bool} (r : not a ≡ false) (two : b ≡ fits-at ws n (v .parent .0) (v .tag .0) (v .prior .0)) where
         pub walk-refused : not b ≡ true → false ≡ walk-whole
-        walk-refused s = rw (not-false a r, not-true b s) at (walk-turn two)
+        walk-refused s = rw (not-false a r, not-true b s) at (walk-turn two refl)
 
-        pub walk-more : (q : code.State) (e′ f′ : List ℕ) {end : ℕ} → Pass-fits ws n u t → not b ≡ false → levels-of e′ f′ ≡ levels-at ws t n u v e f → Behind ws end v q → walk-at q e′ f′ ≡ walk-whole
-        walk-more q e′ f′ fits s c d =
-            rw (passed-by ws t n u v q e f e′ f′ fits (label-below ws t n u v e f one r) c d, d .place)
-            (rw (not-false a r, not-false b s) at (walk-turn two))
+        module _ {d : Bool} (s : not b ≡ false) (three : d ≡ depth-here ws t n u v e f) where
+          pub walk-wrong-depth : not d ≡ true → false ≡ walk-whole
+          walk-wrong-depth o = rw (not-false a r, not-false b s, not-true d o) at (walk-turn two three)
+
+          pub walk-more : (q : code.State) (e′ f′ : List ℕ) {end : ℕ} → Pass-fits ws n u t → not d ≡ false → levels-of e′ f′ ≡ levels-at ws t n u v e f → Behind ws end v q → walk-at q e′ f′ ≡ walk-whole
+          walk-more q e′ f′ fits o c h =
+              rw (passed-by ws t n u v q e f e′ f′ fits (label-below ws t n u v e f one r) c h, h .place)
+              (rw (not-false a r, not-false b s, not-false d o) at (walk-turn two three))
 
   -- THE SIZES
   turn-by : (sz : List ℕ) (k : ℕ) (v : code.State) (e f : List ℕ) →
@@ -259,7 +269,7 @@ module _ (ws t : List ℕ) (n u : ℕ) (v : code.State) (e : List ℕ) (fits : P
     unfolding fits-at
     fits-here = let all = simp and-eq-true-iff at (sym two ∙ not-false _ passes) in all .1
 
-    -- so the state behind it can be made
+    -- so its depth can be tested, and the state behind it made
     pub passed-fits : v .place < n →
         (Tag-reads ws n (v .tag .0) (v .at .0) (v .parent .0) × (kind-fits ws n (v .parent .0) (v .tag .0) (field ws (v .tag .0) at-kind) ≡ true))
         × ((field ws (v .tag .0) at-kind < 32) × (v .place < 4000000000) × (v .marks < 4000000000))

@@ -10,7 +10,7 @@ use Rattle.powers.specs.Tables.{table-length}
 use Rattle.store_types.specs.Limits.{no-tag, most-tags}
 use Rattle.store_types.specs.Layout.{at-first, at-stamp, header-words, at-next, at-kind, word-at, field, label-at, Records}
 use Rattle.words.specs.Offsets.{offset-of}
-use Rattle.walk_model.specs.Walk.{Shape, State, open-after, placed}
+use Rattle.walk_model.specs.Walk.{Shape, State, open-after, depth-after, placed}
 use Rattle.walk_tags.specs.Needs.{Open, marks-at}
 use Rattle.shape.specs.Packed.{widths-in, lows-in, highs-in}
 use Rattle.shape.specs.Sums.{cut}
@@ -34,6 +34,11 @@ shape-in t u n = shape-with (widths-in t) (lows-in t) (highs-in t) u n
 unfoldable pub label-due : List ℕ → (prior : ℕ) → ℕ
 label-due ws prior = cond (eqb prior no-tag) 0 (cut (label-at ws prior + 1))
 
+-- before the first tag
+abbrev pub first-state : (tag at : ℕ) → code.State
+first-state x p =
+    record { place = 0; tag = record { 0 = x }; at = record { 0 = p }; prior = record { 0 = no-tag }; parent = record { 0 = no-tag }; depth = 0; marks = 0; expect = 0 }
+
 -- where the code stands, with the levels that it keeps beside it
 unfoldable pub state-with : List ℕ → code.State → (ends firsts : List ℕ) → State
 state-with ws v ends firsts =
@@ -41,6 +46,7 @@ state-with ws v ends firsts =
       tag = v .tag .0;
       prior = v .prior .0;
       open-begin = v .parent .0;
+      depth = v .depth;
       marks = v .marks;
       expect = label-due ws (v .prior .0);
       levels = levels-of ends firsts;
@@ -64,12 +70,13 @@ pub record Behind (ws : List ℕ) (end : ℕ) (v q : code.State) : Type 0 where
   pub there : q .at .0 ≡ offset-of (q .tag .0)
   pub prior : q .prior .0 ≡ v .tag .0
   pub parent : q .parent .0 ≡ open-after ws (v .parent .0) (v .tag .0) (field ws (v .tag .0) at-kind)
+  pub depth : q .depth ≡ depth-after ws (v .tag .0) (field ws (v .tag .0) at-kind)
   pub marks : q .marks ≡ marks-at ws (v .tag .0) (v .marks)
   pub expect : q .expect ≡ expected-label (cut (label-at ws (v .tag .0) + 1)) end
 
 unfoldable pub start-with : (words widths : List ℕ) → State
 start-with ws w =
-    record { tag = word-at ws at-first; prior = no-tag; open-begin = no-tag; marks = 0; expect = 0; levels = levels-of w (replicate table-length 0) }
+    record { tag = word-at ws at-first; prior = no-tag; open-begin = no-tag; depth = 0; marks = 0; expect = 0; levels = levels-of w (replicate table-length 0) }
 
 -- behind the last tag
 pub record Ends-fit (ws : List ℕ) (n under marks : ℕ) (tables : List ℕ) : Type 0 where

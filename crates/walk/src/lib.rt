@@ -3,12 +3,12 @@ ghost use mathlib.Core.Path.{_≡_};
 ghost use mathlib.Core.Bool.{true};
 ghost use Prim.Native.Nat.{_<_};
 ghost use Rattle.store_types.specs.Layout.{at-kind, field, label-at};
-ghost use Rattle.walk_model.specs.Walk.{kind-fits, placed, walk, words-pass};
+ghost use Rattle.walk_model.specs.Walk.{kind-fits, depth-fits, placed, walk, words-pass};
 ghost use Rattle.walk_model.specs.Watch.{Tables-at, place-sizes, close-sizes, walk-sizes, sizes-at};
 ghost use Rattle.walk_tags.specs.Needs.{Tag-reads};
 ghost use Rattle.shape.specs.Packed.{widths-in, lows-in, highs-in, numbers-in};
 ghost use Rattle.walk_levels.specs.Needs.{levels-of};
-ghost use Rattle.walk.specs.Needs.{Pass-fits, Standing, Ends-fit, Behind, ends-from, label-passes, shape-in, label-due, state-with, start-with};
+ghost use Rattle.walk.specs.Needs.{Pass-fits, Standing, Ends-fit, Behind, ends-from, label-passes, shape-in, label-due, first-state, state-with, start-with};
 use shape::PACKED_LENGTH;
 use shape::TABLE_LENGTH;
 use store_types::TagId;
@@ -21,15 +21,33 @@ pub struct Extent {
 }
 
 // Where the pass stands: its place, which is the tags so far, marked ones too; the next tag and where its record stands, the
-// tag before it, the innermost open begin, the marked tags so far, and the label that the next child is to have.
+// tag before it, the innermost open begin and how many begins are open, the marked tags so far, and the label that the next
+// child is to have.
 pub struct State {
     pub place: u32,
     pub tag: TagId,
     pub at: Offset,
     pub prior: TagId,
     pub parent: TagId,
+    pub depth: u64,
     pub marks: u32,
     pub expect: u64,
+}
+
+// Before the first tag, whose record stands there: none is before it, and no begin is open.
+pub fn started(first: TagId, at: Offset) -> State
+    ensures { λ v. ⌜ v ≡ first-state (first .0) (at .0) ⌝ }
+{
+    State {
+        place: 0,
+        tag: first,
+        at,
+        prior: TagId::NONE,
+        parent: TagId::NONE,
+        depth: 0,
+        marks: 0,
+        expect: 0,
+    }
 }
 
 // One tag's number and its label: of the next child of the open node of height 1, or of the first leaf of new nodes.
@@ -60,6 +78,7 @@ fn label_fits(
 // Behind a tag that passes: end is where the open node of height 1 ends.
 fn passed(words: &[u32], n: u32, end: u64, v: State) -> State
     requires tag { ⌜ Tag-reads (now words) n (v .tag .0) (v .at .0) (v .parent .0) × (kind-fits (now words) n (v .parent .0) (v .tag .0) (field (now words) (v .tag .0) at-kind) ≡ true) ⌝ }
+    requires deep { ⌜ depth-fits (now words) (v .tag .0) (field (now words) (v .tag .0) at-kind) (v .depth) ≡ true ⌝ }
     requires counts { ⌜ (field (now words) (v .tag .0) at-kind < 32) × (v .place < 4000000000) × (v .marks < 4000000000) ⌝ }
     ensures { λ q. ⌜ Behind (now (words .entry)) end v q ⌝ }
 {
@@ -67,6 +86,7 @@ fn passed(words: &[u32], n: u32, end: u64, v: State) -> State
     let at = v.at;
     let next = TagId(words::get_at(words, at, words::AT_NEXT));
     let parent = walk_tags::open_after(words, n, x, at, v.parent);
+    let depth = walk_tags::depth_after(words, x, at, v.depth);
     let marks = walk_tags::count_mark(words, x, at, v.marks);
     let label = words::label_there(words, at);
     State {
@@ -75,6 +95,7 @@ fn passed(words: &[u32], n: u32, end: u64, v: State) -> State
         at: Offset::of(next),
         prior: x,
         parent,
+        depth,
         marks,
         expect: walk_levels::expected(label, end),
     }
@@ -127,20 +148,15 @@ fn pass(
     let pairs = walk_tags::pairs();
     let mut ends = widths;
     let mut firsts = [0u32; TABLE_LENGTH];
-    let mut v = State {
-        place: 0,
-        tag: first,
-        at,
-        prior: TagId::NONE,
-        parent: TagId::NONE,
-        marks: 0,
-        expect: 0,
-    };
+    let mut v = started(first, at);
     while v.place < size.n {
         if !label_fits(words, size, v, tables, &mut ends, &mut firsts, sizes) {
             return false;
         }
         if !walk_tags::tag_fits(&pairs, words, size.n, v.tag, v.at, v.prior, v.parent) {
+            return false;
+        }
+        if !walk_tags::depth_fits(words, v.tag, v.at, v.depth) {
             return false;
         }
         v = passed(words, size.n, ends[1], v);

@@ -20,10 +20,11 @@ use Rattle.tree.specs.Book.{label-of, root-within, book-within}
 use Rattle.tree_laws.proofs.Good.{test-of}
 use Rattle.tree_laws.proofs.Rows.{Distinct, member-nil, member-cases, getD-place, place-of-member, all-below-distinct, member-all-below}
 use Rattle.tree_laws.proofs.Labels.{Rising, rising-from, good-rising}
-use Rattle.calls.specs.Kind.{code, kind-of, kind-word}
-use Rattle.calls.specs.Store.{Store, no-fact, fact, count, width}
+use Rattle.calls.specs.Kind.{code, kind-of, kind-word, word-kind}
+use Rattle.calls.specs.Store.{Store, no-fact, fact, count, row, width}
+use Rattle.calls.specs.Nesting.{depths-right}
 use Rattle.calls.specs.Words.{Says, read-fact, header-width}
-use Rattle.calls_laws.proofs.Tests.{Sound, sound-of}
+use Rattle.calls_laws.proofs.Tests.{Sound-with, sound-of}
 use Rattle.calls_laws.proofs.Fields.{Tag-says, Header-says}
 use Rattle.calls_laws.proofs.Reader.{getD-map}
 use Rattle.walk_model.specs.Walk.{kind-fits, open-after}
@@ -57,8 +58,8 @@ code-back (suc (suc zero)) l m = refl
 code-back (suc (suc (suc zero))) l m = refl
 code-back (suc (suc (suc (suc c)))) l m = absurd (omega arith)
 
-word-back : (c : ℕ) → c < 32 → 1 ≤ c % 16 → c % 16 ≤ 3 → kind-word (kind-of (cond (leb 16 c) (c - 16) c)) (leb 16 c) ≡ c
-unfolding kind-word
+pub word-back : (c : ℕ) → c < 32 → 1 ≤ c % 16 → c % 16 ≤ 3 → kind-word (word-kind c) (leb 16 c) ≡ c
+unfolding kind-word word-kind
 word-back c l a b =
     by-test (leb 16 c)
     (λ e. let high = leb-true 16 c e in rw (e, code-back (c - 16) (omega arith) (omega arith)) omega arith)
@@ -86,7 +87,7 @@ words-back ws n o (y ∷ ys) h x m =
     (λ e k. words-back ws n (open-after ws o y c) ys (and-right (kind-fits ws n o y c) later h) x k)
 
 -- THE STORE that is read where the tree is f
-pub found : List ℕ → (s r u n : ℕ) → Forest → Store
+unfoldable pub found : List ℕ → (s r u n : ℕ) → Forest → Store
 found ws s r u n f =
     record {
       book = record { s = s; r = r; under = u; root = f };
@@ -97,7 +98,7 @@ found ws s r u n f =
 
 module _ {s r u n : ℕ} (ws : List ℕ) (h : Header ws s r u n) (f : Forest) (good : Good s r f u) (long : size f ≡ n)
     (links : Linked ws n (word-at ws at-first) no-tag (leaves f)) (labels-are : labels f (header-width ws) u 0 ≡ map (label-at ws) (leaves f))
-    (kinds : kinds-pass ws n no-tag (leaves f) ≡ true) where
+    (kinds : kinds-pass ws n no-tag (leaves f) ≡ true) (stamp : word-at ws at-stamp ≤ n + total (mark-word ws) (leaves f)) where
   abbrev st : Store
   st = found ws s r u n f
 
@@ -144,6 +145,7 @@ module _ {s r u n : ℕ} (ws : List ℕ) (h : Header ws s r u n) (f : Forest) (g
         mate-word = rw (fact-is x l);
         up-word = rw (fact-is x l);
         kind-is = rw (fact-is x l) (words-back ws n no-tag (leaves f) kinds x m);
+        depth-is = rw (fact-is x l);
       }
 
   header-is : Header-says ws st
@@ -166,10 +168,10 @@ module _ {s r u n : ℕ} (ws : List ℕ) (h : Header ws s r u n) (f : Forest) (g
       let root = and-both (lt-ltb _ _ (h .below)) (h .least) in
       and-both (rw (← long) at root) (test-of s r f u good)
 
-  -- it is sound, and these are its words
-  found-sound : word-at ws at-stamp ≤ n + total (mark-word ws) (leaves f) → Sound st
+  -- it is sound but for its depths, of which D is known
+  found-sound : {D : Type 0} → D → Sound-with D st
   unfolding found
-  found-sound stamp =
+  found-sound known =
       let few : count st ≤ most-tags = omega (arith, issued, h .few) in
       let tags : (x : ℕ) → member x (leaves f) ≡ true → x < count st = λ x m. omega (arith, issued, below x m) in
       let as-many = long ∙ sym issued in
@@ -181,9 +183,11 @@ module _ {s r u n : ℕ} (ws : List ℕ) (h : Header ws s r u n) (f : Forest) (g
         as-many = as-many;
         each = rw issued each;
         nesting = sym (kinds-same ws st few says (leaves f) tags) ∙ rw issued kinds;
+        depths = known;
         stamp-fits = omega (arith, issued, marks-same ws st says (leaves f) distinct tags as-many);
       }
 
-  pub found-said : word-at ws at-stamp ≤ n + total (mark-word ws) (leaves f) → Says ws st
+  -- and these are its words, if its depths are right by what they say
+  pub found-said : (Sound-with (Unit {0}) st → ((x : ℕ) → x < count st → Tag-says ws st x) → depths-right (st .facts) 0 (row st) ≡ true) → Says ws st
   unfolding Says
-  found-said stamp = (sound-of st (found-sound stamp), (_, rebuilt ws st says header-is (rw issued (h .room))))
+  found-said deep = (sound-of st (found-sound (deep (found-sound tt) says)), (_, rebuilt ws st says header-is (rw issued (h .room))))

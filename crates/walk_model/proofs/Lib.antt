@@ -5,6 +5,7 @@ pub mod Levels
 pub mod Passes
 pub mod Shapes
 pub mod KindPass
+pub mod Depths
 pub mod Counts
 pub mod Links
 pub mod Rebuilt

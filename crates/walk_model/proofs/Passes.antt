@@ -1,4 +1,4 @@
--- The walk (specs/Walk.antt) split into its passes along one row: links, labels, kinds and marks, both ways.
+-- The walk (specs/Walk.antt) split into its passes along one row: links, labels, kinds, depths and marks, both ways.
 -- Assumes nothing.
 use mathlib.Core.Path.{_≡_, refl}
 use mathlib.Core.Bool.{Bool, true, _&&_, cond}
@@ -6,7 +6,7 @@ use mathlib.Core.List.{List, [], _∷_, map}
 use Prim.Native.Nat.{ℕ, zero, suc, _+_, _≤_, _<_}
 use native.Mathlib.Omega.{arith}
 use borrow.Author.Tests.{ltb-true, leb-true, eqb-true, lt-ltb, le-leb, eq-eqb}
-use lib.Dec.{leb, eqb}
+use lib.Dec.{ltb, leb, eqb}
 use lib.ListN.{length}
 use Rattle.store_types.specs.Limits.{no-tag}
 use Rattle.lists.proofs.Tests.{and-left, and-right, and-both}
@@ -15,7 +15,7 @@ use Rattle.powers.specs.Tables.{entry}
 use Rattle.shape.specs.Sums.{cut}
 use Rattle.calls.specs.Words.{follow}
 use Rattle.walk_model.specs.Levels.{all-close, labels-pass}
-use Rattle.walk_model.specs.Walk.{kind-fits, open-after, State, Shape, placed, tag-passes, passed, ends-well, walk}
+use Rattle.walk_model.specs.Walk.{kind-fits, open-after, depth-fits, depth-after, State, Shape, placed, tag-passes, passed, ends-well, walk}
 
 -- THE PASSES along a row. Each tag is the one that next leads to, a tag, and knows the one before it; no tag follows
 abbrev pub Linked : List ℕ → (n tag prior : ℕ) → List ℕ → Type 0
@@ -26,6 +26,11 @@ Linked ws n x p (y ∷ ys) = (x ≡ y) × (y < n) × (field ws y at-prior ≡ p)
 abbrev pub kinds-pass : List ℕ → (n o : ℕ) → List ℕ → Bool
 kinds-pass ws n o [] = eqb o no-tag
 kinds-pass ws n o (x ∷ xs) = kind-fits ws n o x (field ws x at-kind) && kinds-pass ws n (open-after ws o x (field ws x at-kind)) xs
+
+-- each tag's depth fits, where d begins are open before the row
+abbrev pub depths-pass : List ℕ → (d : ℕ) → List ℕ → Bool
+depths-pass ws d [] = true
+depths-pass ws d (x ∷ xs) = depth-fits ws x (field ws x at-kind) d && depths-pass ws (depth-after ws x (field ws x at-kind)) xs
 
 -- a number for each tag, added up; 1 for a marked one
 abbrev pub total : (ℕ → ℕ) → List ℕ → ℕ
@@ -40,6 +45,7 @@ pub record Walked (ws : List ℕ) (k : Shape) (i : ℕ) (v : State) (xs : List �
   pub links : Linked ws (k .n) (v .tag) (v .prior) xs
   pub labels : labels-pass (k .tables) (k .under) (v .expect) i (v .levels) (map (label-at ws) xs) ≡ true
   pub kinds : kinds-pass ws (k .n) (v .open-begin) xs ≡ true
+  pub depths : depths-pass ws (v .depth) xs ≡ true
   pub stamp : word-at ws at-stamp ≤ k .n + (v .marks + total (mark-word ws) xs)
 
 -- A TEST OF FOUR PARTS, and its parts
@@ -68,6 +74,7 @@ module _ (ws : List ℕ) (k : Shape) where
         links = eqb-true _ _ (f .first);
         labels = rw e (f .third);
         kinds = f .second;
+        depths = refl;
         stamp = omega (arith, leb-true (word-at ws at-stamp) (k .n + v .marks) (f .fourth));
       }
 
@@ -81,11 +88,17 @@ module _ (ws : List ℕ) (k : Shape) where
   step-walked : (i : ℕ) (v : State) (xs : List ℕ) → tag-passes ws k i v ≡ true → Walked ws k (suc i) (passed ws k i v) xs → Walked ws k i v (v .tag ∷ xs)
   unfolding tag-passes passed placed labels-pass
   step-walked i v xs e h =
-      let f = four _ (placed ws k i v .ok) _ (kind-fits ws (k .n) (v .open-begin) (v .tag) (field ws (v .tag) at-kind)) e in
+      let x = v .tag in
+      let kind = kind-fits ws (k .n) (v .open-begin) x (field ws x at-kind) in
+      let prior = eqb (field ws x at-prior) (v .prior) in
+      let label = ltb x (k .n) && placed ws k i v .ok in
+      let deep = depth-fits ws x (field ws x at-kind) (v .depth) in
+      let f = four (ltb x (k .n)) (placed ws k i v .ok) prior kind (and-left (label && (prior && kind)) deep e) in
       record {
         links = (refl, ltb-true _ _ (f .first), eqb-true _ _ (f .third), h .links);
         labels = and-both (f .second) (h .labels);
         kinds = and-both (f .fourth) (h .kinds);
+        depths = and-both (and-right (label && (prior && kind)) deep e) (h .depths);
         stamp = omega (arith, h .stamp);
       }
 
@@ -105,17 +118,20 @@ module _ (ws : List ℕ) (k : Shape) where
       let later =
       labels-pass (k .tables) (k .under) (cut (label-at ws (v .tag) + entry (k .tables .widths) 0)) (suc i) (q .levels) (map (label-at ws) xs) in
       let kind = kind-fits ws (k .n) (v .open-begin) (v .tag) (field ws (v .tag) at-kind) in
-      let kinds = kinds-pass ws (k .n) (open-after ws (v .open-begin) (v .tag) (field ws (v .tag) at-kind)) xs in (
-        four-test (record {
+      let kinds = kinds-pass ws (k .n) (open-after ws (v .open-begin) (v .tag) (field ws (v .tag) at-kind)) xs in
+      let deep = depth-fits ws (v .tag) (field ws (v .tag) at-kind) (v .depth) in
+      let depths = depths-pass ws (depth-after ws (v .tag) (field ws (v .tag) at-kind)) xs in (
+        and-both (four-test (record {
           first = lt-ltb _ _ (h .links .1);
           second = and-left (q .ok) later (h .labels);
           third = eq-eqb _ _ (h .links .2);
           fourth = and-left kind kinds (h .kinds);
-        }),
+        })) (and-left deep depths (h .depths)),
         record {
           links = h .links .3;
           labels = and-right (q .ok) later (h .labels);
           kinds = and-right kind kinds (h .kinds);
+          depths = and-right deep depths (h .depths);
           stamp = omega (arith, h .stamp);
         },
       )

@@ -18,7 +18,7 @@ module _ (ws : List ℕ) (st : Store) (says : (x : ℕ) → x < count st → Tag
   unfolding tag-record
   record-is x l =
       let t = says x l in
-      rw (t .label-word, t .next-word, t .prior-word, t .mate-word, t .up-word, t .kind-is)
+      rw (t .label-word, t .next-word, t .prior-word, t .mate-word, t .up-word, t .kind-is, t .depth-is)
 
   pub rebuilt : words-for header-words (count st) ≤ length ws → ws ≡ words-of st ++ drop (words-for header-words (count st)) ws
   unfolding words-of

@@ -10,6 +10,7 @@ use native.Mathlib.Omega.{arith}
 use borrow.Author.Tests.{leb-true, ne-eqb}
 use lib.ListN.{length, length-map}
 use Rattle.lists.proofs.Tests.{and-left, and-right, and-both}
+use Rattle.store_types.specs.Limits.{no-tag}
 use Rattle.store_types.specs.Layout.{at-s, at-r, at-height, at-count, at-first, word-at, label-at}
 use Rattle.tree.specs.Good.{Good}
 use Rattle.tree.specs.Forest.{labels, within-limits}
@@ -20,6 +21,8 @@ use Rattle.calls.specs.Store.{Store, count, row}
 use Rattle.calls.specs.Words.{Says, follow, header-width}
 use Rattle.calls_laws.proofs.Tests.{Sound, root-limits, facts-of}
 use Rattle.calls_laws.proofs.Heights.{sound-height}
+use Rattle.calls_laws.proofs.Nesting.{pass-of}
+use Rattle.calls_laws.proofs.Sections.{row-below}
 use Rattle.calls_laws.proofs.Fields.{Tag-says, tag-says}
 use Rattle.calls_laws.proofs.Reader.{length-follow}
 use Rattle.calls_laws.proofs.WordSteps.{words-fit, header-said, width-said, labels-said}
@@ -31,6 +34,7 @@ use Rattle.walk_model.proofs.Passes.{Walked, walked, walks}
 use Rattle.walk_model.proofs.Shapes.{Header, header-facts, header-test, widths-given, tables-right}
 use Rattle.walk_model.proofs.Links.{linked}
 use Rattle.walk_model.proofs.KindPass.{kinds-same}
+use Rattle.walk_model.proofs.Depths.{depths-said, depths-walked}
 use Rattle.walk_model.proofs.Counts.{marks-same}
 use Rattle.walk_model.proofs.Found.{found, found-said}
 
@@ -51,7 +55,7 @@ row-labels levels {ws} {s} {r} {u} {n} h xs l =
 
 -- WORDS THAT PASS say a store
 passed-said : Levels-right → (ws : List ℕ) → words-pass ws ≡ true → (st : Store) × Says ws st
-unfolding words-pass shape-of start start-levels
+unfolding words-pass shape-of start start-levels found
 passed-said levels ws e =
     let rest = walk ws (shape-of ws) (word-at ws at-count) 0 (start ws) in
     let h = header-facts ws (and-left (header-passes ws) rest e) in
@@ -60,9 +64,11 @@ passed-said levels ws e =
     let long = length-follow (word-at ws at-count) ws (word-at ws at-first) in
     let tree = row-labels levels h xs long .0 (w .labels) in
     let f = tree .forest in
-    let same = tree .tags-are in (
-      found ws (word-at ws at-s) (word-at ws at-r) (pred (word-at ws at-height)) (word-at ws at-count) f,
-      found-said ws h f (tree .good) (ap length same ∙ long) (rw same (w .links)) (rw same (tree .labels-are)) (rw same (w .kinds)) (rw same (omega (arith, w .stamp))),
+    let same = tree .tags-are in
+    let st = found ws (word-at ws at-s) (word-at ws at-r) (pred (word-at ws at-height)) (word-at ws at-count) f in (
+      st,
+      found-said ws h f (tree .good) (ap length same ∙ long) (rw same (w .links)) (rw same (tree .labels-are)) (rw same (w .kinds)) (rw same (omega (arith, w .stamp)))
+          (λ own says. depths-said ws st says (row st) 0 (row-below own) (rw same (w .depths))),
     )
 
 -- WORDS THAT SAY A STORE pass
@@ -114,6 +120,7 @@ module _ (ws : List ℕ) (st : Store) (h : Says ws st) where
         labels = rw under
             (row-labels levels facts (row st) (given .as-many) .1 (record { forest = st .book .root; good = good; tags-are = refl; labels-are = rw (width-said ws st h) (sym (labels-said ws st h)) }));
         kinds = rw (head .issued, kinds-same ws st (given .few) says (row st) below) (given .nesting);
+        depths = depths-walked ws st says (given .few) (row st) 0 no-tag below refl (pass-of (st .facts) no-tag (row st) (given .nesting)) (given .depths);
         stamp = rw (head .issued, head .stamp, marks) (omega (arith, given .stamp-fits));
       }
 

@@ -6,7 +6,7 @@ use Prim.Native.Nat.{ℕ, zero, suc, pred, _+_, _*_, _-_, _^_, _%_}
 use lib.Dec.{ltb, leb, eqb}
 use lib.ListN.{replicate}
 use Rattle.store_types.specs.Limits.{no-tag}
-use Rattle.store_types.specs.Layout.{at-s, at-r, at-height, at-count, at-first, at-stamp, at-next, at-prior, at-mate, at-up, at-kind, word-at, field, label-at}
+use Rattle.store_types.specs.Layout.{at-s, at-r, at-height, at-count, at-first, at-stamp, at-next, at-prior, at-mate, at-up, at-kind, at-depth, word-at, field, label-at}
 use Rattle.powers.specs.Tables.{entry, table-length}
 use Rattle.shape.specs.Tables.{widths-of, lows-of, highs-of}
 use Rattle.shape.specs.Sums.{cut}
@@ -37,11 +37,22 @@ kind-fits ws n o x c =
 unfoldable pub open-after : List ℕ → (o x c : ℕ) → ℕ
 open-after ws o x c = cond (eqb (c % 16) 3) o (cond (eqb (c % 16) 1) x (field ws x at-up))
 
--- THE PASS: the next tag, the one before it, the innermost open begin, marked tags so far, the next child's label, levels
+-- DEPTH (document 02, CR 7), where d begins are open before the tag: the word of an end is one less, that of another tag is d.
+-- Nothing is subtracted, so that an end fits nowhere where none is open
+unfoldable pub depth-fits : List ℕ → (x c d : ℕ) → Bool
+depth-fits ws x c d = eqb (field ws x at-depth + cond (eqb (c % 16) 2) 1 0) d
+
+-- how many are open behind it: its word, one more for a begin
+unfoldable pub depth-after : List ℕ → (x c : ℕ) → ℕ
+depth-after ws x c = field ws x at-depth + cond (eqb (c % 16) 1) 1 0
+
+-- THE PASS: the next tag, the one before it, the innermost open begin and how many are open, marked tags so far, the next child's
+-- label, levels
 pub record State : Type 0 where
   pub tag : ℕ
   pub prior : ℕ
   pub open-begin : ℕ
+  pub depth : ℕ
   pub marks : ℕ
   pub expect : ℕ
   pub levels : Levels
@@ -56,8 +67,9 @@ placed ws shape i v = place-label (shape .tables) (shape .under) (v .expect) (la
 
 unfoldable pub tag-passes : List ℕ → Shape → (i : ℕ) → State → Bool
 tag-passes ws shape i v =
-    (ltb (v .tag) (shape .n) && placed ws shape i v .ok)
-    && (eqb (field ws (v .tag) at-prior) (v .prior) && kind-fits ws (shape .n) (v .open-begin) (v .tag) (field ws (v .tag) at-kind))
+    ((ltb (v .tag) (shape .n) && placed ws shape i v .ok)
+    && (eqb (field ws (v .tag) at-prior) (v .prior) && kind-fits ws (shape .n) (v .open-begin) (v .tag) (field ws (v .tag) at-kind)))
+    && depth-fits ws (v .tag) (field ws (v .tag) at-kind) (v .depth)
 
 unfoldable pub passed : List ℕ → Shape → (i : ℕ) → State → State
 passed ws shape i v =
@@ -67,6 +79,7 @@ passed ws shape i v =
       tag = field ws x at-next;
       prior = x;
       open-begin = open-after ws (v .open-begin) x c;
+      depth = depth-after ws x c;
       marks = v .marks + cond (leb 16 c) 1 0;
       expect = cut (label-at ws x + entry (shape .tables .widths) 0);
       levels = placed ws shape i v .levels;
@@ -105,6 +118,7 @@ start ws =
       tag = word-at ws at-first;
       prior = no-tag;
       open-begin = no-tag;
+      depth = 0;
       marks = 0;
       expect = 0;
       levels = record { ends = shape-of ws .tables .widths; firsts = replicate table-length 0 };

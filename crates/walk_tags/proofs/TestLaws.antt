@@ -1,5 +1,5 @@
 -- What each way through the tests of one tag says, from what the tests read. Assumes nothing.
-use mathlib.Core.Path.{_≡_, sym, _∙_}
+use mathlib.Core.Path.{_≡_, refl, sym, _∙_}
 use mathlib.Core.Bool.{Bool, true, false, _&&_, not, cond}
 use mathlib.Core.Logic.{by-cases}
 use mathlib.Core.List.{List}
@@ -8,14 +8,14 @@ use native.Mathlib.Decide.{ℕ-discrete, decLe}
 use native.Mathlib.Omega.{arith}
 use borrow.Author.Tests.{eq-eqb, ne-eqb, le-leb, lt-leb, eqb-true, not-true, not-false}
 use mathlib.Core.Bool.{and-eq-true-iff}
-use lib.Dec.{eqb}
+use lib.Dec.{ltb, eqb}
 use lib.ListN.{getD}
-use Rattle.store_types.specs.Layout.{at-prior, at-mate, at-up, at-kind, tag-words, field, Room}
-use Rattle.words.specs.Offsets.{Record-at}
+use Rattle.store_types.specs.Layout.{at-prior, at-mate, at-up, at-kind, at-depth, tag-words, field, Room}
+use Rattle.words.specs.Offsets.{offset-of, Record-at}
 use Rattle.words.proofs.Fields.{room}
-use Rattle.walk_model.specs.Walk.{kind-fits, inner-fits, open-after}
+use Rattle.walk_model.specs.Walk.{kind-fits, inner-fits, open-after, depth-fits, depth-after}
 use Rattle.kind_pick.specs.Needs.{Kind-word}
-use Rattle.walk_tags.specs.Needs.{Tag-reads, pair-table, pair-fits, bit-of, links-fit, fits-at, marks-at}
+use Rattle.walk_tags.specs.Needs.{Tag-reads, Beside, Depth-reads, pair-table, pair-fits, bit-of, links-fit, fits-at, marks-at}
 use Rattle.walk_tags.proofs.PairLaws.{pair-right}
 use Rattle.walk_tags.proofs.TagLaws.{kind-given, kind-fitting, kind-large, kind-beside, q-below, tag-right}
 
@@ -23,19 +23,40 @@ use Rattle.walk_tags.proofs.TagLaws.{kind-given, kind-fitting, kind-lar
 pub stands-there : {ws : List ℕ} {n x at o : ℕ} → Tag-reads ws n x at o → Record-at ws at
 stands-there {x = x} h = record { tag = x; there = h .there; room = room (h .records) (h .below) }
 
--- A FIELD, and a tag, that the kind picks: both are there
+pub own-there : {ws : List ℕ} {x at q : ℕ} → Beside ws x at q → Record-at ws at
+own-there {x = x} h = record { tag = x; there = h .there; room = h .room }
+
+-- A FIELD, and a record, that the kind picks: both are there
 module _ (c : ℕ) where
   pub open-place-fits : {r : ℕ} → r ≡ cond (eqb (c % 16) 2) at-mate at-up → r < tag-words
   open-place-fits e =
       by-cases (ℕ-discrete (c % 16) 2) (λ f. omega (arith, rw (eq-eqb (c % 16) 2 f) at e)) (λ f. omega (arith, rw (ne-eqb (c % 16) 2 f) at e))
 
+  -- the prior of a begin and the mate of any other tag, by the second bit of its kind
+  pub back-place : Kind-word c → at-prior + c / 2 % 2 ≡ cond (eqb (c % 16) 1) at-prior at-mate
+  back-place k =
+      by-cases (ℕ-discrete (c % 16) 1) (λ f. rw (eq-eqb (c % 16) 1 f) (omega (arith, k))) (λ f. rw (ne-eqb (c % 16) 1 f) (omega (arith, k .small, k .low, k .high)))
+
   pub back-place-fits : {r : ℕ} → r ≡ cond (eqb (c % 16) 1) at-prior at-mate → r < tag-words
   back-place-fits e =
       by-cases (ℕ-discrete (c % 16) 1) (λ f. omega (arith, rw (eq-eqb (c % 16) 1 f) at e)) (λ f. omega (arith, rw (ne-eqb (c % 16) 1 f) at e))
 
-  pub partner-fits : {ws : List ℕ} {q x : ℕ} (p : ℕ) → p ≡ cond (eqb (c % 16) 2) q x → Room ws q → Room ws x → Room ws p
+  pub partner-fits : {ws : List ℕ} {q at : ℕ} (p : ℕ) → p ≡ cond (eqb (c % 16) 2) q at → Record-at ws q → Record-at ws at → Record-at ws p
   partner-fits p e l m =
       by-cases (ℕ-discrete (c % 16) 2) (λ f. rw (rw (eq-eqb (c % 16) 2 f) at e) l) (λ f. rw (rw (ne-eqb (c % 16) 2 f) at e) m)
+
+-- where one of two records stands, by a test: that of the tag that the test picks
+pub picked-there : (t : Bool) (d x : ℕ) {p q at : ℕ} → p ≡ cond t q at → q ≡ offset-of d → at ≡ offset-of x → p ≡ offset-of (cond t d x)
+picked-there true d x e there own = e ∙ there
+picked-there false d x e there own = e ∙ own
+
+-- where the record beside a tag stands, and that it is there
+module _ {ws : List ℕ} {n x at o q : ℕ} (reads : Tag-reads ws n x at o) (of-q : q ≡ cond (ltb o n) (offset-of o) at) where
+  pub beside-at : q ≡ offset-of (cond (ltb o n) o x)
+  beside-at = picked-there (ltb o n) o x of-q refl (reads .there)
+
+  pub beside-there : cond (ltb o n) o x < n → Record-at ws q
+  beside-there below = record { tag = cond (ltb o n) o x; there = beside-at; room = room (reads .records) below }
 
 -- THE LINKS: r is the place of the word v that names the open begin, u the up of x, w that of p, and y at place s of p's record
 module _ (ws : List ℕ) (b o x q c : ℕ) {r v : ℕ} (open-place : r ≡ cond (eqb (c % 16) 2) at-mate at-up) (open-word : v ≡ field ws x r) where
@@ -66,7 +87,7 @@ module _ (ws : List ℕ) (n o x at b : ℕ) (reads : Tag-reads ws n x at o) {p :
     pub tag-large : 32 ≤ c → false ≡ fits-at ws n o x b
     tag-large l = fits-kind (kind-large ws n o x c l)
 
-    module _ {q k : ℕ} {pairs : List ℕ} {m : Bool} (small : c < 32) (of-q : q ≡ cond (lib.Dec.ltb o n) o x) (around : k ≡ field ws q at-kind) (table : pairs ≡ pair-table) (bit : m ≡ bit-of (getD pairs c 0) k) where
+    module _ {q k : ℕ} {pairs : List ℕ} {m : Bool} (small : c < 32) (of-q : q ≡ cond (ltb o n) o x) (around : k ≡ field ws q at-kind) (table : pairs ≡ pair-table) (bit : m ≡ bit-of (getD pairs c 0) k) where
       pair-is : m ≡ pair-fits c (field ws q at-kind)
       pair-is = bit ∙ rw (table, around) (pair-right c (field ws q at-kind) small (kind-beside ws n o x q c (omega (arith, reads .records .few)) (reads .around) word of-q))
 
@@ -83,7 +104,7 @@ module _ (ws : List ℕ) (n o x at b : ℕ) (reads : Tag-reads ws n x at o) {p :
       unfolding pair-fits
       tag-kind r = let all = simp and-eq-true-iff at (sym pair-is ∙ not-false m r) in kind-given c (all .0)
 
-    pub beside-below : {q : ℕ} → q ≡ cond (lib.Dec.ltb o n) o x → q < n
+    pub beside-below : {q : ℕ} → q ≡ cond (ltb o n) o x → q < n
     beside-below {q} of-q = q-below ws n o x q c (omega (arith, reads .records .few)) (reads .around) word of-q (reads .below)
 
 -- BEHIND A TAG THAT FITS
@@ -114,3 +135,30 @@ module _ (ws : List ℕ) (n o x c : ℕ) (fits : kind-fits ws n o x c ≡ true) 
       by-cases (ℕ-discrete (c % 16) 3)
       (λ text. rw (eq-eqb (c % 16) 3 text) (rw (ne-eqb (c % 16) 1 (λ f. omega arith), up, inner-up (λ f. omega arith)) at e))
       (λ no-text. rw (ne-eqb (c % 16) 3 no-text, ← up) e)
+
+-- ITS DEPTH can be read
+pub depth-there : {ws : List ℕ} {n x at o : ℕ} → Tag-reads ws n x at o → kind-fits ws n o x (field ws x at-kind) ≡ true → Depth-reads ws x at
+depth-there h fits = record { room = room (h .records) (h .below); there = h .there; kind = kind-fitting _ _ _ _ _ fits }
+
+-- c is its kind word, d its depth word; m begins are open before it
+module _ (ws : List ℕ) (x m : ℕ) {c d : ℕ} (word : c ≡ field ws x at-kind) (own : d ≡ field ws x at-depth) where
+  pub depth-tested : {a : ℕ} → a ≡ cond (eqb (c % 16) 2) 1 0 → eqb (d + a) m ≡ depth-fits ws x (field ws x at-kind) m
+  unfolding depth-fits
+  depth-tested e = rw (e, word, own)
+
+  -- where it fits, m is its word, or one more; after a begin one more than m are open, after any other tag its word
+  module _ (fits : depth-fits ws x (field ws x at-kind) m ≡ true) where
+    sum : d + cond (eqb (c % 16) 2) 1 0 ≡ m
+    unfolding depth-fits
+    sum = eqb-true _ m (rw (← word, ← own) at fits)
+
+    pub depth-most : m ≤ d + 1
+    depth-most =
+        by-cases (ℕ-discrete (c % 16) 2) (λ f. omega (arith, rw (eq-eqb (c % 16) 2 f) at sum)) (λ f. omega (arith, rw (ne-eqb (c % 16) 2 f) at sum))
+
+    pub depth-counted : cond (eqb (c % 16) 1) (m + 1) d ≡ depth-after ws x (field ws x at-kind)
+    unfolding depth-after
+    depth-counted =
+        rw (← word, ← own) (by-cases (ℕ-discrete (c % 16) 1)
+        (λ f. rw (eq-eqb (c % 16) 1 f) (omega (arith, rw (ne-eqb (c % 16) 2 (λ g. omega arith)) at sum)))
+        (λ f. rw (ne-eqb (c % 16) 1 f) (omega arith)))

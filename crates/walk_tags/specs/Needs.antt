@@ -10,7 +10,8 @@ use lib.ListN.{replicate}
 use Rattle.store_types.specs.Limits.{no-tag}
 use Rattle.store_types.specs.Layout.{at-prior, at-mate, at-up, at-kind, field, Room, Records}
 use Rattle.walk_model.specs.Walk.{kind-fits}
-use Rattle.words.specs.Offsets.{offset-of}
+use Rattle.kind_pick.specs.Needs.{Kind-word}
+use Rattle.words.specs.Offsets.{offset-of, Record-at}
 
 -- THE OPEN BEGINS, from the innermost on: each is a begin among n tags, and its up is the next
 abbrev pub Begin-word : ℕ → Type 0
@@ -27,17 +28,23 @@ pub record Tag-reads (ws : List ℕ) (n x at o : ℕ) : Type 0 where
   pub there : at ≡ offset-of x
   pub around : Open ws n o
 
--- x and the tag d beside it are both there
-pub record Beside (ws : List ℕ) (x at d : ℕ) : Type 0 where
+-- x is there, and a record stands beside it at q
+pub record Beside (ws : List ℕ) (x at q : ℕ) : Type 0 where
   pub room : Room ws x
   pub there : at ≡ offset-of x
-  pub beside : Room ws d
+  pub beside : Record-at ws q
 
 pub record Mark-reads (ws : List ℕ) (x at marks : ℕ) : Type 0 where
   pub room : Room ws x
   pub there : at ≡ offset-of x
   pub kind : field ws x at-kind < 32
   pub few : marks < 4000000000
+
+-- x is there, and of a right kind
+pub record Depth-reads (ws : List ℕ) (x at : ℕ) : Type 0 where
+  pub room : Room ws x
+  pub there : at ≡ offset-of x
+  pub kind : Kind-word (field ws x at-kind)
 
 -- THE TABLE OF PAIRS OF KINDS: the kinds beside which a begin, an end, a text may stand; then the same, marked
 unfoldable pub pair-table : List ℕ

@@ -10,7 +10,7 @@ use lib.Dec.{ltb}
 use lib.ListN.{length, getD, set, take, drop, length-set, List·getD-append}
 use lib.Seq.{ext-getD, getD-set-same, getD-set-other, getD-take, set-append-left, set-getD, drop-set-lt}
 use Rattle.lists.proofs.Tests.{by-test}
-use Rattle.store_types.specs.Layout.{header-words, label-words, at-next, at-prior, at-mate, at-up, at-kind, tag-words, word-at, records-at, words-for, field, label-at, with-field, with-label, Room, Records}
+use Rattle.store_types.specs.Layout.{header-words, label-words, at-next, at-prior, at-mate, at-up, at-kind, at-depth, tag-words, word-at, records-at, words-for, field, label-at, with-field, with-label, Room, Records}
 
 -- ROOM. Words for n tags have room for the record of each
 pub words-next : (n : ℕ) → words-for header-words (suc n) ≡ words-for header-words n + tag-words
@@ -183,11 +183,12 @@ fields-tell n ws vs many as-many header labels fields =
     (λ first. simp add-zero (labels x (omega arith))) (λ j past below. fields x j (omega arith) past below) k small)))
 
 -- a fact of each field, by its place in the record
-pub by-field : (P : ℕ → Type 0) → P at-next → P at-prior → P at-mate → P at-up → P at-kind → (k : ℕ) → label-words ≤ k → k < tag-words → P k
-by-field P a b c d e zero past small = absurd (omega arith)
-by-field P a b c d e (suc zero) past small = a
-by-field P a b c d e (suc (suc zero)) past small = b
-by-field P a b c d e (suc (suc (suc zero))) past small = c
-by-field P a b c d e (suc (suc (suc (suc zero)))) past small = d
-by-field P a b c d e (suc (suc (suc (suc (suc zero))))) past small = e
-by-field P a b c d e (suc (suc (suc (suc (suc (suc k)))))) past small = absurd (omega arith)
+pub by-field : (P : ℕ → Type 0) → P at-next → P at-prior → P at-mate → P at-up → P at-kind → P at-depth → (k : ℕ) → label-words ≤ k → k < tag-words → P k
+by-field P a b c d e f zero past small = absurd (omega arith)
+by-field P a b c d e f (suc zero) past small = a
+by-field P a b c d e f (suc (suc zero)) past small = b
+by-field P a b c d e f (suc (suc (suc zero))) past small = c
+by-field P a b c d e f (suc (suc (suc (suc zero)))) past small = d
+by-field P a b c d e f (suc (suc (suc (suc (suc zero))))) past small = e
+by-field P a b c d e f (suc (suc (suc (suc (suc (suc zero)))))) past small = f
+by-field P a b c d e f (suc (suc (suc (suc (suc (suc (suc k))))))) past small = absurd (omega arith)

@@ -1,14 +1,14 @@
--- A place, the tag behind it, the up of new tags there and its label, as the code reads them. Assumes nothing.
+-- A place, the tag after it, the up and the depth of new tags there and its label, as the code reads them. Assumes nothing.
 use mathlib.Core.Path.{_≡_, sym, _∙_}
 use mathlib.Core.Bool.{Bool, true, false}
 use mathlib.Core.List.{List}
-use Prim.Native.Nat.{ℕ, _≤_, _<_}
+use Prim.Native.Nat.{ℕ, suc, _≤_, _<_}
 use borrow.Author.Tests.{eq-eqb, ne-eqb, eqb-false, lt-ltb, le-ltb}
 use lib.Dec.{eqb}
 use lib.ListN.{length}
 use Rattle.store_types.specs.Limits.{no-tag}
-use Rattle.store_types.specs.Layout.{at-count, at-first, at-next, at-up, at-kind, word-at, field, label-at, Room, Records}
-use Rattle.words.specs.Places.{Tag-or-none, Place-there, behind, up-word, watched-label}
+use Rattle.store_types.specs.Layout.{at-count, at-first, at-next, at-up, at-kind, at-depth, word-at, field, label-at, Room, Records}
+use Rattle.words.specs.Places.{Tag-or-none, Place-there, behind, up-word, depth-word, watched-label}
 use Rattle.words.proofs.Fields.{room, room-same, header-long}
 
 -- the records of n tags are there, and a place is one of them or the front
@@ -43,6 +43,18 @@ module _ (ws : List ℕ) (y : ℕ) {t : Bool} (e : t ≡ eqb y no-tag) where
     pub up-other : {v : ℕ} → (k ≡ 1 → ⊥) → v ≡ field ws y at-up → v ≡ up-word ws y
     unfolding up-word
     up-other other v = rw (← e, p, ← q, ne-eqb k 1 other) v
+
+    pub depth-begin : k ≡ 1 → suc (field ws y at-depth) ≡ depth-word ws y
+    unfolding depth-word
+    depth-begin one = rw (← e, p, ← q, eq-eqb k 1 one)
+
+    pub depth-other : {v : ℕ} → (k ≡ 1 → ⊥) → v ≡ field ws y at-depth → v ≡ depth-word ws y
+    unfolding depth-word
+    depth-other other v = rw (← e, p, ← q, ne-eqb k 1 other) v
+
+  pub depth-front : t ≡ true → 0 ≡ depth-word ws y
+  unfolding depth-word
+  depth-front p = rw (← e, p)
 
 -- ITS LABEL
 module _ (ws : List ℕ) (y : ℕ) where

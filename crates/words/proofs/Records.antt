@@ -9,7 +9,7 @@ use lib.ListN.{length, getD, take, drop, length-append, List·getD-append}
 use lib.Seq.{getD-append-add, drop-cons}
 use Rattle.lists.specs.Lists.{numbers}
 use Rattle.lists.proofs.Numbers.{length-numbers, getD-numbers}
-use Rattle.store_types.specs.Layout.{header-words, at-next, at-prior, at-mate, at-up, at-kind, tag-words, record-list, label-in, records-at, words-for, field, label-at}
+use Rattle.store_types.specs.Layout.{header-words, at-next, at-prior, at-mate, at-up, at-kind, at-depth, tag-words, record-list, label-in, records-at, words-for, field, label-at}
 use Rattle.words.proofs.Fields.{words-next, words-up}
 
 module _ (f : ℕ → List ℕ) (each : (x : ℕ) → length (f x) ≡ tag-words) where
@@ -31,16 +31,17 @@ module _ (f : ℕ → List ℕ) (each : (x : ℕ) → length (f x) ≡ tag-words
       (getD-append-add (f x) (flatMap f xs ++ rest) (tag-words * i + k) 0 ∙ record-word xs rest i k (le-of-suc-le-suc l) small)
 
 -- A RECORD by its parts, and from any of its fields and its label
-pub record Record-holds (ws : List ℕ) (x label next prior mate up kind : ℕ) : Type 0 where
+pub record Record-holds (ws : List ℕ) (x label next prior mate up kind depth : ℕ) : Type 0 where
   pub label-word : label-at ws x ≡ label
   pub next-word : field ws x at-next ≡ next
   pub prior-word : field ws x at-prior ≡ prior
   pub mate-word : field ws x at-mate ≡ mate
   pub up-word : field ws x at-up ≡ up
   pub kind-is : field ws x at-kind ≡ kind
+  pub depth-is : field ws x at-depth ≡ depth
 
 pub record-by : {ws : List ℕ} {x l : ℕ} (g : ℕ → ℕ) → ((k : ℕ) → k < tag-words → field ws x k ≡ g k) → label-at ws x ≡ l →
-    Record-holds ws x l (g at-next) (g at-prior) (g at-mate) (g at-up) (g at-kind)
+    Record-holds ws x l (g at-next) (g at-prior) (g at-mate) (g at-up) (g at-kind) (g at-depth)
 record-by g fields label =
     record {
       label-word = label;
@@ -49,6 +50,7 @@ record-by g fields label =
       mate-word = fields at-mate (omega arith);
       up-word = fields at-up (omega arith);
       kind-is = fields at-kind (omega arith);
+      depth-is = fields at-depth (omega arith);
     }
 
 -- A HEADER, THE RECORDS OF n TAGS, and anything behind them
@@ -74,8 +76,8 @@ module _ (head : List ℕ) (f : ℕ → List ℕ) (n : ℕ) (long : length head 
     unfolding label-at records-at
     label-joined = rw (add-zero (header-words + tag-words * x)) at (word 0 (omega arith))
 
-    pub holds-joined : {l next prior mate up kind : ℕ} → f x ≡ record-list l next prior mate up kind →
-        Record-holds ((head ++ flatMap f (numbers 0 n)) ++ rest) x l next prior mate up kind
+    pub holds-joined : {l next prior mate up kind depth : ℕ} → f x ≡ record-list l next prior mate up kind depth →
+        Record-holds ((head ++ flatMap f (numbers 0 n)) ++ rest) x l next prior mate up kind depth
     holds-joined e = rw e at (record-by (λ k. getD (f x) k 0) field-joined label-joined)
 
 -- WORDS REBUILT. m words from place j + k on
@@ -100,7 +102,7 @@ header-of ws = window ws 0 0 header-words
 
 abbrev pub record-of : List ℕ → (tag : ℕ) → List ℕ
 record-of ws x =
-    record-list (label-at ws x) (field ws x at-next) (field ws x at-prior) (field ws x at-mate) (field ws x at-up) (field ws x at-kind)
+    record-list (label-at ws x) (field ws x at-next) (field ws x at-prior) (field ws x at-mate) (field ws x at-up) (field ws x at-kind) (field ws x at-depth)
 
 record-window : (ws : List ℕ) (x : ℕ) → window ws (words-for header-words x) 0 tag-words ≡ record-of ws x
 unfolding label-at field records-at words-for

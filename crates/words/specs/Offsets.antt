@@ -2,18 +2,11 @@
 use mathlib.Core.Path.{_≡_}
 use mathlib.Core.List.{List}
 use Prim.Native.Nat.{ℕ, _*_}
-use Rattle.store_types.specs.Layout.{Room}
+use Rattle.store_types.specs.Layout.{tag-words, Room}
 
--- words in a step, and steps in a record
-abbrev pub step-words : ℕ
-step-words = 2
-
-abbrev pub record-steps : ℕ
-record-steps = 3
-
--- in steps from the first record on
+-- in words from the first record on
 abbrev pub offset-of : (tag : ℕ) → ℕ
-offset-of x = record-steps * x
+offset-of x = tag-words * x
 
 -- a record stands there, and the whole of it
 pub record Record-at (ws : List ℕ) (at : ℕ) : Type 0 where

@@ -6,7 +6,7 @@ pub mod places;
 ghost use mathlib.Core.Path.{_≡_};
 ghost use Prim.Native.Nat.{ℕ, _≤_, _<_};
 ghost use lib.ListN.{length, set};
-ghost use Rattle.store_types.specs.Layout.{header-words, words-for, at-height, at-count, at-first, at-stamp, word-at, at-next, at-prior, at-mate, at-up, at-kind, tag-words, field, label-at, with-field, with-label, Room};
+ghost use Rattle.store_types.specs.Layout.{header-words, words-for, at-height, at-count, at-first, at-stamp, word-at, at-next, at-prior, at-mate, at-up, at-kind, at-depth, tag-words, field, label-at, with-field, with-label, Room};
 ghost use Rattle.words.specs.Offsets.{offset-of, Record-at};
 use store_types::Label;
 use store_types::TagId;
@@ -14,7 +14,7 @@ use store_types::TagId;
 // The header's words, and those of a record.
 pub const HEADER_WORDS: usize = 8;
 
-pub const TAG_WORDS: usize = 6;
+pub const TAG_WORDS: usize = 7;
 
 // Where the words of the header stand.
 pub const AT_VERSION: usize = 0;
@@ -46,6 +46,8 @@ pub const AT_MATE: usize = 3;
 pub const AT_UP: usize = 4;
 
 pub const AT_KIND: usize = 5;
+
+pub const AT_DEPTH: usize = 6;
 
 // Kinds as words, and what a mark adds to one: the kind word of an unmarked tag is below it.
 pub const KIND_BEGIN: u32 = store_types::BEGIN as u32;
@@ -207,6 +209,13 @@ pub fn kind_of(words: &[u32], tag: TagId) -> u32
     get(words, tag, AT_KIND)
 }
 
+pub fn depth_of(words: &[u32], tag: TagId) -> u32
+    requires { ⌜ Room (now words) (tag .0) ⌝ }
+    ensures { λ v. ⌜ v ≡ field (now (words .entry)) (tag .0) at-depth ⌝ }
+{
+    get(words, tag, AT_DEPTH)
+}
+
 pub fn set_next(words: &mut [u32], tag: TagId, v: TagId)
     requires { ⌜ Room (now words) (tag .0) ⌝ }
     ensures { λ _. ⌜ now (words .exit) ≡ with-field (now (words .entry)) (tag .0) at-next (v .0) ⌝ }
@@ -242,21 +251,23 @@ pub fn set_kind(words: &mut [u32], tag: TagId, v: u32)
     put(words, tag, AT_KIND, v);
 }
 
+pub fn set_depth(words: &mut [u32], tag: TagId, v: u32)
+    requires { ⌜ Room (now words) (tag .0) ⌝ }
+    ensures { λ _. ⌜ now (words .exit) ≡ with-field (now (words .entry)) (tag .0) at-depth v ⌝ }
+{
+    put(words, tag, AT_DEPTH, v);
+}
+
 // Where a tag's record stands, as a walk carries it: worked out where the tag's number is read, so that no product stands
 // between one record and the next.
 pub struct Offset(pub usize);
-
-// Words in a step, and steps in a record.
-const STEP: usize = 2;
-
-const RECORD_STEPS: usize = 3;
 
 impl Offset {
     pub fn of(tag: TagId) -> Offset
         ensures { λ p. ⌜ p .0 ≡ offset-of (tag .0) ⌝ }
     {
         let x = tag.0 as usize;
-        Offset(RECORD_STEPS * x)
+        Offset(TAG_WORDS * x)
     }
 }
 
@@ -266,7 +277,7 @@ pub fn get_at(words: &[u32], at: Offset, k: usize) -> u32
     ensures { λ v. ⌜ ((x : ℕ) → at .0 ≡ offset-of x → v ≡ field (now (words .entry)) x k) ⌝ }
 {
     let p = at.0;
-    words[HEADER_WORDS + STEP * p + k]
+    words[p + k + HEADER_WORDS]
 }
 
 // And its label.
@@ -275,5 +286,5 @@ pub fn label_there(words: &[u32], at: Offset) -> Label
     ensures { λ v. ⌜ ((x : ℕ) → at .0 ≡ offset-of x → v .0 ≡ label-at (now (words .entry)) x) ⌝ }
 {
     let p = at.0;
-    Label(words[HEADER_WORDS + STEP * p])
+    Label(words[HEADER_WORDS + p])
 }

@@ -1,7 +1,9 @@
 // Places: a tag, or the front of the book.
 ghost use mathlib.Core.Path.{_≡_};
+ghost use Prim.Native.Nat.{_<_};
+ghost use Rattle.store_types.specs.Limits.{word-limit};
 ghost use Rattle.store_types.specs.Layout.{at-count, word-at, Records};
-ghost use Rattle.words.specs.Places.{Place-there, behind as tag-behind, up-word, watched-label};
+ghost use Rattle.words.specs.Places.{Place-there, behind as tag-behind, up-word, depth-word, watched-label};
 use store_types::Label;
 use store_types::TagId;
 
@@ -28,6 +30,20 @@ pub fn up_at(words: &[u32], place: TagId) -> TagId
         return place;
     }
     crate::up_of(words, place)
+}
+
+// How many elements are around new tags: as many as around the place, one more after a begin; at the front none.
+pub fn depth_at(words: &[u32], place: TagId) -> u32
+    requires { ⌜ Place-there (now words) (place .0) × (depth-word (now words) (place .0) < word-limit) ⌝ }
+    ensures { λ d. ⌜ d ≡ depth-word (now (words .entry)) (place .0) ⌝ }
+{
+    if place.is_none() {
+        return 0;
+    }
+    if crate::kind_of(words, place) == crate::KIND_BEGIN {
+        return crate::depth_of(words, place) + 1;
+    }
+    crate::depth_of(words, place)
 }
 
 // The label at a place; 0, that of the first leaf, where the place is no tag of the book.

@@ -1,7 +1,7 @@
 -- `file_pass::pass` meets its contract. The loop's invariant: what is left of the walk of the words that the file says, and of
 -- the order of its rows, decides as the whole does; what the state carries is right (Standing), and so are the numbers met, the
 -- rows read and the begins open (Met-so-far). The measure is the tags left. Assumes nothing.
-use mathlib.Core.Path.{_≡_, refl, ap, _∙_}
+use mathlib.Core.Path.{_≡_, refl, ap, sym, _∙_}
 use mathlib.Core.Bool.{Bool, true, _&&_, cond}
 use mathlib.Core.List.{List}
 use borrow.Author.Needs.{needs}
@@ -11,40 +11,40 @@ use native.Mathlib.Omega.{arith}
 use lib.ListN.{length, length-set}
 use Rattle.store_types.specs.Layout.{at-first, at-kind, word-at, field, label-at}
 use Rattle.calls.specs.File.{header-in, count-in, file-words}
-use Rattle.walk_model.specs.Walk.{kind-fits}
+use Rattle.walk_model.specs.Walk.{kind-fits, depth-fits}
 use Rattle.walk_tags.specs.Needs.{pair-table}
 use Rattle.walk.specs.Needs.{Standing}
 use Rattle.walk.proofs.PassLaws.{label-here, walk-at, walk-whole, walk-misplaced, walk-refused, walk-more, walk-end, passed-fits, standing-kept}
 use Rattle.file_tags.specs.Needs.{number-at, Row-read, Tag-row}
 use Rattle.file_tags.proofs.TagRows.{row-there, label-there}
 use Rattle.file_pass.specs.Needs.{order-left, Met-so-far, Judged-so}
-use Rattle.file_pass.proofs.JudgeLaws.{header-there, few-tags, pass-start, deep-fails, ends-said, order-behind, order-fails, number-own, number-below, row-read, order-more, met-more, top-read, opened-fits, so-far-more, order-end, out-of-order, not-passed, deep-judged, last-judged}
+use Rattle.file_pass.proofs.JudgeLaws.{header-there, few-tags, pass-start, deep-fails, ends-said, order-behind, order-fails, number-own, number-below, row-read, order-more, met-more, top-read, shallow, depth-right, so-far-more, order-end, out-of-order, not-passed, deep-judged, last-judged}
 use Rattle.file_pass.proofs.pass.Statement.{statement}
 use Rattle.file_pass.proofs.pass.Tie as tie
 
 abbrev Inv-loop : tie.InvT-loop
-Inv-loop bytes header size tables opens₀ pairs met₀ ends₀ firsts₀ sizes₀ depth₀ v₀ opens met ends firsts sizes depth v =
+Inv-loop bytes header size tables opens₀ pairs met₀ ends₀ firsts₀ sizes₀ v₀ opens met ends firsts sizes v =
     (v .place ≤ size .n)
     × (pairs ≡ pair-table)
     × Standing (file-words bytes) (size .n) ends v
     × (walk-at (file-words bytes) tables (size .n) (size .under) v ends firsts ≡ walk-whole (file-words bytes) tables (size .n) (size .under))
     × (order-left bytes (v .place) (v .tag .0) ≡ order-left bytes 0 (word-at (header-in bytes) at-first))
-    × Met-so-far bytes v met opens depth
+    × Met-so-far bytes v met opens
     × (length opens ≡ length opens₀)
 
 abbrev μ-loop : tie.MeasureT-loop
-μ-loop bytes header size tables opens₀ pairs met₀ ends₀ firsts₀ sizes₀ depth₀ v₀ opens met ends firsts sizes depth v = size .n - v .place
+μ-loop bytes header size tables opens₀ pairs met₀ ends₀ firsts₀ sizes₀ v₀ opens met ends firsts sizes v = size .n - v .place
 
 -- places of a turn: where the pass began, where the turn did, where there is a row and room for a begin, where its number, its
 -- label and its other words have been tested
 abbrev start : tie.At-loop Inv-loop μ-loop → tie.Start Inv-loop μ-loop
-start c = c .before .before .before .before .before .before
+start c = c .before .before .before .before .before .before .before .before
 
 abbrev turn : tie.Then1 Inv-loop μ-loop → tie.At-loop Inv-loop μ-loop
 turn c = c .before .before .before
 
 abbrev on-row : tie.Else3 Inv-loop μ-loop → tie.Then1 Inv-loop μ-loop
-on-row c = c .before .before .before .before
+on-row c = c .before .before .before .before .before
 
 abbrev numbered : tie.Else4 Inv-loop μ-loop → tie.Else3 Inv-loop μ-loop
 numbered c = c .before .before .before
@@ -103,14 +103,23 @@ kind-tested c =
 pairs-requires : tie.Need-pairs-requires Inv-loop μ-loop
 pairs-requires c κs = search needs
 
-start-requires : tie.Need-start-requires Inv-loop μ-loop
-start-requires c κs = header-there (c .before .before .before .before .pre .0)
+first-of-requires : tie.Need-first-of-requires Inv-loop μ-loop
+first-of-requires c κs = header-there (c .before .before .before .before .pre .0)
+
+of-requires : tie.Need-of-requires Inv-loop μ-loop
+of-requires c κs = search needs
+
+started-requires : tie.Need-started-requires Inv-loop μ-loop
+started-requires c κs = search needs
 
 loop-holds : tie.Need-loop-holds Inv-loop μ-loop
 loop-holds c =
-    let from = c .before .before .before .before .before in
-    let began = pass-start (from .pre .0) (from .args .opens .now) (from .pre .1) (c .start .ensures) in
-    (began .0, c .before .pairs .ensures, began .1, began .2, began .3, began .4, refl)
+    let at = c .before in
+    let first = at .before in
+    let pairs = first .before in
+    let from = pairs .before .before .before .before in
+    let began = pass-start (from .pre .0) (from .args .opens .now) (from .pre .1) (first .first-of .ensures) (at .of .ensures) (c .started .ensures) in
+    (began .0, pairs .pairs .ensures, began .1, began .2, began .3, began .4, refl)
 
 sub-if2 : tie.Need-sub-if2 Inv-loop μ-loop
 sub-if2 c = omega (arith, turn (c .before .before) .loop .inv .0)
@@ -119,22 +128,22 @@ cast-if2 : tie.Need-cast-if2 Inv-loop μ-loop
 cast-if2 c = omega (arith, start (turn (c .before .before)) .pre .0 .walk-fits .records .few)
 
 same-length : tie.Need-same-length Inv-loop μ-loop
-same-length c = turn (c .before .before .before) .loop .inv .6
+same-length c = turn (c .before .before .before .before) .loop .inv .6
 
 returns : tie.Need-returns Inv-loop μ-loop
 returns c =
-    let at = turn (c .before .before .before) in
+    let at = turn (c .before .before .before .before) in
     let from = start at in
     not-passed (order-of from) (walk-of from) _ _ (deep-fails (from .pre .0) _ (at .loop .ends) (at .loop .firsts) (at .loop .inv .5) (at .loop .inv .3) (c .if2 .taken))
 
 same-length-2 : tie.Need-same-length-2 Inv-loop μ-loop
-same-length-2 c = turn (c .before .before .before .before) .loop .inv .6
+same-length-2 c = turn (c .before .before .before .before .before) .loop .inv .6
 
 returns-2 : tie.Need-returns-2 Inv-loop μ-loop
 returns-2 c =
-    let at = turn (c .before .before .before .before) in
+    let at = turn (c .before .before .before .before .before) in
     let from = start at in
-    deep-judged (order-of from) (walk-of from) _ _ (omega (arith, at .loop .inv .6, c .if3 .taken)) (at .loop .inv .5 .shallow) (c .before .if2 .left)
+    deep-judged (order-of from) (walk-of from) _ _ (omega (arith, at .loop .inv .6, c .if3 .taken)) (shallow (at .loop .inv .5)) (c .before .if2 .left)
 
 number-fits-requires : tie.Need-number-fits-requires Inv-loop μ-loop
 number-fits-requires c κs =
@@ -195,35 +204,33 @@ returns-5 c =
     not-passed (order-of from) (walk-of from) _ _
     (walk-refused _ _ _ _ _ _ _ (at row .loop .inv .3) (on-row (numbered row) .if1 .taken) (label-tested (passed .before)) (passed .if5 .left) (c .before .tag-fits .ensures) (c .if6 .taken))
 
-row-field-requires : tie.Need-row-field-requires Inv-loop μ-loop
-row-field-requires c κs = let row = labelled (fitted c) in (row-there (read row) (start (at row) .pre .0 .long), omega arith)
-
 array-read-passed : tie.Need-array-read-passed Inv-loop μ-loop
 array-read-passed c = omega arith
 
+-- its depth fits with no test
+depth-there : (c : tie.Else6 Inv-loop μ-loop) → let row = labelled (fitted c) in let v = at row .loop .v in
+    depth-fits (file-words (bytes-at row)) (v .tag .0) (field (file-words (bytes-at row)) (v .tag .0) at-kind) (v .depth) ≡ true
+depth-there c = let row = labelled (fitted c) in depth-right (bytes-at row) _ _ _ (at row .loop .inv .5) (own row) (read row) (numbered row .if3 .left) (kind-tested c)
+
 passed-requires : tie.Need-passed-requires Inv-loop μ-loop
 passed-requires c κs =
-    let fit = c .before in
-    let row = labelled (fitted fit) in
+    let row = labelled (fitted c) in
     let from = start (at row) .pre .0 in
     let more = on-row (numbered row) .if1 .taken in
-    let counts = passed-fits _ _ _ _ _ _ (from .walk-fits) (at row .loop .inv .2) (below row) (fit .before .tag-fits .ensures) (fit .if6 .left) more .1 in
-    ((from .long, own row, read row), (kind-tested fit, (counts .1, counts .2)))
+    let counts = passed-fits _ _ _ _ _ _ (from .walk-fits) (at row .loop .inv .2) (below row) (c .before .tag-fits .ensures) (c .if6 .left) more .1 in
+    ((from .long, own row, read row), (kind-tested c, (depth-there c, (counts .1, omega (arith, shallow (at row .loop .inv .5), counts .1), counts .2))))
 
 opened-requires : tie.Need-opened-requires Inv-loop μ-loop
-opened-requires c κs =
-    let fit = c .before .before .before in
-    let row = labelled (fitted fit) in
-    opened-fits (bytes-at row) _ _ _ _ (at row .loop .inv .5) (own row) (read row) (numbered row .if3 .left) (kind-tested fit) (c .before .before .row-field .ensures) (few-tags (start (at row) .pre .0))
+opened-requires c κs = numbered (labelled (fitted (c .before .before))) .if3 .left
 
 loop-less : tie.Need-loop-less Inv-loop μ-loop
 loop-less c =
-    let row = labelled (fitted (c .before .before .before .before .before .before)) in
+    let row = labelled (fitted (c .before .before .before .before .before)) in
     omega (arith, on-row (numbered row) .if1 .taken, c .before .before .before .before .passed .ensures .place)
 
 loop-again : tie.Need-loop-again Inv-loop μ-loop
 loop-again c =
-    let fit = c .before .before .before .before .before .before in
+    let fit = c .before .before .before .before .before in
     let labels = fitted fit in
     let row = labelled labels in
     let inv = at row .loop .inv in
@@ -237,11 +244,11 @@ loop-again c =
       omega (arith, more, behind .place),
       inv .1,
       standing-kept _ _ _ _ _ _ (from .walk-fits) (inv .2) (below row) fits (fit .if6 .left) _ _ behind,
-      walk-more _ _ _ _ _ _ _ (inv .3) more (label-tested (labels .before)) (labels .if5 .left) fits _ _ _ (from .walk-fits) (fit .if6 .left) levels behind,
+      walk-more _ _ _ _ _ _ _ (inv .3) more (label-tested (labels .before)) (labels .if5 .left) fits (fit .if6 .left) (sym (depth-there fit)) _ _ _ (from .walk-fits) refl levels behind,
       order-behind (bytes-at row) _ _ (own row) (read row) behind (order-more (bytes-at row) _ _ (inside (on-row (numbered row))) (number .0) (inv .4) (row .if4 .left)),
-      so-far-more (bytes-at row) _ _ _ _ (inv .5) (own row) (read row) (numbered row .if3 .left) (kind-tested fit) _ (c .before .before .before .before .before .row-field .ensures) (begins .0) (begins .1)
+      so-far-more (bytes-at row) _ _ _ (inv .5) (own row) (read row) (numbered row .if3 .left) (kind-tested fit) _ begins
           (met-more (bytes-at row) _ _ (inside (on-row (numbered row))) (number .0) (inv .4) (row .if4 .left) (number .1 (not-false _ (row .if4 .left)))) behind,
-      ap length (begins .1) ∙ length-set (at row .loop .opens) (at row .loop .depth) _ ∙ inv .6,
+      ap length begins ∙ length-set (at row .loop .opens) (at row .loop .v .depth) _ ∙ inv .6,
     )
 
 ends-well-requires : tie.Need-ends-well-requires Inv-loop μ-loop
@@ -287,7 +294,9 @@ pass-spec =
     Inv-loop
     μ-loop
     pairs-requires
-    start-requires
+    first-of-requires
+    of-requires
+    started-requires
     loop-holds
     sub-if2
     cast-if2
@@ -306,7 +315,6 @@ pass-spec =
     tag-fits-requires
     same-length-5
     returns-5
-    row-field-requires
     array-read-passed
     passed-requires
     opened-requires

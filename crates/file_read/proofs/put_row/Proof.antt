@@ -51,6 +51,9 @@ mate-written c = c .before .before .before .before
 abbrev up-written : tie.After-set-up → tie.After-set-mate
 up-written c = c .before .before .before .before
 
+abbrev kind-written : tie.After-set-kind → tie.After-set-up
+kind-written c = c .before .before .before .before
+
 set-label-requires : tie.Need-set-label-requires
 set-label-requires c κs = there (c .before)
 
@@ -70,19 +73,26 @@ set-kind-requires : tie.Need-set-kind-requires
 set-kind-requires c κs =
     room-same (there (labelled (next-written (prior-written (mate-written (up-written (c .before .before .before))))))) (omega arith)
 
+set-depth-requires : tie.Need-set-depth-requires
+set-depth-requires c κs =
+    room-same (there (labelled (next-written (prior-written (mate-written (up-written (kind-written (c .before .before .before)))))))) (omega arith)
+
 same-length : tie.Need-same-length
 same-length c = search needs
 
 returns : tie.Need-returns
 returns c =
-    let kind-set = c .before .before in
-    let up-set = kind-set .before .before .before .before in
+    let depth-set = c .before .before in
+    let kind-set = depth-set .before .before .before .before in
+    let up-set = kind-written kind-set in
     let mate-set = up-written up-set in
     let prior-set = mate-written mate-set in
     let next-set = prior-written prior-set in
     let label-set = next-written next-set in
     let read = labelled label-set in
-    row-put _ _
+    let from = numbered read .before .before .before in
+    row-put _ (from .args .bytes .now) (from .args .i) _
+    (from .pre .0)
     (numbered read .row-word .ensures)
     (read .before .before .before .before .before .row-word2 .ensures)
     (read .before .before .before .before .row-field .ensures)
@@ -96,6 +106,7 @@ returns c =
     (mate-set .set-mate .ensures)
     (up-set .set-up .ensures)
     (kind-set .set-kind .ensures)
+    (depth-set .set-depth .ensures)
 
 pub put-row-spec : {M : Type 1} → statement M
 put-row-spec =
@@ -114,5 +125,6 @@ put-row-spec =
     set-mate-requires
     set-up-requires
     set-kind-requires
+    set-depth-requires
     same-length
     returns)

@@ -8,9 +8,9 @@ use denote.Ref.{now}
 use lib.Dec.{eqb}
 use Rattle.store_types.specs.Layout.{at-up, field}
 use Rattle.calls.specs.File.{file-words}
-use Rattle.walk_tags.proofs.TestLaws.{open-place-fits, back-place-fits, links-open-not, links-up-not, links-back}
+use Rattle.walk_tags.proofs.TestLaws.{links-open-not, links-up-not, links-back}
 use Rattle.file_tags.specs.Needs.{number-at, Row-read}
-use Rattle.file_tags.proofs.TagRows.{row-there, field-there, picked-read, picked-number}
+use Rattle.file_tags.proofs.TagRows.{row-there, field-there, picked-read, picked-number, open-kept, back-kept}
 use Rattle.file_tags.proofs.links_fit.Statement.{statement}
 use Rattle.file_tags.proofs.links_fit.Tie as tie
 
@@ -25,7 +25,7 @@ open-read : (c : tie.After-row-field2) → let from = start (c .before) .args in
     c .row-field2 .result ≡ field (file-words (now (from .bytes))) (from .v .tag .0) (c .before .at-end .result)
 open-read c =
     let from = start (c .before) in
-    let fits = open-place-fits (from .args .kind) (c .before .at-end .ensures) in
+    let fits = open-kept (from .args .kind) (c .before .at-end .ensures) in
     field-there (from .pre .2) (from .pre .1) (c .before .at-end .result) fits (c .row-field2 .ensures)
 
 -- the row p, which is that of q for an end and else the tag's own: it is read; its number, and its up
@@ -66,7 +66,7 @@ cast-row-field : tie.Need-cast-row-field
 cast-row-field c = search needs
 
 row-field-requires-2 : tie.Need-row-field-requires-2
-row-field-requires-2 c κs = (row-there (start c .pre .2) (start c .pre .0), open-place-fits (start c .args .kind) (c .at-end .ensures))
+row-field-requires-2 c κs = (row-there (start c .pre .2) (start c .pre .0), open-kept (start c .args .kind) (c .at-end .ensures))
 
 returns : tie.Need-returns
 returns c = let read = c .before .before in links-open-not _ _ _ _ _ _ (read .before .at-end .ensures) (open-read read) (c .if1 .taken)
@@ -99,7 +99,7 @@ cast-row-field-2 c = search needs
 row-field-requires-4 : tie.Need-row-field-requires-4
 row-field-requires-4 c κs =
     let side = c .before .before .before in
-    (row-there (p-read side) (begin side .pre .0), back-place-fits (begin side .args .kind) (c .at-begin .ensures))
+    (row-there (p-read side) (begin side .pre .0), back-kept (begin side .args .kind) (c .at-begin .ensures))
 
 at-begin-requires-2 : tie.Need-at-begin-requires-2
 at-begin-requires-2 c κs = search needs
@@ -112,7 +112,7 @@ returns-3 c =
     let back = c .before .before .at-begin .ensures in
     links-back _ _ _ _ _ _ (own .at-end .ensures) (open-read (named side)) (side .before .if1 .left) (up-read own) (p-number side) (outer-read outer)
     (c .before .before .before .if2 .left) back
-    (field-there (p-read side) refl _ (back-place-fits (begin side .args .kind) back) (c .before .row-field4 .ensures)) (c .at-begin2 .ensures)
+    (field-there (p-read side) refl _ (back-kept (begin side .args .kind) back) (c .before .row-field4 .ensures)) (c .at-begin2 .ensures)
 
 pub links-fit-spec : {M : Type 1} → statement M
 links-fit-spec =

@@ -40,7 +40,7 @@ part-put-words-start : tie.Need-part-put-words-start
 part-put-words-start c = search needs
 
 part-put-words-end : tie.Need-part-put-words-end
-part-put-words-end c = rw (c .before .words-for .ensures) (tag-fits (start (c .before) .pre .0))
+part-put-words-end c = omega (arith, c .before .words-for .ensures, tag-fits (start (c .before) .pre .0))
 
 put-words-requires : tie.Need-put-words-requires
 put-words-requires c κs = search needs

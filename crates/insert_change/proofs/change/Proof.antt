@@ -5,7 +5,7 @@ use native.Mathlib.Omega.{arith}
 use lib.ListN.{length}
 use Rattle.store_types.specs.Layout.{header-words}
 use Rattle.words.proofs.Fields.{header-long}
-use Rattle.insert_change.proofs.Accepted.{records-said, few-all, place-there, stays-read, put-fits, put-edits, packed-here, inner-reads, inner-planned}
+use Rattle.insert_change.proofs.Accepted.{records-said, few-all, stays-read, put-fits, put-edits, packed-here, inner-reads, inner-planned}
 use Rattle.insert_change.proofs.change.Statement.{statement}
 use Rattle.insert_change.proofs.change.Tie as tie
 
@@ -40,12 +40,9 @@ same-length c = search needs
 returns : tie.Need-returns
 returns c = search needs
 
-up-at-requires : tie.Need-up-at-requires
-up-at-requires c κs = place-there (start (counted (c .before)) .pre .0)
-
 inner-plan-requires : tie.Need-inner-plan-requires
 inner-plan-requires c κs =
-    let test = c .before .before .before in
+    let test = c .before in
     let n = counted test in
     let asked = start n .pre in
     inner-reads (asked .0) (stays-read (asked .0) (asked .1) (test .before .height-of .ensures) (test .if1 .left)) (asked .2) (asked .3)
@@ -53,12 +50,11 @@ inner-plan-requires c κs =
 put-requires : tie.Need-put-requires
 put-requires c κs =
     let plan = c .before in
-    let up = plan .before .before in
-    let test = up .before .before in
+    let test = plan .before .before in
     let n = counted test in
     let asked = start n .pre in
     let stays = stays-read (asked .0) (asked .1) (test .before .height-of .ensures) (test .if1 .left) in
-    put-fits (asked .0) (packed-here (asked .0) stays (asked .2) (asked .3)) (n .count-of .ensures) (up .up-at .ensures) (inner-planned (asked .0) stays (asked .2) (asked .3) (plan .inner-plan .ensures))
+    put-fits (asked .0) (packed-here (asked .0) stays (asked .2) (asked .3)) (n .count-of .ensures) (inner-planned (asked .0) stays (asked .2) (asked .3) (plan .inner-plan .ensures))
 
 same-length-2 : tie.Need-same-length-2
 same-length-2 c = search needs
@@ -67,12 +63,11 @@ returns-2 : tie.Need-returns-2
 returns-2 c =
     let put = c .before .before in
     let plan = put .before .before in
-    let up = plan .before .before in
-    let test = up .before .before in
+    let test = plan .before .before in
     let n = counted test in
     let asked = start n .pre in
     let stays = stays-read (asked .0) (asked .1) (test .before .height-of .ensures) (test .if1 .left) in
-    put-edits (asked .0) (packed-here (asked .0) stays (asked .2) (asked .3)) (n .count-of .ensures) (up .up-at .ensures) (inner-planned (asked .0) stays (asked .2) (asked .3) (plan .inner-plan .ensures))
+    put-edits (asked .0) (packed-here (asked .0) stays (asked .2) (asked .3)) (n .count-of .ensures) (inner-planned (asked .0) stays (asked .2) (asked .3) (plan .inner-plan .ensures))
     (put .put .ensures)
 
 pub change-spec : {M : Type 1} → statement M
@@ -85,7 +80,6 @@ change-spec =
     change-root-requires
     same-length
     returns
-    up-at-requires
     inner-plan-requires
     put-requires
     same-length-2

@@ -5,16 +5,16 @@ use Prim.Native.Nat.{_≤_}
 use lib.ListN.{length}
 use Rattle.store_types.specs.Layout.{header-words}
 use Rattle.words.proofs.Fields.{header-long}
-use Rattle.insert_change.proofs.Accepted.{records-said, few-all, place-there, put-fits, put-edits, rise-fits, rise-packed, rise-reads, rise-planned}
+use Rattle.insert_change.proofs.Accepted.{records-said, few-all, put-fits, put-edits, rise-fits, rise-packed, rise-reads, rise-planned}
 use Rattle.insert_change.proofs.change_root.Statement.{statement}
 use Rattle.insert_change.proofs.change_root.Tie as tie
 
 long : (c : tie.Start) → header-words ≤ length (c .args .words .now)
 long c = header-long (records-said (c .pre .0))
 
--- where the place was read, the tables are made, and the plan
-abbrev read : tie.After-up-at → tie.Start
-read c = c .before .before .before .before .before .before
+-- where n was read, the tables are made, and the plan
+abbrev read : tie.After-count-of → tie.Start
+read c = c .before .before .before .before
 
 abbrev made : tie.After-tables-for → tie.Start
 made c = read (c .before .before .before)
@@ -24,9 +24,6 @@ planned c = c .before .before .before
 
 count-of-requires : tie.Need-count-of-requires
 count-of-requires c κs = long (c .before .before .before)
-
-up-at-requires : tie.Need-up-at-requires
-up-at-requires c κs = place-there (c .before .before .before .before .before .pre .0)
 
 slice-read-s : tie.Need-slice-read-s
 slice-read-s c = omega (arith, long (read (c .before)))
@@ -50,10 +47,10 @@ put-requires : tie.Need-put-requires
 put-requires c κs =
     let plan = c .before .before in
     let tables = planned plan in
-    let up = tables .before .before .before in
+    let n = tables .before .before .before in
     let asked = made tables .pre in
     let packed = tables .tables-for .ensures in
-    put-fits (asked .0) (rise-packed (asked .0) (asked .1) packed) (up .before .before .count-of .ensures) (up .up-at .ensures) (rise-planned (asked .0) (asked .1) packed (plan .root-plan .ensures))
+    put-fits (asked .0) (rise-packed (asked .0) (asked .1) packed) (n .count-of .ensures) (rise-planned (asked .0) (asked .1) packed (plan .root-plan .ensures))
 
 same-length : tie.Need-same-length
 same-length c = search needs
@@ -63,17 +60,16 @@ returns c =
     let put = c .before .before in
     let plan = put .before .before .before in
     let tables = planned plan in
-    let up = tables .before .before .before in
+    let n = tables .before .before .before in
     let asked = made tables .pre in
     let packed = tables .tables-for .ensures in
-    put-edits (asked .0) (rise-packed (asked .0) (asked .1) packed) (up .before .before .count-of .ensures) (up .up-at .ensures) (rise-planned (asked .0) (asked .1) packed (plan .root-plan .ensures)) (put .put .ensures)
+    put-edits (asked .0) (rise-packed (asked .0) (asked .1) packed) (n .count-of .ensures) (rise-planned (asked .0) (asked .1) packed (plan .root-plan .ensures)) (put .put .ensures)
 
 pub change-root-spec : {M : Type 1} → statement M
 change-root-spec =
     tie.close
     (tie.spec
     count-of-requires
-    up-at-requires
     slice-read-s
     slice-read-r
     tables-for-requires

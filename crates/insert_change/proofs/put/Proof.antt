@@ -32,7 +32,7 @@ unfolding plan-record
 apply-requires c κs =
     let put = raised c in
     let begun = start (added (put .before)) in
-    put-applies _ _ _ _ _ _ (plan-record (begun .args .p)) (added (put .before) .add-row .ensures) (put .raise .ensures) (begun .pre)
+    put-applies _ _ _ _ _ (plan-record (begun .args .p)) (added (put .before) .add-row .ensures) (put .raise .ensures) (begun .pre)
 
 cast-less : tie.Need-cast-less
 cast-less c = search needs
@@ -40,9 +40,9 @@ cast-less c = search needs
 less-requires : tie.Need-less-requires
 less-requires c κs = search needs
 
-cast-t20 : tie.Need-cast-t20
+cast-t19 : tie.Need-cast-t19
 unfolding plan-record
-cast-t20 c = let put = raised (c .before .before .before .before) in omega (arith, start (added (put .before)) .pre .plan .path .splits .height)
+cast-t19 c = let put = raised (c .before .before .before .before) in omega (arith, start (added (put .before)) .pre .plan .path .splits .height)
 
 same-length : tie.Need-same-length
 same-length c = search needs
@@ -53,7 +53,7 @@ returns c =
     let apply = c .before .before .before in
     let put = raised (apply .before) in
     let begun = start (added (put .before)) in
-    put-done _ _ _ _ _ _ (plan-record (begun .args .p)) (added (put .before) .add-row .ensures) (put .raise .ensures) (apply .apply .ensures .0) (apply .apply .ensures .1) refl (c .less .ensures)
+    put-done _ _ _ _ _ (plan-record (begun .args .p)) (added (put .before) .add-row .ensures) (put .raise .ensures) (apply .apply .ensures .0) (apply .apply .ensures .1) refl (c .less .ensures)
 
 pub put-spec : {M : Type 1} → statement M
 put-spec =
@@ -64,6 +64,6 @@ put-spec =
     apply-requires
     cast-less
     less-requires
-    cast-t20
+    cast-t19
     same-length
     returns)

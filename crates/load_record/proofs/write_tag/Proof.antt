@@ -1,6 +1,6 @@
 -- `load_record::write_tag` meets its contract. Assumes nothing.
 use Rattle.words.proofs.Fields.{room, room-same}
-use Rattle.load_record.proofs.Inside.{mate-room, known-placed, whole, begin-behind, known-behind}
+use Rattle.load_record.proofs.Inside.{mate-room, known-placed, whole, depth-small, begin-behind, known-behind, depth-behind}
 use borrow.Author.Needs.{needs}
 use native.Mathlib.Omega.{arith}
 use Rattle.load_record.proofs.write_tag.Statement.{statement}
@@ -13,7 +13,7 @@ up-at-requires : tie.Need-up-at-requires
 up-at-requires c κs =
     let asked = c .before .before .before .before .before .before .pre in
     let written = c .before .before .before .write-place .ensures in (
-      asked .0 .number,
+      asked .0 .depth .number,
       (λ e. room-same (room (asked .0 .records) (asked .0 .begun e)) (omega arith)),
       (λ k. rw written (known-placed _ _ _ _ _ _ (asked .0) (asked .1) k)),
     )
@@ -21,14 +21,22 @@ up-at-requires c κs =
 mate-at-requires : tie.Need-mate-at-requires
 mate-at-requires c κs = search needs
 
+depth-at-requires : tie.Need-depth-at-requires
+depth-at-requires c κs = search needs
+
 write-links-requires : tie.Need-write-links-requires
 write-links-requires c κs =
-    let placed = c .before .before .before .before .before .before in
+    let picked = c .before .before in
+    let placed = picked .before .before .before .before .before in
     let fits = placed .before .before .before .pre .0 in
-    (room-same (room (fits .records) (fits .below)) (omega arith), room-same (mate-room fits (c .before .mate-at .ensures)) (omega arith))
+    (room-same (room (fits .records) (fits .below)) (omega arith), room-same (mate-room fits (picked .mate-at .ensures)) (omega arith))
 
 open-behind-requires : tie.Need-open-behind-requires
-open-behind-requires c κs = search needs
+open-behind-requires c κs =
+    let deep = c .before .before .before .before in
+    let placed = deep .before .before .before .before .before .before in
+    let fits = placed .before .before .before .pre .0 in
+    (fits .depth .number, depth-small fits (deep .depth-at .ensures))
 
 same-length : tie.Need-same-length
 same-length c = search needs
@@ -36,15 +44,19 @@ same-length c = search needs
 returns : tie.Need-returns
 returns c =
     let linked = c .before .before .before in
-    let picked = linked .before .before in
+    let deep = linked .before .before .depth-at .ensures in
+    let picked = linked .before .before .before in
     let placed = picked .before .before .before .before .before in
     let asked = placed .before .before .before .pre in
     let up = rw (placed .write-place .ensures) at (picked .before .up-at .ensures) in
-    let words = whole _ _ _ _ _ _ (asked .0) (asked .1) _ _ _ _ (placed .write-place .ensures) (picked .mate-at .ensures) (picked .before .up-at .ensures) (linked .write-links .ensures) in (
+    let words = whole _ _ _ _ _ _ (asked .0) (asked .1) _ _ _ _ _ (placed .write-place .ensures) (picked .mate-at .ensures) (picked .before .up-at .ensures) deep (linked .write-links .ensures) in (
       words,
       (
-        begin-behind _ _ _ _ _ _ (asked .0) (asked .1) _ _ up (c .open-behind .ensures),
-        rw words (known-behind _ _ _ _ _ _ (asked .0) (asked .1) _ _ up (c .open-behind .ensures)),
+        begin-behind _ _ _ _ _ _ (asked .0) (asked .1) _ _ _ up (c .open-behind .ensures),
+        (
+          rw words (known-behind _ _ _ _ _ _ (asked .0) (asked .1) _ _ _ up (c .open-behind .ensures)),
+          depth-behind _ _ _ _ _ _ (asked .0) (asked .1) _ _ _ up (c .open-behind .ensures) deep,
+        ),
       ),
     )
 
@@ -55,6 +67,7 @@ write-tag-spec =
     write-place-requires
     up-at-requires
     mate-at-requires
+    depth-at-requires
     write-links-requires
     open-behind-requires
     same-length

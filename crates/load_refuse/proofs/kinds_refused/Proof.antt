@@ -6,7 +6,7 @@ use mathlib.Core.List.{List}
 use Prim.Native.Nat.{ℕ, _-_, _≤_}
 use borrow.Author.Tests.{eq-eqb, ne-eqb, not-true, not-false}
 use lib.ListN.{length, getD, drop}
-use Rattle.calls.specs.Kind.{is-kind}
+use Rattle.calls.specs.Kind.{is-kind, kind-of}
 use Rattle.load_refuse.specs.Refusals.{kinds-refusal}
 use Rattle.load_refuse.proofs.KindBits.{end-first, end-closes}
 use Rattle.load_refuse.proofs.KindsSeen.{kinds-stop, kinds-break, kinds-go, kinds-end, depth-most}
@@ -72,7 +72,7 @@ loop-again c =
     let l = turn .loop in
     let kind = is-one (c .before .before .before) in (
       omega arith,
-      rw (c .depth-after .ensures) omega (arith, depth-most (l .depth) (getD (all-kinds turn) (l .i) 0)),
+      rw (c .depth-after .ensures) omega (arith, depth-most (kind-of (getD (all-kinds turn) (l .i) 0)) (l .depth)),
       rw (c .depth-after .ensures) (sym (kinds-go _ (l .i) (c .before .before .before .before .before .before .loop-test .taken) (l .depth) kind (end-closes _ _ (rw (c .before .before .ends .ensures) at (c .before .if2 .left)))) ∙ l .inv .2),
     )
 

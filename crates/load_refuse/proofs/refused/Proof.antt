@@ -1,8 +1,12 @@
 -- `load_refuse::refused` meets its contract: each test as the definition has it, in its order. Assumes nothing.
 use mathlib.Core.Path.{_≡_, sym, _∙_}
 use mathlib.Core.Bool.{true, _&&_}
+use Prim.Native.Nat.{_<_}
+use native.Mathlib.Omega.{arith}
 use borrow.Author.Tests.{lt-ltb, le-ltb, not-true, not-false}
 use lib.Dec.{leb}
+use lib.ListN.{length}
+use Rattle.store_types.specs.Layout.{header-words, words-for}
 use Rattle.lists.specs.Lists.{first}
 use Rattle.calls.specs.Sound.{degrees-fit}
 use Rattle.calls.specs.Load.{early-tests}
@@ -47,7 +51,9 @@ returns-4 : tie.Need-returns-4
 unfolding refusal-before early-tests first degrees-fit degree-fits
 returns-4 c =
     let few = c .before .before in
-    rw (s-fits (few .before .before .before), r-fits (few .before), le-ltb _ _ (few .if3 .left), lt-ltb _ _ (rw (c .before .words-for .ensures) at (c .if4 .taken)))
+    let a = few .before .before .before .before .before .before .args in
+    let short : a .room < words-for header-words (length (a .kinds .now)) = omega (arith, c .before .words-for .ensures, c .if4 .taken) in
+    rw (s-fits (few .before .before .before), r-fits (few .before), le-ltb _ _ (few .if3 .left), lt-ltb _ _ short)
 
 kinds-refused-requires : tie.Need-kinds-refused-requires
 kinds-refused-requires c κs = search needs

@@ -11,17 +11,17 @@ use Rattle.load_tags.proofs.write_row.Statement.{statement}
 use Rattle.load_tags.proofs.write_row.Tie as tie
 
 abbrev Inv-loop : tie.InvT-loop
-Inv-loop words₀ kinds row inside₀ i₀ words inside i =
-    (i ≤ row .end) × Filling kinds row (inside₀ .begin .0) (λ x. no-tag) words₀ i words (inside .begin .0) × Around-known words i inside
+Inv-loop words₀ kinds row depth inside₀ i₀ words inside i =
+    (i ≤ row .end) × Filling kinds row (inside₀ .begin .0) depth (λ x. no-tag) words₀ i words (inside .begin .0) (inside .depth) × Around-known words i inside
 
 abbrev μ-loop : tie.MeasureT-loop
-μ-loop words₀ kinds row inside₀ i₀ words inside i = row .end - i
+μ-loop words₀ kinds row depth inside₀ i₀ words inside i = row .end - i
 
 loop-holds : tie.Need-loop-holds Inv-loop μ-loop
 loop-holds c =
     let asked = c .before .before .pre in (
       omega (arith, asked .count),
-      row-starts _ _ _ _ _ asked,
+      row-starts _ _ _ _ _ _ asked,
       record { up = λ k. absurd (true≢false (sym k)); below = λ k. absurd (true≢false (sym k)) },
     )
 
@@ -46,7 +46,7 @@ write-tag-requires c κs =
     let turn = c .before .before .before in
     let at-loop = turn .before .before in
     let l = at-loop .loop in
-    (tag-fits _ _ _ _ _ (start at-loop .pre) (l .i) (l .words) (l .inside .begin .0) (l .inv .1) (turn .if1 .taken) _ refl, l .inv .2)
+    (tag-fits _ _ _ _ _ _ (start at-loop .pre) (l .i) (l .words) (l .inside .begin .0) (l .inside .depth) (l .inv .1) (turn .if1 .taken) _ refl, l .inv .2)
 
 add-i : tie.Need-add-i Inv-loop μ-loop
 add-i c =
@@ -64,8 +64,8 @@ loop-again c =
     let l = at-loop .loop in
     let w = written .write-tag .ensures in (
       omega arith,
-      rw (w .0, w .1 .0) (row-turns _ _ _ _ _ (start at-loop .pre) (l .i) (l .words) (l .inside .begin .0) (l .inv .1) (turn .if1 .taken) _ refl _ refl),
-      w .1 .1,
+      rw (w .0, w .1 .0, w .1 .1 .1) (row-turns _ _ _ _ _ _ (start at-loop .pre) (l .i) (l .words) (l .inside .begin .0) (l .inside .depth) (l .inv .1) (turn .if1 .taken) _ refl _ refl),
+      w .1 .1 .0,
     )
 
 same-length : tie.Need-same-length Inv-loop μ-loop
@@ -74,7 +74,7 @@ same-length c = c .before .before .loop .inv .1 .filled .beside .size
 returns : tie.Need-returns Inv-loop μ-loop
 returns c =
     let at-loop = c .before .before in
-    row-ends _ _ _ _ (start at-loop .pre) _ _ _ (at-loop .loop .inv .1) (omega arith)
+    row-ends _ _ _ _ _ (start at-loop .pre) _ _ _ _ (at-loop .loop .inv .1) (omega arith)
 
 pub write-row-spec : {M : Type 1} → statement M
 write-row-spec =

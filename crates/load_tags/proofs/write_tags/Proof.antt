@@ -20,7 +20,7 @@ abbrev Inv-loop : tie.InvT-loop
 Inv-loop words₀ kinds r under widths n row gaps lows begins₀ inside₀ label₀ i₀ words begins inside label i =
     (i ≤ length kinds)
     × Abreast r under (length kinds) (gap r widths) i 0 label begins
-    × Filling kinds row no-tag (λ x. getD (labels-new r widths (length kinds) under) x 0) words₀ i words (inside .begin .0)
+    × Filling kinds row no-tag 0 (λ x. getD (labels-new r widths (length kinds) under) x 0) words₀ i words (inside .begin .0) (inside .depth)
     × Around-known words i inside
 
 abbrev μ-loop : tie.MeasureT-loop
@@ -50,7 +50,7 @@ loop-holds c =
     let p = made .before .before .before .before .pre in (
       omega arith,
       labels-start _ _ _ _ (p .1) _ _ (made .before .gaps .ensures) (made .table .ensures) _ (c .first-begins .ensures),
-      row-starts _ _ _ _ _ (book-fits (p .0)),
+      row-starts _ _ _ _ _ _ (book-fits (p .0)),
       record { up = λ k. absurd (true≢false (sym k)); below = λ k. absurd (true≢false (sym k)) },
     )
 
@@ -107,7 +107,7 @@ write-tag-requires : tie.Need-write-tag-requires Inv-loop μ-loop
 write-tag-requires c κs =
     let turn = c .before .before .before .before .before .before in
     let l = turn .before .loop in
-    (tag-fits _ _ _ _ _ (book-fits (start (turn .before) .pre .0)) (l .i) (l .words) (l .inside .begin .0) (l .inv .2) (turn .loop-test .taken) _ (book-kind (start (turn .before) .args .kinds .now) (l .i)), l .inv .3)
+    (tag-fits _ _ _ _ _ _ (book-fits (start (turn .before) .pre .0)) (l .i) (l .words) (l .inside .begin .0) (l .inside .depth) (l .inv .2) (turn .loop-test .taken) _ (book-kind (start (turn .before) .args .kinds .now) (l .i)), l .inv .3)
 
 element-copy-out-sum : tie.Need-element-copy-out-sum Inv-loop μ-loop
 element-copy-out-sum c = omega arith
@@ -140,8 +140,8 @@ loop-again c =
     let w = written .write-tag .ensures in (
       omega arith,
       rw (c .sum .ensures) (labels-next _ _ _ _ (p .1) (l .i) _ _ here),
-      rw (w .0, w .1 .0) (row-turns _ _ _ _ _ (book-fits (p .0)) (l .i) (l .words) (l .inside .begin .0) (l .inv .2) test _ (book-kind (start (turn .before) .args .kinds .now) (l .i)) _ (label-new _ _ _ _ (p .1) (l .i) _ _ test here)),
-      w .1 .1,
+      rw (w .0, w .1 .0, w .1 .1 .1) (row-turns _ _ _ _ _ _ (book-fits (p .0)) (l .i) (l .words) (l .inside .begin .0) (l .inside .depth) (l .inv .2) test _ (book-kind (start (turn .before) .args .kinds .now) (l .i)) _ (label-new _ _ _ _ (p .1) (l .i) _ _ test here)),
+      w .1 .1 .0,
     )
 
 same-length : tie.Need-same-length Inv-loop μ-loop
@@ -150,7 +150,7 @@ same-length c = c .before .loop .inv .2 .filled .beside .size
 returns : tie.Need-returns Inv-loop μ-loop
 returns c =
     let l = c .before .loop in
-    book-ends _ _ _ (start (c .before) .pre .0) (l .i) _ _ (l .inv .2) (omega arith)
+    book-ends _ _ _ (start (c .before) .pre .0) (l .i) _ _ _ (l .inv .2) (omega arith)
 
 pub write-tags-spec : {M : Type 1} → statement M
 write-tags-spec =

@@ -7,9 +7,10 @@ use Prim.Native.Nat.{_-_, _≤_}
 use native.Mathlib.Omega.{arith}
 use Rattle.words.proofs.Fields.{header-long}
 use Rattle.walk_tags.specs.Needs.{pair-table}
+use Rattle.walk_tags.proofs.TestLaws.{depth-there}
 use Rattle.walk_levels.proofs.SizeLaws.{never}
 use Rattle.walk.specs.Needs.{Standing}
-use Rattle.walk.proofs.PassLaws.{walk-at, walk-whole, sizes-at-tag, sizes-whole, walk-start, sizes-start, standing-start, walk-outside, label-below, tag-reads, walk-misplaced, walk-refused, walk-more, walk-end, sizes-more, sizes-end, passed-fits, standing-kept}
+use Rattle.walk.proofs.PassLaws.{held, walk-at, walk-whole, sizes-at-tag, sizes-whole, walk-start, sizes-start, standing-start, walk-outside, label-below, tag-reads, walk-misplaced, walk-refused, walk-wrong-depth, walk-more, walk-end, sizes-more, sizes-end, passed-fits, standing-kept}
 use Rattle.walk.proofs.pass.Statement.{statement}
 use Rattle.walk.proofs.pass.Tie as tie
 
@@ -38,14 +39,19 @@ returns c =
 pairs-requires : tie.Need-pairs-requires Inv-loop μ-loop
 pairs-requires c κs = search needs
 
+started-requires : tie.Need-started-requires Inv-loop μ-loop
+started-requires c κs = search needs
+
 loop-holds : tie.Need-loop-holds Inv-loop μ-loop
 loop-holds c =
-    let start = c .before .before .before .before .before .before in let there = c .before .before .before .of .ensures in
-    (omega arith, c .pairs .ensures, standing-start _ _ _ _ (start .pre .0) (start .pre .1) there, walk-start _ _ _ _ _ (start .pre .1), sizes-start _ _ _ _ _ (start .pre .1) _)
+    let start = c .before .before .before .before .before .before .before in
+    let there = c .before .before .before .before .of .ensures in
+    rw (c .started .ensures) (omega arith, c .before .pairs .ensures, standing-start _ _ _ _ (start .pre .0) (start .pre .1) there, walk-start _ _ _ _ _ (start .pre .1), sizes-start _ _ _ _ _ (start .pre .1) _)
 
--- places of a turn: where the pass began, where the turn did, where it has a tag, where that tag's label has been tested
+-- places of a turn: where the pass began, where the turn did, where it has a tag, where that tag's label has been tested, and
+-- its kind
 abbrev start : tie.At-loop Inv-loop μ-loop → tie.Start Inv-loop μ-loop
-start c = c .before .before .before .before .before .before .before
+start c = c .before .before .before .before .before .before .before .before
 
 abbrev turn : tie.Then3 Inv-loop μ-loop → tie.At-loop Inv-loop μ-loop
 turn c = c .before .before .before
@@ -55,6 +61,9 @@ on-tag c = c .before .before .before .before
 
 abbrev labelled : tie.After-tag-fits Inv-loop μ-loop → tie.After-label-fits Inv-loop μ-loop
 labelled c = c .before .before .before
+
+abbrev fitted : tie.After-depth-fits Inv-loop μ-loop → tie.After-tag-fits Inv-loop μ-loop
+fitted c = c .before .before
 
 label-fits-requires : tie.Need-label-fits-requires Inv-loop μ-loop
 label-fits-requires c κs = let at = turn (c .before .before .before) in (start at .pre .0, at .loop .inv .2)
@@ -76,35 +85,56 @@ returns-3 c =
     let tag = on-tag label in
     (walk-refused _ _ _ _ _ _ _ (turn tag .loop .inv .3) (tag .if3 .taken) (label .label-fits .ensures .0) (c .before .before .before .if4 .left) (c .before .tag-fits .ensures) (c .if5 .taken), never)
 
+depth-fits-requires : tie.Need-depth-fits-requires Inv-loop μ-loop
+depth-fits-requires c κs =
+    let label = labelled (c .before) in
+    let tag = on-tag label in
+    let at = turn tag in
+    let below = label-below _ _ _ _ _ _ _ (label .label-fits .ensures .0) (c .before .before .before .if4 .left) in
+    let fits = passed-fits _ _ _ _ _ _ (start at .pre .0) (at .loop .inv .2) below (c .before .tag-fits .ensures) (c .if5 .left) (tag .if3 .taken) in
+    depth-there (fits .0 .0) (fits .0 .1)
+
+returns-4 : tie.Need-returns-4 Inv-loop μ-loop
+returns-4 c =
+    let fit = fitted (c .before) in
+    let label = labelled fit in
+    let tag = on-tag label in
+    (walk-wrong-depth _ _ _ _ _ _ _ (turn tag .loop .inv .3) (tag .if3 .taken) (label .label-fits .ensures .0) (fit .before .before .if4 .left) (fit .tag-fits .ensures) (c .before .before .if5 .left) (c .before .depth-fits .ensures) (c .if6 .taken), never)
+
 array-read-passed : tie.Need-array-read-passed Inv-loop μ-loop
 array-read-passed c = omega arith
 
 passed-requires : tie.Need-passed-requires Inv-loop μ-loop
 passed-requires c κs =
-    let label = labelled (c .before) in
+    let fit = fitted (c .before) in
+    let label = labelled fit in
     let tag = on-tag label in
     let at = turn tag in
-    let below = label-below _ _ _ _ _ _ _ (label .label-fits .ensures .0) (c .before .before .before .if4 .left) in
-    passed-fits _ _ _ _ _ _ (start at .pre .0) (at .loop .inv .2) below (c .before .tag-fits .ensures) (c .if5 .left) (tag .if3 .taken)
+    let below = label-below _ _ _ _ _ _ _ (label .label-fits .ensures .0) (fit .before .before .if4 .left) in
+    let fits = passed-fits _ _ _ _ _ _ (start at .pre .0) (at .loop .inv .2) below (fit .tag-fits .ensures) (c .before .before .if5 .left) (tag .if3 .taken) in
+    (fits .0, (held (c .before .depth-fits .ensures) (c .if6 .left), fits .1))
 
 loop-less : tie.Need-loop-less Inv-loop μ-loop
-loop-less c = omega (arith, on-tag (labelled (c .before .before)) .if3 .taken, c .passed .ensures .place)
+loop-less c = omega (arith, on-tag (labelled (fitted (c .before .before))) .if3 .taken, c .passed .ensures .place)
 
 loop-again : tie.Need-loop-again Inv-loop μ-loop
 loop-again c =
-    let at = turn (on-tag (labelled (c .before .before))) in
+    let tested = c .before .before in
+    let fit = fitted tested in
+    let kind = tested .before .if5 .left in
+    let at = turn (on-tag (labelled fit)) in
     let inv = at .loop .inv in
     let fits = start at .pre .0 in
-    let label = labelled (c .before .before) .label-fits .ensures in
-    let placed = c .before .before .before .before .if4 .left in
+    let label = labelled fit .label-fits .ensures in
+    let placed = fit .before .before .if4 .left in
     let below = label-below _ _ _ _ _ _ _ (label .0) placed in
     let levels = label .1 .0 (not-false _ placed) in
-    let more = on-tag (labelled (c .before .before)) .if3 .taken in
+    let more = on-tag (labelled fit) .if3 .taken in
     let behind = c .passed .ensures in (
       omega (arith, more, behind .place),
       inv .1,
-      standing-kept _ _ _ _ _ _ fits (inv .2) below (c .before .before .tag-fits .ensures) (c .before .if5 .left) _ _ behind,
-      walk-more _ _ _ _ _ _ _ (inv .3) more (label .0) placed (c .before .before .tag-fits .ensures) _ _ _ fits (c .before .if5 .left) levels behind,
+      standing-kept _ _ _ _ _ _ fits (inv .2) below (fit .tag-fits .ensures) kind _ _ behind,
+      walk-more _ _ _ _ _ _ _ (inv .3) more (label .0) placed (fit .tag-fits .ensures) kind (tested .depth-fits .ensures) _ _ _ fits (c .before .if6 .left) levels behind,
       sizes-more _ _ _ _ _ _ _ _ (inv .4) _ _ _ fits below more levels behind (label .1 .1 (not-false _ placed)),
     )
 
@@ -119,8 +149,8 @@ ends-well-requires c κs =
       tables-fit = fits .tables-fit;
     }
 
-returns-4 : tie.Need-returns-4 Inv-loop μ-loop
-returns-4 c =
+returns-5 : tie.Need-returns-5 Inv-loop μ-loop
+returns-5 c =
     let inv = c .before .before .before .before .before .before .before .loop .inv in
     let last = c .before .before .before .before .if3 .left in
     (walk-end _ _ _ _ _ _ _ (inv .3) last (c .ends-well .ensures .0), λ t. sizes-end _ _ _ _ _ _ _ _ (inv .4) last (c .ends-well .ensures .1 t))
@@ -135,14 +165,17 @@ pass-spec =
     of-requires
     returns
     pairs-requires
+    started-requires
     loop-holds
     label-fits-requires
     returns-2
     tag-fits-requires
     returns-3
+    depth-fits-requires
+    returns-4
     array-read-passed
     passed-requires
     loop-less
     loop-again
     ends-well-requires
-    returns-4)
+    returns-5)
