@@ -1,6 +1,6 @@
 /* A session on one section of a book: it holds the section's pair of labels, shows it with a write, finds it stale once the
- * book has been relabelled, and holds it again. Then the book is listed, and once more with a part of it marked. Last it is
- * saved as a file, and read back into other words.
+ * book has been relabelled, and holds it again. Then the book is listed, each tag as far in as it is deep, and once more with a
+ * part of it marked. Last it is saved as a file, and read back into other words.
  *
  *     ./install PREFIX && export PKG_CONFIG_PATH=PREFIX/lib/pkgconfig
  *     cc examples/section.c $(pkg-config --cflags --libs vekhturop) -o section
@@ -54,11 +54,11 @@ static void list(void)
     uint32_t tags[MOST], labels[MOST], i;
     vk_listed reply = vk_list(VK_FRONT, words, len, tags, MOST, labels, MOST);
     accept("list", reply.refusal);
-    printf("%" PRIu32 " tags:", reply.count);
+    printf("%" PRIu32 " tags:\n", reply.count);
     for (i = 0; i < reply.count; i++) {
-        printf(" %" PRIu32 "=%" PRIu32, tags[i], labels[i]);
+        int depth = (int)words[VK_DEPTH_AT(tags[i])];
+        printf("%*s%" PRIu32 "=%" PRIu32 "\n", 2 * (depth + 1), "", tags[i], labels[i]);
     }
-    printf("\n");
 }
 
 /* A program that keeps the book writes the file's bytes to disk here, and reads them when it starts again. */

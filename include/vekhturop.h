@@ -6,16 +6,18 @@
  * on; and vk_xml_kinds reads the kinds that a book is loaded from, or that vk_insert_sheet puts into one, out of a sheet of
  * XML.
  *
- * WORDS. A store lives in words that the caller lends to each call: 8 + 6n of them for n tags, VK_WORDS(n). Nothing else
+ * WORDS. A store lives in words that the caller lends to each call: 8 + 7n of them for n tags, VK_WORDS(n). Nothing else
  * is kept between calls, nothing is allocated, and the words may be copied as they are.
  *   words 0 to 7        1; s; r; height H; tags issued n; first tag or VK_NO_TAG; book number; stamp (changes since load)
- *   six a tag, from 0   label; next; prior; mate; up; kind (1 begin, 2 end, 3 text; 17, 18, 19 the same when marked)
+ *   seven a tag, from 0 label; next; prior; mate; up; kind (1 begin, 2 end, 3 text; 17, 18, 19 the same when marked);
+ *                       depth, the number of elements around the tag, the same for begin and end
  * Every call on a store but vk_load and vk_read_file first checks that the words say a sound one, in one pass over all tags.
  *
  * FILES. The bytes of a book are the same on every machine: records, each a 32-bit length of what follows it, a 16-bit kind,
  * then words, all little-endian. 44 + 34n of them for n tags, VK_FILE_BYTES(n).
  *   kind 1, length 30   s; r; H; n; first tag or VK_NO_TAG; book number; stamp
- *   kind 2, length 30   a tag's number; label; next; prior; mate; up; kind: one record a tag, in book order
+ *   kind 2, length 30   a tag's number; label; next; prior; mate; up; kind: one record a tag, in book order. Its depth is
+ *                       not in the file: vk_read_file works it out
  *   kind 3, length 6    n; this record is the last
  * A book that was written reads back to the same words, and no two files read as the same book.
  *
@@ -47,7 +49,10 @@ extern "C" {
 #endif
 
 /* How many words a store of n tags needs. */
-#define VK_WORDS(n) ((size_t)8 + (size_t)6 * (size_t)(n))
+#define VK_WORDS(n) ((size_t)8 + (size_t)7 * (size_t)(n))
+
+/* Where the depth of a tag below n stands in the words. */
+#define VK_DEPTH_AT(tag) ((size_t)14 + (size_t)7 * (size_t)(tag))
 
 /* How many bytes the file of a book of n tags has. */
 #define VK_FILE_BYTES(n) ((size_t)44 + (size_t)34 * (size_t)(n))
@@ -78,7 +83,7 @@ extern "C" {
 /* Refusals. "All" are the seven calls on a store; where insert is named, vk_insert_sheet is meant too, where load and read_file
  * are, those with grants too. A party's call has the question's, and with VK_INSERT the insertion's. */
 #define VK_ACCEPTED 0
-#define VK_TOO_FEW_WORDS 1   /* all, write_file, grant_add: under 8 words; load, read_file: under 8 + 6n */
+#define VK_TOO_FEW_WORDS 1   /* all, write_file, grant_add: under 8 words; load, read_file: under 8 + 7n */
 #define VK_NOT_SOUND 2       /* all but load, write_file, grant_add: the words say no sound store; read_file: the file says none */
 #define VK_DEGREE 3          /* load: s or r outside 2 to 16 */
 #define VK_KIND 4            /* load, insert: a kind not allowed there */

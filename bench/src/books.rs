@@ -65,7 +65,7 @@ pub fn shuffled(words: &[u32], rng: &mut Rng) -> Vec<u32> {
         for field in [NEXT, PRIOR, MATE, UP] {
             book[at(number(tag), field)] = number(words[at(tag, field)]);
         }
-        for field in [LABEL, KIND] {
+        for field in [LABEL, KIND, DEPTH] {
             book[at(number(tag), field)] = words[at(tag, field)];
         }
     }

@@ -1,5 +1,5 @@
 //! What a walk tests of each tag by its kind, with a branch on the kind and without: the choice is judged by it. Two plain
-//! passes that say the same of all words; labels are left out.
+//! passes that say the same of all words; labels and depths are left out.
 
 use crate::books::{self, SHEETS};
 use crate::calls::{median, timed};
@@ -27,7 +27,7 @@ fn pass(words: &[u32], test: impl Fn(&[[u32; RECORD]], u32, u32) -> (bool, u32))
 
 pub fn with_branches(words: &[u32]) -> bool {
     pass(words, |tags, x, open| {
-        let [_, _, _, mate, up, kind] = tags[x as usize];
+        let [_, _, _, mate, up, kind, _] = tags[x as usize];
         let around = tags.get(open as usize);
         let inside = up == open && around.is_none_or(|it| kind & MARK >= it[KIND] & MARK);
         match kind {
@@ -46,7 +46,7 @@ pub fn with_branches(words: &[u32]) -> bool {
 
 pub fn without_branches(words: &[u32]) -> bool {
     pass(words, |tags, x, open| {
-        let [_, _, _, mate, up, kind] = tags[x as usize];
+        let [_, _, _, mate, up, kind, _] = tags[x as usize];
         // With nothing open the tag is set beside itself: that asks nothing of a begin or text, and an end is told apart.
         let some = (open as usize) < tags.len();
         let around = tags[if some { open } else { x } as usize];

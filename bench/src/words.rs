@@ -1,4 +1,4 @@
-//! Document 01's word layout.
+//! Document 01's word layout, with document 02's depth.
 
 /// No tag; as a place, the front of the book.
 pub const NO_TAG: u32 = u32::MAX;
@@ -8,7 +8,7 @@ pub const MAX_TAGS: usize = 200_000;
 
 /// Words of the header, and of a tag.
 pub const HEADER: usize = 8;
-pub const RECORD: usize = 6;
+pub const RECORD: usize = 7;
 
 /// Words of the header by what they hold; s and r are words 1 and 2.
 pub const HEIGHT: usize = 3;
@@ -24,6 +24,7 @@ pub const PRIOR: usize = 2;
 pub const MATE: usize = 3;
 pub const UP: usize = 4;
 pub const KIND: usize = 5;
+pub const DEPTH: usize = 6;
 
 /// Kinds; a marked tag's is greater by MARK.
 pub use draw::{BEGIN, END, TEXT};

@@ -1,4 +1,4 @@
-//! A book as a file, and back: records of a length, a kind and words, all little-endian.
+//! A book as a file, and back: records of a length, a kind and words, all little-endian. Depths are not in it.
 
 use super::read::store_refused;
 use super::refused;
@@ -13,7 +13,8 @@ const TAG_FRONT: [u8; FRONT] = [30, 0, 0, 0, 2, 0];
 const LAST_FRONT: [u8; FRONT] = [6, 0, 0, 0, 3, 0];
 const FRONT: usize = 6;
 
-/// Every record but the last has seven words: those of the header but the first, or a tag's number and its words.
+/// Every record but the last has seven words: those of the header but the first, or a tag's number and its
+/// words but the last.
 type Row = [u8; ROW];
 type Words = [u32; 7];
 const ROW: usize = FRONT + 4 * 7;
@@ -50,7 +51,7 @@ pub fn write(words: &[u32], bytes: &mut [u8]) -> [u32; 2] {
     let (records, _) = words[HEADER..].as_chunks::<RECORD>();
     let mut x = words[FIRST];
     for to in tags {
-        let [label, next, prior, mate, up, kind] = records[x as usize];
+        let [label, next, prior, mate, up, kind, _] = records[x as usize];
         *to = row(TAG_FRONT, [x, label, next, prior, mate, up, kind]);
         x = next;
     }
@@ -141,9 +142,13 @@ pub fn read(bytes: &[u8], words: &mut [u32]) -> [u32; 3] {
     words[0] = 1;
     words[1..HEADER].copy_from_slice(&header);
     let (records, _) = words[HEADER..].as_chunks_mut::<RECORD>();
+    let mut depth = 0;
     for tag in tags {
-        let [number, record @ ..] = words_of(tag);
-        records[number as usize] = record;
+        let [number, label, next, prior, mate, up, kind] = words_of(tag);
+        // The kinds have been judged: bit 0 is off for an end alone, bit 1 for a begin alone.
+        depth -= 1 - (kind & 1);
+        records[number as usize] = [label, next, prior, mate, up, kind, depth];
+        depth += 1 - (kind >> 1 & 1);
     }
     [0, n, height]
 }

@@ -45,10 +45,10 @@ fn put(kinds: &[u8], wrong: u32, place: u32, words: &mut [u32]) -> [u32; 4] {
 /// Puts the tags, not yet labelled, behind a place.
 fn link(kinds: &[u8], place: u32, words: &mut [u32]) {
     let first = words[COUNT];
-    let up = match place {
-        NO_TAG => NO_TAG,
-        y if words[at(y, KIND)] == u32::from(BEGIN) => y,
-        y => words[at(y, UP)],
+    let (up, depth) = match place {
+        NO_TAG => (NO_TAG, 0),
+        y if words[at(y, KIND)] == u32::from(BEGIN) => (y, words[at(y, DEPTH)] + 1),
+        y => (words[at(y, UP)], words[at(y, DEPTH)]),
     };
     let slot = if place == NO_TAG { FIRST } else { at(place, NEXT) };
     let behind = std::mem::replace(&mut words[slot], first);
@@ -56,7 +56,7 @@ fn link(kinds: &[u8], place: u32, words: &mut [u32]) {
     if behind != NO_TAG {
         words[at(behind, PRIOR)] = words[COUNT] - 1;
     }
-    write_tags(kinds, first, [place, behind, up], |_| NO_TAG, words);
+    write_tags(kinds, first, [place, behind, up], depth, |_| NO_TAG, words);
 }
 
 impl Sound {

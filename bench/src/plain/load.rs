@@ -47,15 +47,17 @@ pub fn load(s: u32, r: u32, book: u32, kinds: &[u8], words: &mut [u32]) -> [u32;
         next = label + 1;
         label as u32
     };
-    write_tags(kinds, 0, [NO_TAG; 3], label, words);
+    write_tags(kinds, 0, [NO_TAG; 3], 0, label, words);
     [0, n, height as u32]
 }
 
-/// The records of properly nested tags, numbered from `first` on, which stand between two others in the element of a begin.
+/// The records of properly nested tags, numbered from `first` on, which stand between two others in the element of a begin, with
+/// so many elements around them.
 pub(super) fn write_tags(
     kinds: &[u8],
     first: u32,
     [before, behind, up]: [u32; 3],
+    mut depth: u32,
     mut label: impl FnMut(u32) -> u32,
     words: &mut [u32],
 ) {
@@ -69,7 +71,9 @@ pub(super) fn write_tags(
         let up = select_unpredictable(kind == END, words[at(mate, UP)], open);
         let next = if x + 1 < end { x + 1 } else { behind };
         let prior = if x > first { x - 1 } else { before };
-        words[at(x, 0)..][..RECORD].copy_from_slice(&[label(x), next, prior, mate, up, u32::from(kind)]);
+        depth -= u32::from(kind == END);
+        words[at(x, 0)..][..RECORD].copy_from_slice(&[label(x), next, prior, mate, up, u32::from(kind), depth]);
+        depth += u32::from(kind == BEGIN);
         open = select_unpredictable(kind == BEGIN, x, up);
     }
 }

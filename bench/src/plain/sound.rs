@@ -108,7 +108,7 @@ fn pass(words: &[u32], shape: &Shape, height: usize, n: u32, watched: u32) -> Op
     let label = if watched < n { u64::from(field(watched, LABEL)) } else { 0 };
     let mut levels = Levels::new(shape, height, behind(shape, label));
     let (mut x, mut before, mut parent) = (words[FIRST], NO_TAG, NO_TAG);
-    let (mut expect, mut marks) = (0, 0);
+    let (mut expect, mut marks, mut open) = (0, 0, 0);
     for place in 0..n {
         if n <= x {
             return None;
@@ -142,6 +142,12 @@ fn pass(words: &[u32], shape: &Shape, height: usize, n: u32, watched: u32) -> Op
         if field(partner, PRIOR + high as usize) != select_unpredictable(high == 0, before, x) {
             return None;
         }
+        // An end is not inside its own element, which is still open before it.
+        let depth = u64::from(field(x, DEPTH));
+        if depth + u64::from(1 - odd) != open {
+            return None;
+        }
+        open = depth + u64::from(1 - high);
         marks += kind >> 4;
         parent = select_unpredictable(high == 0, x, up);
         expect = if label + 1 < levels.ends[1] { label + 1 } else { NO_LABEL };

@@ -1,6 +1,6 @@
 //! A session on one section of a book: it holds the section's pair of labels, shows it with a write, finds it stale once the
-//! book has been relabelled, and holds it again. Then the book is listed, and once more with a part of it marked. Last it is
-//! saved as a file, and read back into other words.
+//! book has been relabelled, and holds it again. Then the book is listed, each tag as far in as it is deep, and once more with a
+//! part of it marked. Last it is saved as a file, and read back into other words.
 //!
 //! Writes what examples/section.c of the repository writes.
 
@@ -36,11 +36,11 @@ fn ask(store: &Store, pair: &HeldPair, d: Tag) -> Result<(), Refusal> {
 
 fn list(store: &Store) -> Result<(), Refusal> {
     let all = store.list(Within::Book)?;
-    print!("{} tags:", all.len());
+    println!("{} tags:", all.len());
     for (tag, label) in all {
-        print!(" {tag}={label}");
+        let depth = store.depth(tag).expect("a tag of the book");
+        println!("{}{tag}={label}", "  ".repeat(depth as usize + 1));
     }
-    println!();
     Ok(())
 }
 

@@ -7,7 +7,7 @@ use std::fmt;
 #[derive(Clone, Copy, PartialEq, Eq, Hash, Debug)]
 #[non_exhaustive]
 pub enum Refusal {
-    /// 1: under 8 words; on load and on reading a file, under 8 + 6n words for n tags.
+    /// 1: under 8 words; on load and on reading a file, under 8 + 7n words for n tags.
     TooFewWords,
     /// 2: the words say no sound store (any words may be loaded over, or read over), or the file that is read says none.
     NotSound,

@@ -6,7 +6,11 @@ use crate::types::{Answer, HeldPair, Inserted, Kind, Label, Loaded, Place, Tag, 
 /// The words before the first tag's.
 const HEADER: usize = 8;
 /// The words of one tag.
-const RECORD: usize = 6;
+const RECORD: usize = 7;
+/// Where the header says how many tags were issued.
+const COUNT: usize = 4;
+/// Where a tag's depth stands among its words.
+const DEPTH: usize = 6;
 
 /// How many words a store of so many tags needs.
 pub const fn words_for(tags: usize) -> usize {
@@ -27,7 +31,7 @@ pub struct Store<'a> {
 }
 
 impl<'a> Store<'a> {
-    /// A store over words of any content, with room for `(words.len() - 8) / 6` tags ([`words_for`]).
+    /// A store over words of any content, with room for `(words.len() - 8) / 7` tags ([`words_for`]).
     pub fn new(words: &'a mut [u32]) -> Store<'a> {
         Store { words }
     }
@@ -176,11 +180,33 @@ impl<'a> Store<'a> {
         Ok(Answer::of(reply.answer))
     }
 
+    /// How many elements are around a tag, the same for a begin and its end: the word as it stands, or none where the tag
+    /// is not below the tags issued. Nothing else is checked, so this takes no time; a call before it tells whether the words
+    /// are sound.
+    ///
+    /// ```
+    /// use vekhturop::{Kind, Store, Tag, words_for};
+    ///
+    /// # fn main() -> Result<(), vekhturop::Refusal> {
+    /// let mut words = [0; words_for(3)];
+    /// let mut store = Store::new(&mut words);
+    /// store.load(2, 2, 7, &[Kind::Begin, Kind::Text, Kind::End])?;
+    /// let depths = [0, 1, 2, 3].map(|tag| store.depth(Tag::new(tag).expect("a tag")));
+    /// assert_eq!(depths, [Some(0), Some(1), Some(0), None]);
+    /// # Ok(())
+    /// # }
+    /// ```
+    pub fn depth(&self, tag: Tag) -> Option<u32> {
+        let issued = *self.words.get(COUNT)?;
+        let below = tag.number() < issued;
+        below.then(|| self.words.get(HEADER + RECORD * tag.number() as usize + DEPTH).copied()).flatten()
+    }
+
     /// The unmarked tags there with their labels, in book order.
     pub fn list(&self, within: Within) -> Result<Vec<(Tag, Label)>, Refusal> {
         // A list has no more tags than were issued, and those have records in the words, or they are refused.
         let room = self.words.len().saturating_sub(HEADER) / RECORD;
-        let issued = self.words.get(4).map_or(0, |n| room.min(*n as usize));
+        let issued = self.words.get(COUNT).map_or(0, |n| room.min(*n as usize));
         let mut tags = vec![Tag::issued(0); issued];
         let mut labels = vec![Label::default(); issued];
         let count = self.list_into(within, &mut tags, &mut labels)?;

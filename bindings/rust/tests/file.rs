@@ -65,9 +65,9 @@ fn the_printed_book_is_kept() {
     let file = &bytes[..316];
     let numbers: Vec<u8> = (1..=8).map(|row| file[34 * row + 6]).collect();
     assert_eq!(numbers, [0, 1, 2, 7, 6, 3, 4, 5]);
-    assert_eq!(read_into(56, file), (Ok((8, 3)), words.clone()));
+    assert_eq!(read_into(64, file), (Ok((8, 3)), words.clone()));
     words.push(5);
-    assert_eq!(read_into(57, file), (Ok((8, 3)), words));
+    assert_eq!(read_into(65, file), (Ok((8, 3)), words));
 }
 
 /// A store that was read is used as any other.
@@ -86,8 +86,8 @@ fn a_book_goes_on_where_it_was_kept() {
 #[test]
 fn bytes_that_are_no_file() {
     let file = file(&mut printed(6, 0), 6);
-    refused(44, &file[..247], Refusal::NotAFile);
-    refused(44, &[&file[..], &[0]].concat(), Refusal::NotAFile);
+    refused(50, &file[..247], Refusal::NotAFile);
+    refused(50, &[&file[..], &[0]].concat(), Refusal::NotAFile);
     for (at, byte) in [(0, 31), (4, 3), (5, 1), (18, 7), (38, 3), (242, 2), (244, 7)] {
         let mut damaged = file.clone();
         damaged[at] = byte;
@@ -98,17 +98,17 @@ fn bytes_that_are_no_file() {
 #[test]
 fn files_that_say_no_book() {
     let file = file(&mut printed(6, 0), 6);
-    refused(43, &file, Refusal::TooFewWords);
+    refused(49, &file, Refusal::TooFewWords);
     let rows = |i: usize| 34 * i..34 * (i + 1);
     let exchanged = [&file[..136], &file[rows(5)], &file[rows(4)], &file[204..]].concat();
     let doubled = [&file[..170], &file[rows(4)], &file[204..]].concat();
     let with = |at: usize, byte: u8| [&file[..at], &[byte], &file[at + 1..]].concat();
     // Number 6 for tag 4, a gap before the label of tag 5, a stamp above n.
     for damaged in [exchanged, doubled, with(176, 6), with(214, 8), with(30, 7)] {
-        refused(44, &damaged, Refusal::NotSound);
-        refused(43, &damaged, Refusal::TooFewWords);
+        refused(50, &damaged, Refusal::NotSound);
+        refused(49, &damaged, Refusal::TooFewWords);
     }
-    assert_eq!(read_into(44, &with(30, 6)).0, Ok((6, 2)));
+    assert_eq!(read_into(50, &with(30, 6)).0, Ok((6, 2)));
 }
 
 #[test]

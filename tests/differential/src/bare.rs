@@ -6,9 +6,10 @@ use crate::call::{Call, Reply};
 use crate::kinds::{BEGIN, END};
 use reference::{HEADER, NO_TAG, RECORD, bytes_for};
 
-/// Where a record has its label and its kind, and what a mark adds to the kind.
+/// Where a record has its label, its kind and its depth, and what a mark adds to the kind.
 const LABEL: usize = 0;
 const KIND: usize = 5;
+const DEPTH: usize = 6;
 const MARK: u32 = 16;
 
 pub struct Bare {
@@ -153,11 +154,12 @@ impl Bare {
         Ok(())
     }
 
-    /// Tags along next are the list, and labels rise below (f - 1)^H.
+    /// Tags along next are the list, labels rise below (f - 1)^H, and depths are those of the kinds along it.
     fn check_chain(&self, words: &[u32]) -> Result<(), String> {
         let bound = (self.s * self.r - 1).pow(self.height);
         let mut here = words[5];
         let mut above: Option<u32> = None;
+        let mut open = 0;
         for &tag in &self.list {
             if here != tag {
                 return Err(format!("bare list: next comes to {here}, not to {tag}"));
@@ -168,6 +170,12 @@ impl Bare {
                 return Err(format!("bare list: label {label} of tag {tag} after {above:?}, bound {bound}"));
             }
             above = Some(label);
+            let kind = self.kinds[tag as usize];
+            open -= u32::from(kind == END);
+            if record[DEPTH] != open {
+                return Err(format!("bare list: depth {} of tag {tag}, not {open}", record[DEPTH]));
+            }
+            open += u32::from(kind == BEGIN);
             here = record[1];
         }
         if here != NO_TAG {

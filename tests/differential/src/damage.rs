@@ -8,6 +8,7 @@ use crate::session::{Failure, Session, Tally};
 use crate::subject::Subject;
 use draw::Rng;
 use reference::{HEADER, NO_TAG, RECORD};
+use std::collections::BTreeSet;
 
 pub(crate) const LABEL: usize = 0;
 pub(crate) const NEXT: usize = 1;
@@ -15,6 +16,7 @@ const PRIOR: usize = 2;
 pub(crate) const MATE: usize = 3;
 pub(crate) const UP: usize = 4;
 pub(crate) const KIND: usize = 5;
+pub(crate) const DEPTH: usize = 6;
 
 pub(crate) fn at(tag: usize, field: usize) -> usize {
     HEADER + RECORD * tag + field
@@ -45,6 +47,40 @@ fn link(words: &mut [u32], order: &[usize]) {
     }
 }
 
+/// The words with depths as the kinds along their next nest, so that what else is wrong with them is not told by depth. Next is
+/// followed as far as there are records for it; an end that closes nothing gets 0.
+fn deepened(words: &[u32]) -> Vec<u32> {
+    let mut words = words.to_vec();
+    let records = words.len().saturating_sub(HEADER) / RECORD;
+    let mut here = words.get(5).map_or(records, |first| *first as usize);
+    let mut open = 0u32;
+    for _ in 0..records {
+        if here >= records {
+            break;
+        }
+        let kind = words[at(here, KIND)] & 15;
+        open = open.saturating_sub(u32::from(kind == u32::from(END)));
+        words[at(here, DEPTH)] = open;
+        open += u32::from(kind == u32::from(BEGIN));
+        here = words[at(here, NEXT)] as usize;
+    }
+    words
+}
+
+/// Each depth one more and one less, 0, as high as a word goes, and as those of the tags before and after it.
+fn depths(words: &[u32], out: &mut Vec<Vec<u32>>) {
+    for x in 0..tags(words) {
+        let depth = words[at(x, DEPTH)];
+        let beside = |field: usize| words.get(at(words[at(x, field)] as usize, DEPTH)).copied().unwrap_or(NO_TAG);
+        let others = [depth + 1, depth.wrapping_sub(1), 0, NO_TAG, beside(NEXT), beside(PRIOR)];
+        for other in others.into_iter().filter(|other| *other != depth) {
+            let mut damaged = words.to_vec();
+            damaged[at(x, DEPTH)] = other;
+            out.push(damaged);
+        }
+    }
+}
+
 /// One word changed to each value that could matter.
 fn single_words(words: &[u32], out: &mut Vec<Vec<u32>>) {
     let n = words[4];
@@ -52,8 +88,8 @@ fn single_words(words: &[u32], out: &mut Vec<Vec<u32>>) {
     let mut values: Vec<u32> = (0..=n + 2).chain(14..=20).collect();
     values.extend((1..6).map(|j| base.wrapping_pow(j)));
     values.extend([31, 32, 255, 256, 257, 199_999, 200_000, 200_001, 1 << 31, (1 << 31) - 1, NO_TAG, NO_TAG - 1]);
-    // 8 + 6·n comes round past 2^32 for the first two and past 2^31 for the others.
-    values.extend([715_827_881, 715_827_882, 357_913_940, 357_913_941]);
+    // 8 + 7·n comes round past 2^32 between the first two and past 2^31 between the others.
+    values.extend([613_566_755, 613_566_756, 306_783_377, 306_783_378]);
     values.extend((0..n as usize).map(|tag| words[at(tag, LABEL)]));
     for i in 0..words.len() {
         let near = [words[i].wrapping_sub(1), words[i].wrapping_add(1), words[i] ^ 16, words[i].wrapping_add(base)];
@@ -65,7 +101,7 @@ fn single_words(words: &[u32], out: &mut Vec<Vec<u32>>) {
     }
 }
 
-/// One field of two tags swapped: nexts, priors, labels, mates, ups, kinds.
+/// One field of two tags swapped: nexts, priors, labels, mates, ups, kinds, depths.
 fn swapped_fields(words: &[u32], out: &mut Vec<Vec<u32>>) {
     for field in 0..RECORD {
         for x in 0..tags(words) {
@@ -181,7 +217,7 @@ fn headers(words: &[u32], rng: &mut Rng, out: &mut Vec<Vec<u32>>) {
                 0 => damaged[1] = rng.between(1, 17) as u32,
                 1 => damaged[2] = rng.between(1, 17) as u32,
                 2 => damaged[3] = rng.pick(&[0, 1, 2, 3, 4, 5, 6, 7, 20, 21, 32, 33, 64, 1 << 31, NO_TAG]),
-                3 => damaged[4] = rng.pick(&[0, n.wrapping_sub(1), n + 1, 200_001, 715_827_882, 1 << 31, NO_TAG]),
+                3 => damaged[4] = rng.pick(&[0, n.wrapping_sub(1), n + 1, 200_001, 613_566_756, 1 << 31, NO_TAG]),
                 _ => damaged[5] = rng.pick(&[0, n, n.wrapping_sub(1), NO_TAG]),
             }
         }
@@ -223,6 +259,11 @@ pub fn variants(words: &[u32], rng: &mut Rng) -> Vec<Vec<u32>> {
     headers(words, rng, &mut out);
     lengths(words, &mut out);
     several(words, rng, &mut out);
+    // What has changed kinds or order, once more with the depths that go with them.
+    let met: BTreeSet<&[u32]> = out.iter().map(|it| &it[..]).collect();
+    let mut more: Vec<Vec<u32>> = out.iter().map(|it| deepened(it)).filter(|it| !met.contains(&it[..])).collect();
+    out.append(&mut more);
+    depths(words, &mut out);
     out
 }
 

@@ -10,6 +10,9 @@ use reference::{NO_TAG, RECORD};
 const ROW: usize = 34;
 const FRONT: usize = 6;
 
+/// Words of a tag that a file keeps: all but its depth, the last.
+const KEPT: usize = RECORD - 1;
+
 /// Words of the header's record and of a tag's.
 const COUNT: usize = 3;
 const FIRST: usize = 4;
@@ -26,7 +29,7 @@ pub fn record(kind: u16, words: &[u32]) -> Vec<u8> {
 
 /// The records of a file that says these words, with the tags in this order, whether the words are sound or not.
 pub fn records(words: &[u32], order: &[usize]) -> Vec<Vec<u8>> {
-    let tag = |x: usize| record(2, &[&[x as u32], &words[at(x, 0)..][..RECORD]].concat());
+    let tag = |x: usize| record(2, &[&[x as u32], &words[at(x, 0)..][..KEPT]].concat());
     let tags = order.iter().map(|&x| tag(x));
     let last = record(3, &[order.len() as u32]);
     [record(1, &words[1..8])].into_iter().chain(tags).chain([last]).collect()

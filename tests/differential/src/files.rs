@@ -2,7 +2,7 @@
 //! history, and at the limits of depth and of size.
 
 use crate::call::Call;
-use crate::damage::{self, KIND, LABEL, MATE, NEXT, UP, at, order, tags};
+use crate::damage::{self, DEPTH, KIND, LABEL, MATE, NEXT, UP, at, order, tags};
 use crate::file_damage::{self, counted, put, record, records};
 use crate::kinds::{BEGIN, END, TEXT};
 use crate::session::{Failure, Session, Tally};
@@ -120,6 +120,7 @@ pub fn flawed(subject: &dyn Subject, tally: &mut Tally, words: &[u32]) -> Result
 fn begin_inside(words: &mut [u32], x: usize) {
     words[at(x, KIND)] = BEGIN.into();
     words[at(x, UP)] = x as u32 - 1;
+    words[at(x, DEPTH)] = words[at(x - 1, DEPTH)] + 1;
 }
 
 /// So many begins, texts inside, and as many ends: over a stop, and with begins and ends that do not pair up, where the

@@ -62,10 +62,10 @@ pub fn top(s: u32, r: u32) -> u32 {
     (1..).take_while(|&height| base.pow(height) <= 1 << 32).last().expect("255 is below 2^32")
 }
 
-/// Position of each tag's mate, and position of the begin around it, for properly nested kinds.
-fn nesting(kinds: &[u8]) -> (Vec<usize>, Vec<Option<usize>>) {
+/// Position of each tag's mate, position of the begin around it, and how many are around it, for properly nested kinds.
+fn nesting(kinds: &[u8]) -> (Vec<usize>, Vec<Option<usize>>, Vec<u32>) {
     let mut mates: Vec<usize> = (0..kinds.len()).collect();
-    let mut ups = Vec::new();
+    let (mut ups, mut depths) = (Vec::new(), Vec::new());
     let mut open = Vec::new();
     for (i, &kind) in kinds.iter().enumerate() {
         if kind == END {
@@ -73,18 +73,19 @@ fn nesting(kinds: &[u8]) -> (Vec<usize>, Vec<Option<usize>>) {
             (mates[begin], mates[i]) = (i, begin);
         }
         ups.push(open.last().copied());
+        depths.push(open.len() as u32);
         if kind == BEGIN {
             open.push(i);
         }
     }
-    (mates, ups)
+    (mates, ups, depths)
 }
 
 /// A sound store over the labels, with nothing past its last tag.
 pub fn store(rng: &mut Rng, s: u32, r: u32, height: u32, labels: &[u32]) -> Vec<u32> {
     let n = labels.len();
     let kinds = kinds::nested(rng, n);
-    let (mates, ups) = nesting(&kinds);
+    let (mates, ups, depths) = nesting(&kinds);
     let mut tags: Vec<u32> = (0..n as u32).collect();
     if rng.percent(70) {
         rng.shuffle(&mut tags);
@@ -105,7 +106,7 @@ pub fn store(rng: &mut Rng, s: u32, r: u32, height: u32, labels: &[u32]) -> Vec<
     words.resize(HEADER + RECORD * n, 0);
     for i in 0..n {
         let kind = u32::from(kinds[i]) + if marked[i] { 16 } else { 0 };
-        let record = [labels[i], tag(Some(i + 1)), tag(i.checked_sub(1)), tags[mates[i]], tag(ups[i]), kind];
+        let record = [labels[i], tag(Some(i + 1)), tag(i.checked_sub(1)), tags[mates[i]], tag(ups[i]), kind, depths[i]];
         words[HEADER + RECORD * tags[i] as usize..][..RECORD].copy_from_slice(&record);
     }
     words

@@ -44,12 +44,13 @@ fn every_lapse_is_caught() {
         let (case, what) = shrink(&subject, failure.case, failure.what);
         println!("{lapse:?}: {what}\n{}", script(&case));
         assert!(replay(&subject, &case).is_some() && replay(&Reference::right(), &case).is_none(), "{lapse:?}");
-        assert!(case.calls.len() <= 3, "{lapse:?} is not short");
+        // A load of nothing, two texts at the front, which then stand in another order than by number, and the writing.
+        assert!(case.calls.len() <= 4, "{lapse:?} is not short");
     }
 }
 
 /// The reference, but where a wrong soundness test lets a store through, or a file; the other call is right. A file has no
-/// first word.
+/// first word and no depths.
 #[test]
 fn every_overlooked_clause_is_caught_in_words_and_in_files() {
     struct Overlooks(Clause, &'static str);
@@ -62,7 +63,8 @@ fn every_overlooked_clause_is_caught_in_words_and_in_files() {
     }
 
     for clause in Clause::ALL {
-        for name in ["write", "read"].into_iter().filter(|name| (clause, *name) != (Clause::One, "read")) {
+        let in_files = !matches!(clause, Clause::One | Clause::Depth);
+        for name in ["write", "read"].into_iter().filter(|name| in_files || *name == "write") {
             let what = caught(&Overlooks(clause, name)).what;
             assert!(what.ends_with("the reference says [2, 0, 0, 0, 0]"), "{clause:?}, {name}: {what}");
         }

@@ -162,7 +162,7 @@ impl Subject for Grudge {
 /// By calls of the store itself: the reference is not asked.
 #[test]
 fn what_a_party_without_a_grant_leaves_behind_is_caught() {
-    let cases = histories(60);
+    let cases = histories(120);
     let found = |subject: &dyn Subject| cases.iter().find_map(|case| trace(subject, case, &mut Tally::new()));
     assert_eq!(found(&Reference::right()), None);
     // Where what a party may do is judged wrongly, but only by its own live grants, others see nothing of it.

@@ -45,7 +45,7 @@ impl Book {
             self.unmarked_place(place)?;
         }
         // Whatever stands around them: kinds and nesting are told before the place is looked at.
-        nest(kinds, 0, None)?;
+        nest(kinds, 0, None, 0)?;
         if kinds.is_empty() && !self.fault.misputs(Blunder::EmptyStamps) {
             self.unmarked_place(place)?;
             return Ok(Inserted { first: self.tags.len() as u32, moved: 0, split: 0 });
@@ -72,7 +72,8 @@ impl Book {
             Some(y) => self.tags[y].up,
             None => None,
         };
-        self.tags.extend(nest(kinds, old, up)?);
+        let around = if self.fault.misputs(Blunder::NoDepth) { 0 } else { self.open_after(after) };
+        self.tags.extend(nest(kinds, old, up, around)?);
         let (split, counted) = self.put(old, after);
         self.stamp += if self.fault.misputs(Blunder::StampByTags) { kinds.len() as u64 } else { 1 };
         let mut moved = counted.unwrap_or_else(|| self.moved(&before));
@@ -80,6 +81,15 @@ impl Book {
             moved += 1;
         }
         Ok(Inserted { first: old as u32, moved, split })
+    }
+
+    /// How many elements are open right after a tag, or at the front: by the kinds up to there, not by ups.
+    fn open_after(&self, place: Option<usize>) -> usize {
+        let Some(y) = place else { return 0 };
+        let order = self.order();
+        let last = order.iter().position(|&x| x == y).expect("a tag of the book");
+        let many = |kind| order[..=last].iter().filter(|&&x| self.tags[x].kind == kind).count();
+        many(Kind::Begin) - many(Kind::End)
     }
 
     /// Puts the tags from this number on into the tree, and gives the greatest height that was split. A blunder may bring

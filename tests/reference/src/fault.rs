@@ -44,7 +44,7 @@ pub enum Fault {
     Misgrants(Breach),
 }
 
-/// A clause of document 01's "Sound means". That labels have H digits is none of its own: a root with more children
+/// A clause of document 01's "Sound means", and document 02's of depth. That labels have H digits is none of its own: a root with more children
 /// than b has too many leaves.
 #[derive(Clone, Copy, PartialEq, Eq, Debug)]
 pub enum Clause {
@@ -68,6 +68,8 @@ pub enum Clause {
     Mates,
     /// Ups spell the nesting.
     Ups,
+    /// Depths are those of the nesting.
+    Depth,
     /// A tag under a marked begin is marked.
     MarksClosed,
     /// Mates are marked together.
@@ -77,7 +79,7 @@ pub enum Clause {
 }
 
 impl Clause {
-    pub const ALL: [Clause; 13] = [
+    pub const ALL: [Clause; 14] = [
         Clause::One,
         Clause::Prior,
         Clause::Rise,
@@ -88,6 +90,7 @@ impl Clause {
         Clause::FullRoot,
         Clause::Mates,
         Clause::Ups,
+        Clause::Depth,
         Clause::MarksClosed,
         Clause::MarksPaired,
         Clause::Stamp,
@@ -186,10 +189,12 @@ pub enum Lapse {
     RoomFirst,
     /// On writing, one byte too few is lent and taken.
     ByteLate,
+    /// The depth of a tag is in the file too.
+    DepthKept,
 }
 
 impl Lapse {
-    pub const ALL: [Lapse; 14] = [
+    pub const ALL: [Lapse; 15] = [
         Lapse::KindsTurned,
         Lapse::LengthOfWords,
         Lapse::MoreBehind,
@@ -204,6 +209,7 @@ impl Lapse {
         Lapse::HeaderEarly,
         Lapse::RoomFirst,
         Lapse::ByteLate,
+        Lapse::DepthKept,
     ];
 }
 
@@ -218,6 +224,8 @@ pub enum Blunder {
     MovedInTurn,
     /// The top level of the sheet has no up.
     NoUp,
+    /// The depth of the sheet's tags is that in the sheet, wherever its place is.
+    NoDepth,
     /// Every tag raises the stamp.
     StampByTags,
     /// The empty sheet raises the stamp.
@@ -229,11 +237,12 @@ pub enum Blunder {
 }
 
 impl Blunder {
-    pub const ALL: [Blunder; 8] = [
+    pub const ALL: [Blunder; 9] = [
         Blunder::Backwards,
         Blunder::LastSplit,
         Blunder::MovedInTurn,
         Blunder::NoUp,
+        Blunder::NoDepth,
         Blunder::StampByTags,
         Blunder::EmptyStamps,
         Blunder::OneHeight,

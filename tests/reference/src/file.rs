@@ -1,11 +1,13 @@
-//! A book as a file, and back (document 02, CR 3). A file is first cut into records, each by its own length, and only then
-//! is anything asked of them; what they say is laid out as words, which are judged as all words are.
+//! A book as a file, and back (document 02, CR 3, and CR 7 for depth). A file is first cut into records, each by its own length,
+//! and only then is anything asked of them; what they say is laid out as words, with depths as their kinds nest, and these are
+//! judged as all words are.
 
 use crate::book::Book;
 use crate::fault::{Fault, Lapse};
 use crate::reply::{Loaded, Refusal};
 use crate::sound::read;
 use crate::store::Store;
+use crate::tag::{Kind, Tag};
 use crate::words::{HEADER, RECORD, to_words, words_for};
 
 /// The kinds of records.
@@ -13,8 +15,13 @@ const HEADER_KIND: u16 = 1;
 const TAG_KIND: u16 = 2;
 const LAST_KIND: u16 = 3;
 
-/// Words of the header's record and of a tag's: all words of the header but the first, and a tag's number and its words.
+/// Words of the header's record: all words of the header but the first.
 const ROW: usize = 7;
+
+/// Words of a tag that a file keeps: all but its depth, the last.
+fn kept(fault: Fault) -> usize {
+    if fault.misfiles(Lapse::DepthKept) { RECORD } else { RECORD - 1 }
+}
 
 /// Bytes for the file of n tags.
 pub fn bytes_for(n: usize) -> usize {
@@ -72,10 +79,27 @@ fn to_file(book: &Book) -> Vec<u8> {
     if fault.misfiles(Lapse::ByNumber) {
         order.sort();
     }
-    let tag = |x: usize| [&[x as u32], &words[HEADER + RECORD * x..][..RECORD]].concat();
+    let tag = |x: usize| [&[x as u32], &words[HEADER + RECORD * x..][..kept(fault)]].concat();
     let tags = order.iter().map(|&x| Record::new(TAG_KIND, tag(x)));
     let last = Record::new(LAST_KIND, [book.tags.len() as u32]);
     [header].into_iter().chain(tags).chain([last]).flat_map(|record| record.bytes(fault)).collect()
+}
+
+/// Puts depths into the words of n tags, along next as far as it leads: each tag has as many as are open around it. Where next
+/// leads nowhere, an end closes nothing or a kind is none, the words are told to be unsound when they are judged.
+fn deepen(words: &mut [u32], n: usize) {
+    let (mut here, mut open) = (words[5] as usize, 0_usize);
+    for _ in 0..n {
+        if here >= n {
+            return;
+        }
+        let record = &mut words[HEADER + RECORD * here..][..RECORD];
+        let kind = Tag::of_kind_word(record[5]).map(|(kind, _)| kind);
+        open = open.saturating_sub(usize::from(kind == Some(Kind::End)));
+        record[6] = open as u32;
+        open += usize::from(kind == Some(Kind::Begin));
+        here = record[1] as usize;
+    }
 }
 
 /// What bytes of the form say: the words of the header, and those of each tag in the order of the records.
@@ -92,7 +116,7 @@ impl File {
         let last = loop {
             let (record, behind) = Record::cut(rest, fault)?;
             rest = behind;
-            if !record.has(TAG_KIND, ROW) {
+            if !record.has(TAG_KIND, 1 + kept(fault)) {
                 break record;
             }
             file.tags.push(record.words);
@@ -116,8 +140,9 @@ impl File {
             if std::mem::replace(met.get_mut(number)?, true) {
                 return None;
             }
-            words[HEADER + RECORD * number..][..RECORD].copy_from_slice(&tag[1..]);
+            words[HEADER + RECORD * number..][..tag.len() - 1].copy_from_slice(&tag[1..]);
         }
+        deepen(&mut words, self.tags.len());
         Some(words)
     }
 

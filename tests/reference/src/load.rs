@@ -8,9 +8,10 @@ use crate::tag::{Kind, Tag};
 use crate::tree::Tree;
 use crate::words::words_for;
 
-/// The tags of bytes that are kinds and nest properly, numbered in their order from `first` on, with `up` around them all.
+/// The tags of bytes that are kinds and nest properly, numbered in their order from `first` on, with `up` around them all,
+/// and with it so many elements.
 /// Refusals: 4, where a byte is no kind; 5, where begins and ends do not pair up.
-pub(crate) fn nest(kinds: &[u8], first: usize, up: Option<usize>) -> Result<Vec<Tag>, Refusal> {
+pub(crate) fn nest(kinds: &[u8], first: usize, up: Option<usize>, around: usize) -> Result<Vec<Tag>, Refusal> {
     let kinds: Option<Vec<Kind>> = kinds.iter().map(|&byte| Kind::of_byte(byte)).collect();
     let mut tags: Vec<Tag> = Vec::new();
     let mut open: Vec<usize> = Vec::new();
@@ -21,7 +22,7 @@ pub(crate) fn nest(kinds: &[u8], first: usize, up: Option<usize>) -> Result<Vec<
             // A begin's mate is known when its end comes.
             tags[mate - first].mate = x;
         }
-        tags.push(Tag::new(kind, mate, open.last().copied().or(up)));
+        tags.push(Tag::new(kind, mate, open.last().copied().or(up), around + open.len()));
         if kind == Kind::Begin {
             open.push(x);
         }
@@ -39,7 +40,7 @@ impl Book {
         if len < words_for(kinds.len()) {
             return Err(Refusal::FewWords);
         }
-        let mut tags = nest(kinds, 0, None)?;
+        let mut tags = nest(kinds, 0, None, 0)?;
         if !params.labels_fit(params.load_height(tags.len() as u64)) {
             return Err(Refusal::Labels);
         }

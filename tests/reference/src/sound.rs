@@ -38,11 +38,11 @@ pub fn read(words: &[u32], fault: Fault) -> Option<Book> {
     Some(Book { tree: Tree { params, height, root }, tags, number: words[6], stamp, fault })
 }
 
-/// The tag of a record. Mate and up may still point anywhere; `nested` compares them with the nesting.
+/// The tag of a record. Mate, up and depth may still be anything; `nested` compares them with the nesting.
 fn tag(record: &[u32]) -> Option<Tag> {
     let (kind, marked) = Tag::of_kind_word(record[5])?;
     let up = if record[4] == NO_TAG { None } else { Some(record[4] as usize) };
-    Some(Tag { kind, marked, mate: record[3] as usize, up, label: u64::from(record[0]) })
+    Some(Tag { kind, marked, mate: record[3] as usize, up, depth: record[6] as usize, label: u64::from(record[0]) })
 }
 
 /// The numbers along next, where that meets each of them once, ends in no tag, and prior is its reverse.
@@ -118,7 +118,7 @@ fn below_in_limits(node: &Inner, params: &Params, height: u32, fault: Fault) -> 
     })
 }
 
-/// Whether kinds, mates and ups spell proper nesting along the book.
+/// Whether kinds, mates and ups spell proper nesting along the book, and depths are those of the nesting.
 fn nested(order: &[usize], tags: &[Tag], fault: Fault) -> bool {
     let mates = !fault.overlooks(Clause::Mates);
     let mut open: Vec<usize> = Vec::new();
@@ -134,6 +134,9 @@ fn nested(order: &[usize], tags: &[Tag], fault: Fault) -> bool {
         }
         // An end has the up of its begin, which is what is open once the begin is closed.
         if tag.up != open.last().copied() && !fault.overlooks(Clause::Ups) {
+            return false;
+        }
+        if tag.depth != open.len() && !fault.overlooks(Clause::Depth) {
             return false;
         }
         if tag.kind == Kind::Begin {

@@ -35,13 +35,15 @@ pub struct Tag {
     pub mate: usize,
     /// The begin tag of the innermost element around it.
     pub up: Option<usize>,
+    /// How many elements are around it.
+    pub depth: usize,
     pub label: u64,
 }
 
 impl Tag {
     /// An unmarked tag without a label yet: the tree gives it one when it is numbered.
-    pub fn new(kind: Kind, mate: usize, up: Option<usize>) -> Tag {
-        Tag { kind, marked: false, mate, up, label: 0 }
+    pub fn new(kind: Kind, mate: usize, up: Option<usize>, depth: usize) -> Tag {
+        Tag { kind, marked: false, mate, up, depth, label: 0 }
     }
 
     /// The kind word: 1, 2, 3, or 17, 18, 19 when marked.

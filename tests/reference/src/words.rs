@@ -1,4 +1,4 @@
-//! A book as words: the header and six words a tag.
+//! A book as words: the header and seven words a tag.
 
 use crate::book::Book;
 
@@ -6,7 +6,7 @@ use crate::book::Book;
 pub const HEADER: usize = 8;
 
 /// Words of a tag.
-pub const RECORD: usize = 6;
+pub const RECORD: usize = 7;
 
 /// No tag; as a place, the front of the book.
 pub const NO_TAG: u32 = u32::MAX;
@@ -40,7 +40,8 @@ pub fn to_words(book: &Book) -> Vec<u32> {
         let next = order.get(i + 1).copied();
         let prior = i.checked_sub(1).map(|before| order[before]);
         let it = &book.tags[tag];
-        let record = [it.label as u32, word(next), word(prior), it.mate as u32, word(it.up), it.kind_word()];
+        let record =
+            [it.label as u32, word(next), word(prior), it.mate as u32, word(it.up), it.kind_word(), it.depth as u32];
         words[HEADER + RECORD * tag..][..RECORD].copy_from_slice(&record);
     }
     words

@@ -109,9 +109,9 @@ fn the_printed_load() {
     assert_eq!(written(&store, 248), (Ok(248), file.clone()));
     assert_eq!(written(&store, 250), (Ok(248), [&file[..], &[9, 9]].concat()));
     assert_eq!(written(&store, 247), (Err(Refusal::ShortBytes), vec![9; 247]));
-    assert_eq!(read_into(44, &file, Fault::None), (Ok((6, 2)), store.words.clone()));
-    assert_eq!(read_into(45, &file, Fault::None), (Ok((6, 2)), [&store.words[..], &[5]].concat()));
-    refused(43, &file, Refusal::FewWords);
+    assert_eq!(read_into(50, &file, Fault::None), (Ok((6, 2)), store.words.clone()));
+    assert_eq!(read_into(51, &file, Fault::None), (Ok((6, 2)), [&store.words[..], &[5]].concat()));
+    refused(49, &file, Refusal::FewWords);
 }
 
 /// In book order, and back by number; a store that was read goes on as the one that was written.
@@ -120,7 +120,7 @@ fn the_printed_insertions() {
     let mut store = grown(Fault::None);
     let file = file(GROWN_HEADER, &GROWN);
     assert_eq!(written(&store, 316), (Ok(316), file.clone()));
-    let (reply, words) = read_into(56, &file, Fault::None);
+    let (reply, words) = read_into(64, &file, Fault::None);
     assert_eq!((reply, &words), (Ok((8, 3)), &store.words));
     let mut again = Store::new(words);
     assert_eq!(again.mark(3), store.mark(3));
@@ -134,20 +134,20 @@ fn outside_the_form() {
     for (at, byte) in [(4, 3), (5, 1), (0, 31), (3, 1), (18, 7), (38, 3), (34, 6), (242, 2), (238, 10), (244, 7)] {
         let mut damaged = file.clone();
         damaged[at] = byte;
-        refused(44, &damaged, Refusal::NotAFile);
+        refused(50, &damaged, Refusal::NotAFile);
         // 15 comes before 1.
         refused(7, &damaged, Refusal::NotAFile);
     }
-    (0..248).for_each(|len| refused(44, &file[..len], Refusal::NotAFile));
-    (0..=255).for_each(|byte| refused(44, &[&file[..], &[byte]].concat(), Refusal::NotAFile));
-    refused(44, &[&file[..], &file].concat(), Refusal::NotAFile);
+    (0..248).for_each(|len| refused(50, &file[..len], Refusal::NotAFile));
+    (0..=255).for_each(|byte| refused(50, &[&file[..], &[byte]].concat(), Refusal::NotAFile));
+    refused(50, &[&file[..], &file].concat(), Refusal::NotAFile);
     let no_tags = [&file[..34], &file[238..]].concat();
-    refused(44, &no_tags, Refusal::NotAFile);
+    refused(50, &no_tags, Refusal::NotAFile);
     // Both counts say 7, of six records; a record of no words at all.
     let mut seven = PRINTED_HEADER;
     seven[3] = 7;
     refused(99, &crate::file(seven, &PRINTED), Refusal::NotAFile);
-    refused(44, &[&file[..238], &record(2, 3, &[])].concat(), Refusal::NotAFile);
+    refused(50, &[&file[..238], &record(2, 3, &[])].concat(), Refusal::NotAFile);
 }
 
 #[test]
@@ -168,11 +168,11 @@ fn of_the_form_and_no_book() {
         with(|header, _| header[0] = 17),
         with(|header, _| header[2] = 3),
     ] {
-        refused(44, &damaged, Refusal::NotSound);
+        refused(50, &damaged, Refusal::NotSound);
         // 1 comes before 2.
-        refused(43, &damaged, Refusal::FewWords);
+        refused(49, &damaged, Refusal::FewWords);
     }
-    let (reply, words) = read_into(44, &with(|header, _| header[6] = 6), Fault::None);
+    let (reply, words) = read_into(50, &with(|header, _| header[6] = 6), Fault::None);
     assert_eq!((reply, words[7]), (Ok((6, 2)), 6));
 }
 
@@ -180,9 +180,9 @@ fn of_the_form_and_no_book() {
 #[test]
 fn a_number_that_comes_twice() {
     let tags = [[0, 0, 1, NONE, 0, NONE, 3], [1, 1, 1, 0, 1, NONE, 3], [1, 2, NONE, 1, 1, NONE, 3]];
-    refused(26, &file([2, 2, 1, 3, 0, 7, 0], &tags), Refusal::NotSound);
+    refused(29, &file([2, 2, 1, 3, 0, 7, 0], &tags), Refusal::NotSound);
     let tags = [[0, 0, 1, NONE, 0, NONE, 3], [1, 1, 2, 0, 1, NONE, 3], [2, 2, NONE, 1, 2, NONE, 3]];
-    assert_eq!(read_into(26, &file([2, 2, 1, 3, 0, 7, 0], &tags), Fault::None).0, Ok((3, 1)));
+    assert_eq!(read_into(29, &file([2, 2, 1, 3, 0, 7, 0], &tags), Fault::None).0, Ok((3, 1)));
 }
 
 /// A book of 200,001 texts that would be sound but for that: it has no number of its own.
@@ -228,13 +228,14 @@ fn each_seeded_lapse_shows() {
     reads(Lapse::KindsTurned, 8, &empty);
     reads(Lapse::LengthOfWords, 8, &empty);
     reads(Lapse::MoreBehind, 8, &[&empty[..], &[0]].concat());
-    reads(Lapse::HeaderCount, 44, &with(18, 5));
-    reads(Lapse::LastCount, 44, &with(244, 5));
-    reads(Lapse::AnyOrder, 44, &swapped);
+    reads(Lapse::HeaderCount, 50, &with(18, 5));
+    reads(Lapse::LastCount, 50, &with(244, 5));
+    reads(Lapse::AnyOrder, 50, &swapped);
     reads(Lapse::FirstWordStays, 8, &empty);
     reads(Lapse::WordsFirst, 7, &[]);
-    reads(Lapse::SoundFirst, 43, &with(30, 7));
-    reads(Lapse::HeaderEarly, 44, &with(30, 7));
+    reads(Lapse::SoundFirst, 49, &with(30, 7));
+    reads(Lapse::DepthKept, 50, &printed_file());
+    reads(Lapse::HeaderEarly, 50, &with(30, 7));
     let writes = |lapse, words: usize, lent| {
         let [wrong, right] = [Fault::Misfiles(lapse), Fault::None].map(|fault| {
             let store = grown(fault);
@@ -242,10 +243,11 @@ fn each_seeded_lapse_shows() {
         });
         assert_ne!(wrong, right, "{lapse:?}");
     };
-    writes(Lapse::KindsTurned, 56, 316);
-    writes(Lapse::LengthOfWords, 56, 316);
-    writes(Lapse::ByNumber, 56, 316);
-    writes(Lapse::StampLost, 56, 316);
-    writes(Lapse::ByteLate, 56, 315);
+    writes(Lapse::KindsTurned, 64, 316);
+    writes(Lapse::LengthOfWords, 64, 316);
+    writes(Lapse::ByNumber, 64, 316);
+    writes(Lapse::StampLost, 64, 316);
+    writes(Lapse::ByteLate, 64, 315);
+    writes(Lapse::DepthKept, 64, 400);
     writes(Lapse::RoomFirst, 7, 43);
 }
