@@ -4,6 +4,8 @@
 // one read, the last line without a line feed. What it must write is what the independent implementation prints for it
 // (tests/differential, program interpreter); the refusals and specimens among its lines are checked by hand against
 // document 01 and document 02, CR 4.
+#![tactic(auto)]
+
 fn main() {
     terminal::run();
 }

@@ -1,5 +1,7 @@
 // The replies as C structs: the refusal, 0 where the call is accepted, then the reply's values, 0 where it is refused. And what is
 // made of the numbers that C passes or gets: a party's act, and the place of a grant. The crates of the C interface share this.
+#![tactic(auto)]
+
 ghost use Rattle.std.specs.Prelude.{◌≡◌};
 ghost use Rattle.calls.specs.Replies.{answer_number};
 ghost use Rattle.c_replies.specs.Flat.{c_loaded, c_inserted, c_marked, c_held, c_answered, c_listed, c_written, c_kinds, c_granted, c_revoked, c_party, act_of as asked-for, place_for as place-granted};
@@ -11,7 +13,7 @@ use store_types::{
 use xml::SheetReply;
 
 #[repr(C)]
-#[derive(Drop)]
+#[derive(Clone, Copy)]
 pub struct Loaded {
     pub refusal: u32,
     pub tags: u32,
@@ -19,7 +21,7 @@ pub struct Loaded {
 }
 
 #[repr(C)]
-#[derive(Drop)]
+#[derive(Clone, Copy)]
 pub struct Inserted {
     pub refusal: u32,
     pub first: u32,
@@ -28,14 +30,14 @@ pub struct Inserted {
 }
 
 #[repr(C)]
-#[derive(Drop)]
+#[derive(Clone, Copy)]
 pub struct Marked {
     pub refusal: u32,
     pub marked: u32,
 }
 
 #[repr(C)]
-#[derive(Drop)]
+#[derive(Clone, Copy)]
 pub struct Held {
     pub refusal: u32,
     pub book: u32,
@@ -45,49 +47,49 @@ pub struct Held {
 }
 
 #[repr(C)]
-#[derive(Drop)]
+#[derive(Clone, Copy)]
 pub struct Answered {
     pub refusal: u32,
     pub answer: u32,
 }
 
 #[repr(C)]
-#[derive(Drop)]
+#[derive(Clone, Copy)]
 pub struct Listed {
     pub refusal: u32,
     pub count: u32,
 }
 
 #[repr(C)]
-#[derive(Drop)]
+#[derive(Clone, Copy)]
 pub struct Written {
     pub refusal: u32,
     pub bytes: u32,
 }
 
 #[repr(C)]
-#[derive(Drop)]
+#[derive(Clone, Copy)]
 pub struct Kinds {
     pub refusal: u32,
     pub count: usize,
 }
 
 #[repr(C)]
-#[derive(Drop)]
+#[derive(Clone, Copy)]
 pub struct Granted {
     pub refusal: u32,
     pub count: usize,
 }
 
 #[repr(C)]
-#[derive(Drop)]
+#[derive(Clone, Copy)]
 pub struct Revoked {
     pub refusal: u32,
     pub revoked: usize,
 }
 
 #[repr(C)]
-#[derive(Drop)]
+#[derive(Clone, Copy)]
 pub struct Party {
     pub refusal: u32,
     pub answer: u32,

@@ -1,1 +1,2 @@
 // Laws of the calls (crate calls): proofs/ holds them.
+#![tactic(auto)]

@@ -1,5 +1,7 @@
 // Entries one after the other over one lent store. The contract is a history of the system's calls with their replies
 // (system/specs/System.antt): the entries' contracts are what the theorems on histories speak of.
+#![tactic(auto)]
+
 ghost use Rattle.std.specs.Prelude.{[], ◌∷◌};
 ghost use Rattle.calls.specs.Changes.{load as load-call, insert as insert-call, sheet as sheet-call, mark as mark-call};
 ghost use Rattle.system.specs.System.{hold as hold-call, ask, list as list-call, write as write-call, changes, reads, loaded, inserted, marked, found, held, answered, listed, filed, reply, step};
@@ -13,7 +15,7 @@ use store_types::{
 
 // What is asked: the load's numbers, the place of an insertion and of a sheet of the load's kinds, the section that is marked, held
 // and listed, a pair and a tag.
-#[derive(Drop)]
+#[derive(Clone, Copy)]
 pub struct Requests {
     pub s: u32,
     pub r: u32,
@@ -26,7 +28,7 @@ pub struct Requests {
 }
 
 // What each call replied.
-#[derive(Drop)]
+#[derive(Clone, Copy)]
 pub struct Replies {
     pub load: LoadReply,
     pub insert: InsertReply,

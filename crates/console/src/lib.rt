@@ -1,4 +1,6 @@
 // Lines of the book program: a line of bytes to a command (document 01, "The book program").
+#![tactic(auto)]
+
 mod lines;
 
 pub use lines::parse;
@@ -8,7 +10,7 @@ use store_types::TagId;
 pub const LINE_LIMIT: usize = 2100;
 
 // What a line asks for. The kinds of a load are handed over beside it.
-#[derive(Drop)]
+#[derive(Clone, Copy)]
 pub enum Command {
     Load {
         s: u32,

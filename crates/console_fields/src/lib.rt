@@ -1,4 +1,6 @@
 // Fields of a line of the book program: where one ends, numbers, and letters of kinds (document 01, "The book program").
+#![tactic(auto)]
+
 mod fields;
 pub mod letters;
 mod numbers;

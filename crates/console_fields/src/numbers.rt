@@ -5,7 +5,7 @@ ghost use Rattle.console_fields.specs.Scan.{number_reply, scanned};
 
 const LARGEST: u64 = u32::MAX as u64;
 
-#[derive(Drop)]
+#[derive(Clone, Copy)]
 pub enum Number {
     Value(u32),
     Not,

@@ -1,4 +1,6 @@
 // The form of a file, from its bytes alone (document 02, CR 3): refusal 15; and the words of its records, each read at its place.
+#![tactic(auto)]
+
 ghost use Rattle.std.specs.Prelude.{◌≡◌, suc, ◌+◌, ◌≤◌, ◌<◌, length, drop};
 ghost use Rattle.store_types.specs.Layout.{header_words, word_at};
 ghost use Rattle.store_types.specs.FileLayout.{kept_words, front_bytes, row_words, row_bytes, file_bytes};

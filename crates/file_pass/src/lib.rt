@@ -1,6 +1,8 @@
 // The judging pass over the records of a file (document 02, CR 3): the soundness walk of the words that they say, record by record in
 // the order of the file. What the walk reads of the open begins is read at their places; these and the numbers met so far are all
 // that it keeps. It makes no test of depth: what the kinds give is right where the other tests pass (document 02, CR 7).
+#![tactic(auto)]
+
 ghost use Rattle.std.specs.Prelude.{◌≡◌, cond, ◌-◌, ◌≤◌, eqb, length, get_or};
 ghost use Rattle.file_pass.specs.Needs.{JudgingFits, passes_all, JudgedSo};
 

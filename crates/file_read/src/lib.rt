@@ -1,4 +1,6 @@
 // Reading a file into lent words (document 02, CR 3): the bytes are judged first, and nothing is written before.
+#![tactic(auto)]
+
 ghost use Rattle.std.specs.Prelude.{◌≡◌, [], ◌∷◌, ◌++◌, ◌≤◌, length, get_or};
 ghost use Rattle.store_types.specs.Layout.{header_words, Room};
 ghost use Rattle.store_types.specs.FileLayout.{at_number};

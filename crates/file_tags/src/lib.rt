@@ -1,5 +1,7 @@
 // One record of a file, judged where a begin is open: its number, its label, and its prior, kind, mate, up and mark (document 02,
 // CR 3).
+#![tactic(auto)]
+
 ghost use Rattle.std.specs.Prelude.{◌≡◌, true, cond, List, ◌∷◌, ℕ, ◌<◌, ◌≤◌, ltb, length, set};
 ghost use Rattle.store_types.specs.Limits.{most_tags};
 ghost use Rattle.store_types.specs.Layout.{at_kind, field, label_at};

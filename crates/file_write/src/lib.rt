@@ -1,5 +1,7 @@
 // Writing a book to a file (document 02, CR 3): its header, its tags in one pass along next, and their number, each record where
 // the one before it ends.
+#![tactic(auto)]
+
 ghost use Rattle.std.specs.Prelude.{◌≡◌, [], ◌∷◌, ◌+◌, ◌≤◌, length, drop};
 ghost use Rattle.std.proofs.lemmas.List.Edits.{sets};
 ghost use Rattle.store_types.specs.FileLayout.{header_kind, tag_kind, end_kind, front_bytes, row_words, row_bytes, end_bytes, file_bytes, record_place};

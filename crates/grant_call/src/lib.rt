@@ -1,5 +1,7 @@
 // Granting (document 02, CR 6), but for the record itself: the refusals, the reply and the count. Here the lent list of grants is known by
 // its length.
+#![tactic(auto)]
+
 ghost use Rattle.std.specs.Prelude.{◌≡◌, ◌&&◌, suc, leb};
 ghost use Rattle.store_types.specs.Limits.{all_rights};
 ghost use Rattle.lists.specs.Fronts.{replied};

@@ -1,5 +1,7 @@
 // Grants in a lent list of records (document 02, CR 6): one goes to a place, the live ones are searched, and those of a party on a
 // section are taken out. A loop's turn has no branch: functions by value pick what is stored and the next place.
+#![tactic(auto)]
+
 ghost use Rattle.std.specs.Prelude.{◌≡◌, ◌||◌, ◌≤◌, ◌<◌, length, set};
 ghost use Rattle.lists.specs.Fronts.{in_front};
 ghost use Rattle.calls.specs.Rights.{names as is_named, gives as is-given, held, others};

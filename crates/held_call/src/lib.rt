@@ -1,4 +1,6 @@
 // Held pairs (document 01, "Calls and their replies"): hold, and the held-pair question.
+#![tactic(auto)]
+
 ghost use Rattle.std.specs.Prelude.{◌≡◌};
 ghost use Rattle.calls.specs.Held.{current};
 ghost use Rattle.calls.specs.Store.{fact, label};

@@ -1,5 +1,7 @@
 // Insertion of a sheet, and of a text or an element, which are two of them (document 01, "The tree", "Calls and their replies";
 // document 02, CR 5).
+#![tactic(auto)]
+
 ghost use Rattle.std.specs.Prelude.{◌≡◌, length, replicate};
 ghost use Rattle.powers.specs.Tables.{table_length};
 ghost use Rattle.calls.specs.Words.{Says};

@@ -1,5 +1,7 @@
 // The change of the words that an accepted sheet makes, but for the stamp: its tags go in, and what was planned is done (document 01,
 // "The tree"; document 02, CR 5).
+#![tactic(auto)]
+
 ghost use Rattle.std.specs.Prelude.{◌≡◌, map, ◌-◌, length, replicate};
 ghost use Rattle.powers.specs.Tables.{table_length};
 ghost use Rattle.calls.specs.Kind.{kind_of};
@@ -15,7 +17,7 @@ use shape::{PACKED_LENGTH, TABLE_LENGTH};
 use store_types::TagId;
 
 // How many unmarked tags moved, and the split height.
-#[derive(Drop)]
+#[derive(Clone, Copy)]
 pub struct Done {
     pub moved: u32,
     pub split: u32,

@@ -1,4 +1,6 @@
 // The records of new tags, and their place along next.
+#![tactic(auto)]
+
 ghost use Rattle.std.specs.Prelude.{◌≡◌, map, ◌≤◌, ◌<◌, length};
 ghost use Rattle.store_types.specs.Layout.{header_words};
 ghost use Rattle.words.specs.Places.{PlaceThere};

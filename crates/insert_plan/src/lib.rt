@@ -1,4 +1,6 @@
 // What an insertion renumbers: planned on the words before it, then done.
+#![tactic(auto)]
+
 ghost use Rattle.std.specs.Prelude.{◌≡◌, pred, ◌+◌, ◌-◌, ◌≤◌};
 ghost use Rattle.store_types.specs.Layout.{at_height, word_at};
 ghost use Rattle.words.specs.Places.{PlaceThere};
@@ -18,7 +20,7 @@ use store_types::TagId;
 
 // From the tag behind `left` on, `count` tags as trees of a height from a number on, complete but for the cursor's, which has
 // `rest` tags more behind the cursor; then the labels below a bound are shifted.
-#[derive(Drop)]
+#[derive(Clone, Copy)]
 pub struct Plan {
     pub height: usize,
     pub left: TagId,

@@ -1,4 +1,6 @@
 // The refusals of an insertion that words do not give: 4, 5, 8, 9, 6, 7 in this order.
+#![tactic(auto)]
+
 ghost use Rattle.std.specs.Prelude.{◌≡◌, ◌-◌, ◌≤◌, length};
 ghost use Rattle.store_types.specs.Limits.{most_tags};
 ghost use Rattle.store_types.specs.Layout.{at_s, at_r, at_height, at_count, word_at};
@@ -13,7 +15,7 @@ use shape::PACKED_LENGTH;
 use store_types::{MOST_TAGS, TagId, refusals};
 
 // What an insertion is refused with, 0 where it is not; and then H with its tags.
-#[derive(Drop)]
+#[derive(Clone, Copy)]
 pub struct Verdict {
     pub refusal: u32,
     pub top: u32,

@@ -1,5 +1,7 @@
 // The interpreter of the book program (document 01, "The book program"): a line in, its reply out, over a lent store; and a
 // session over an input that comes in pieces.
+#![tactic(auto)]
+
 use console::LINE_LIMIT;
 
 mod reply;

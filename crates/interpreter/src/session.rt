@@ -9,7 +9,7 @@ use crate::reply::answer;
 use crate::{LINE_BUFFER, OUT_SIZE};
 
 // Where the next step begins, how many bytes of a line are in hand, and how long the text to print is.
-#[derive(Drop)]
+#[derive(Clone, Copy)]
 pub struct Progress {
     pub at: usize,
     pub held: usize,

@@ -1,5 +1,7 @@
 // One of two numbers by a kind word: an `if` on two numbers that are there already, which becomes no branch. No processor
 // can foretell the kinds of a book.
+#![tactic(auto)]
+
 ghost use Rattle.std.specs.Prelude.{◌≡◌, cond, suc, ◌-◌, ◌%◌, ◌≤◌, ◌<◌, eqb, leb};
 ghost use Rattle.kind_pick.specs.Needs.{KindWord};
 

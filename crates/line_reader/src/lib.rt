@@ -1,11 +1,13 @@
 // Lines put together from pieces of input of any length (document 01, "The book program"). A line in hand is the front of a
 // lent buffer. What a line has beyond the buffer is let go: where the buffer is longer than a line may be, such a line stays
 // too long, and is not taken for a shorter one.
+#![tactic(auto)]
+
 ghost use Rattle.std.specs.Prelude.{◌≡◌, [], ◌∷◌, ◌++◌, ◌≤◌, min, length, take, drop};
 ghost use Rattle.line_reader.specs.Gather.{Holds, Gathers};
 
 // The place where a stretch without a line feed ends, and how many bytes of the line are then in hand.
-#[derive(Drop)]
+#[derive(Clone, Copy)]
 pub struct Gathered {
     pub at: usize,
     pub held: usize,

@@ -1,5 +1,7 @@
 // List (document 01, "Calls and their replies"): one pass along next and no scratch memory; where a lent list has less room
 // than the book has tags, another before it, which counts, so that a list that is too short is refused before a word is written.
+#![tactic(auto)]
+
 ghost use Rattle.std.specs.Prelude.{◌≡◌, [], ◌∷◌, map, ◌+◌, ◌≤◌, length};
 ghost use Rattle.std.proofs.lemmas.List.Edits.{sets};
 ghost use Rattle.lists.specs.Fronts.{in_front};

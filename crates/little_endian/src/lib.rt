@@ -1,5 +1,7 @@
 // Numbers in bytes, low byte first (document 02, CR 3: "all little-endian"). Each reader is one flat sum and each writer a run of
 // stores, with no call between them, so that the compiler can make one load or store of the bytes.
+#![tactic(auto)]
+
 ghost use Rattle.std.specs.Prelude.{◌≡◌, ◌+◌, ◌*◌, ◌≤◌, length, drop};
 ghost use mathlib.Core.List.{flat_map};
 ghost use Rattle.std.proofs.lemmas.List.Edits.{sets};

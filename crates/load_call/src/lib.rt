@@ -1,4 +1,5 @@
 // Load: validates first, then writes (document 01, "Calls and their replies"). Any old content is accepted.
+#![tactic(auto)]
 
 ghost use Rattle.std.specs.Prelude.{◌≡◌, ◌≤◌, length};
 ghost use Rattle.store_types.specs.Layout.{header_words};

@@ -1,5 +1,7 @@
 // The nodes of a load, place by place: where the next of each height begins, and the label of a place, a gap further for each node
 // that begins there.
+#![tactic(auto)]
+
 ghost use Rattle.std.specs.Prelude.{◌≡◌, ◌<◌, ◌≤◌};
 ghost use Rattle.store_types.specs.Limits.{most_tags, label_limit};
 ghost use Rattle.powers.specs.Tables.{entry_limit, table_length, table_top};

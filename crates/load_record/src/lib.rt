@@ -1,5 +1,7 @@
 // The record of one new tag of a row: its place in the row, its mate, its up and its depth. An open begin's own up word serves as
 // the stack.
+#![tactic(auto)]
+
 ghost use Rattle.std.specs.Prelude.{◌≡◌, true, suc, ◌+◌, ◌<◌};
 ghost use Rattle.store_types.specs.Limits.{word_limit};
 ghost use Rattle.store_types.specs.Layout.{at_up, field, Room};
@@ -9,7 +11,7 @@ ghost use Rattle.load_record.specs.Record.{next_of, prior_of, place_written, Kin
 use store_types::{BEGIN, END, Label, TagId};
 
 // A row of new tags: the first number and the one behind the last, and the tags before and behind the row.
-#[derive(Drop)]
+#[derive(Clone, Copy)]
 pub struct Row {
     pub first: u32,
     pub end: u32,
@@ -51,7 +53,7 @@ fn write_place(words: &mut [u32], i: u32, row: Row, kind: u8, label: Label)
 
 // The innermost open begin, and what stands around it where that is known: behind an end it is not, and only another end
 // asks for it. And how many begins are open before the next tag (document 02, CR 7).
-#[derive(Drop)]
+#[derive(Clone, Copy)]
 pub struct Open {
     pub begin: TagId,
     pub around: TagId,

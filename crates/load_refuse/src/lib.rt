@@ -1,4 +1,6 @@
 // What load refuses before it writes (document 01, "Calls and their replies"), and the height that it takes.
+#![tactic(auto)]
+
 ghost use Rattle.std.specs.Prelude.{◌≡◌, true, cond, ◌<◌, ◌≤◌, eqb, length, drop};
 ghost use Rattle.tree.specs.Book.{load_under as least_Under};
 ghost use Rattle.calls.specs.Kind.{is_kind, kind_of, depth_after};

@@ -1,4 +1,6 @@
 // The records of new tags in one pass: of a whole book with their labels, and of a row that goes into one.
+#![tactic(auto)]
+
 ghost use Rattle.std.specs.Prelude.{◌≡◌, [], map, length};
 ghost use Rattle.calls.specs.Kind.{kind_of};
 ghost use Rattle.calls.specs.Nesting.{new_facts};

@@ -1,4 +1,6 @@
 // Mark: a begin or text and all inside (document 01, "Calls and their replies").
+#![tactic(auto)]
+
 ghost use Rattle.std.specs.Prelude.{◌≡◌, ◌<◌};
 ghost use Rattle.store_types.specs.Layout.{at_kind, field, Room, Records};
 ghost use Rattle.calls.specs.Replies.{mark_reply, mark_words};

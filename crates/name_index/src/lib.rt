@@ -1,5 +1,7 @@
 // An index of names of one text, in lent arrays (document 02, CR 1: no attribute name repeats in a tag): where each name begins and
 // its hash, in order of hash and then of the name's bytes, so that a name is searched by halves whatever the names are.
+#![tactic(auto)]
+
 ghost use Rattle.std.specs.Prelude.{◌≡◌, List, ◌∷◌, ℕ, ◌+◌, ◌≤◌, ◌<◌, ◌^◌, length, set};
 ghost use Rattle.xml.specs.Grammar.{among};
 ghost use Rattle.xml_classes.specs.Classes.{Classes};
@@ -133,7 +135,7 @@ fn find(
 }
 
 // Where a name stands among the entries or would go, and whether it stands there.
-#[derive(Drop)]
+#[derive(Clone, Copy)]
 struct Sought {
     hash: usize,
     place: usize,

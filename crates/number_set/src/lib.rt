@@ -1,4 +1,6 @@
 // A set of tag numbers, one bit each: 25,000 bytes for 200,000 numbers.
+#![tactic(auto)]
+
 ghost use Rattle.std.specs.Prelude.{◌≡◌, List, ◌∷◌, ℕ, ◌<◌};
 ghost use Rattle.store_types.specs.Limits.{most_tags};
 ghost use Rattle.tree.specs.Row.{member};

@@ -1,6 +1,8 @@
 // What rights for contractors decide on numbers and replies (document 02, CR 6): the ranges, how many grants are looked at, revoking,
 // whether a party's call is allowed and what it hears, and what ends all grants. Here the lent list of grants is known by its length and
 // by what a search or a gap that was closed replied. Apart from the calls on words, so that a decision is checked alone.
+#![tactic(auto)]
+
 ghost use Rattle.std.specs.Prelude.{◌≡◌, ◌-◌, ◌≤◌};
 ghost use Rattle.lists.specs.Fronts.{replied};
 ghost use Rattle.calls.specs.Rights.{emptied_by, is_allowed, turned_away as is-turned-away, inserted_reply, is_right as right-fits, range_refusal, revoke_refused};

@@ -1,5 +1,7 @@
 // Tables by height. Powers of b = s·r − 1 stand in tables, for the pairs of s and r that most books use (document 02, CR 2). A table has all
 // that are at most LABEL_LIMIT, so its length says how many heights fit.
+#![tactic(auto)]
+
 ghost use Rattle.std.specs.Prelude.{◌≡◌, cond, ℕ, ◌*◌, ◌≤◌, ltb, length, get_or, replicate};
 ghost use Rattle.calls.specs.Store.{power_fits};
 ghost use Rattle.powers.specs.Tables.{TableFits, OfDegree, shared_degree, entry_limit, table_length, powers as powers-of, table as power-table};

@@ -1,4 +1,6 @@
 // Labels written along next (document 01, "The tree"): leaves in a row, a width apart, and a stretch of labels that is shifted.
+#![tactic(auto)]
+
 ghost use Rattle.std.specs.Prelude.{◌≡◌, cond, ◌+◌, ◌≤◌, ◌<◌, eqb};
 ghost use Rattle.store_types.specs.Limits.{label_limit};
 ghost use Rattle.store_types.specs.Layout.{with_label, Room, Records};
@@ -10,7 +12,7 @@ ghost use Rattle.relabel.specs.Needs.{RowThere, RowNumbered, leaves_numbered};
 use store_types::{Label, TagId};
 
 // The tag behind those that were numbered, and how many unmarked ones of them held another label before.
-#[derive(Drop)]
+#[derive(Clone, Copy)]
 pub struct Numbered {
     pub next: TagId,
     pub moved: u32,

@@ -1,4 +1,6 @@
 // Labels written anew (document 01, "The tree"): trees numbered from their top.
+#![tactic(auto)]
+
 ghost use Rattle.std.specs.Prelude.{◌≡◌, ◌≤◌};
 ghost use Rattle.shape.specs.Packed.{widths_in, r_in};
 ghost use Rattle.relabel.specs.Needs.{RowThere, RowNumbered};
@@ -55,7 +57,7 @@ pub fn number(
 
 // Where the tag put in last stands, from 1 on, among the leaves of complete trees, and how many tags stand behind it that are not
 // of these: its tree has them besides.
-#[derive(Drop)]
+#[derive(Clone, Copy)]
 pub struct Cursor {
     pub at: u64,
     pub rest: u64,

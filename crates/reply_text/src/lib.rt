@@ -1,4 +1,6 @@
 // Replies as lines of text, written into a lent buffer. Each function writes at a place and returns the place behind.
+#![tactic(auto)]
+
 ghost use Rattle.std.specs.Prelude.{[], ◌∷◌, ◌++◌, ◌+◌, ◌≤◌, ◌<◌, length};
 ghost use Rattle.reply_text.specs.Text.{decimal, spaced, reply_line, tag_line, end_line, unknown_line};
 ghost use Rattle.reply_text.specs.Post.{Written, LineRoom};

@@ -1,1 +1,2 @@
 // What is promised of rights for contractors, and its proofs.
+#![tactic(auto)]

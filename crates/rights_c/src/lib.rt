@@ -1,6 +1,8 @@
 // The calls for parties for C, as include/vekhturop.h declares them: granting, revoking, a party's call, and the two loads that end all
 // grants. A lent slice is a pointer and a length there, a reply a struct of numbers. Each contract says what the definitions say, through
 // the flat form of the reply; none has a `requires`.
+#![tactic(auto)]
+
 mod flat;
 
 ghost use Rattle.std.specs.Prelude.{◌≡◌};

@@ -1,5 +1,7 @@
 // The shape of a store, s, r and H: the tables by height that they give, and the limits of the header and of the root
 // (document 01, "The book in words", "The tree").
+#![tactic(auto)]
+
 pub mod tables;
 
 ghost use Rattle.std.specs.Prelude.{◌≡◌, ◌+◌, ◌*◌, ◌-◌, ◌^◌, ◌≤◌, ◌<◌};

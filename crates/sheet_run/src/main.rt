@@ -1,5 +1,7 @@
 // Runs the reader of sheets, and meets every refusal from 11 to 14. What it writes is compared with the file stdout, which is
 // worked out by hand from document 02, CR 1.
+#![tactic(auto)]
+
 use libc::STDOUT_FILENO;
 use xml::SheetReply;
 

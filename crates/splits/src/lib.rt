@@ -1,5 +1,7 @@
 // The splits of an insertion: the highest ancestor of a place that comes to its limit, the tag left of a node, and how many tags go
 // in with splits; by these a row of trees is cut up around the cursor's.
+#![tactic(auto)]
+
 ghost use Rattle.std.specs.Prelude.{◌≡◌, cond, not, ◌||◌, ◌+◌, ◌≤◌, leb, ltb};
 ghost use Rattle.powers.specs.Tables.{table_under};
 ghost use Rattle.store_types.specs.Layout.{label_at, Records};
@@ -21,7 +23,7 @@ fn at_least(words: &[u32], n: u32, x: TagId, low: u64) -> bool
 }
 
 // The tag left of a node, and how many of the node's tags stand up to a place.
-#[derive(Drop)]
+#[derive(Clone, Copy)]
 pub struct Border {
     pub tag: TagId,
     pub steps: u32,
@@ -92,7 +94,7 @@ pub fn in_splits(rest: u64, j: usize, tables: &[u64; PACKED_LENGTH]) -> u64
 
 // A row of trees by the cursor's: how many trees stand left of it and over how many leaves, its own leaves, those behind it, and the
 // cursor in it, one height lower.
-#[derive(Drop)]
+#[derive(Clone, Copy)]
 pub struct PathParts {
     pub trees: u64,
     pub before: u64,

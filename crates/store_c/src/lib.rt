@@ -1,6 +1,8 @@
 // The calls on a store, those on its file and the one on a sheet for C, as include/vekhturop.h declares them: a lent slice is a pointer
 // and a length there, a reply a struct of numbers. Each contract is that of the entry it calls, through the flat form of the reply; none
 // has a `requires`. The calls for parties are in crate rights_c; tools/library joins both.
+#![tactic(auto)]
+
 ghost use Rattle.std.specs.Prelude.{◌≡◌};
 ghost use Rattle.calls.specs.Replies.{load_reply, load_words, insert_reply, insert_words, insert_sheet_reply, insert_sheet_words, mark_reply, mark_words, hold_reply, question_reply, list_reply, list_tags, list_labels, write_reply, write_bytes, read_reply, read_words};
 ghost use Rattle.c_replies.specs.Flat.{c_loaded, c_inserted, c_marked, c_held, c_answered, c_listed, c_written, c_kinds, pair_of};

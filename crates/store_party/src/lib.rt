@@ -1,5 +1,7 @@
 // A party's call (document 02, CR 6) on words, by the question and the insertion of the store; and the two loads that end all grants.
 // What is decided on numbers is in party_rules.
+#![tactic(auto)]
+
 ghost use Rattle.std.specs.Prelude.{◌≡◌};
 ghost use Rattle.lists.specs.Fronts.{replied};
 ghost use Rattle.calls.specs.Replies.{load_reply, load_words, read_reply, read_words};

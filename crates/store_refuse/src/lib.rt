@@ -1,4 +1,6 @@
 // The refusals that every call begins with but load and the reading of a file (document 01, "Calls and their replies").
+#![tactic(auto)]
+
 ghost use Rattle.std.specs.Prelude.{◌≡◌};
 ghost use Rattle.calls.specs.Mark.{section_refusal};
 ghost use Rattle.calls.specs.Replies.{refusal_over};

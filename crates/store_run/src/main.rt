@@ -1,5 +1,7 @@
 // Runs every entry, and meets every refusal from 1 to 11, and 15 and 16. What it writes is compared with the file stdout, which is
 // worked out by hand from documents 01 and 02.
+#![tactic(auto)]
+
 use libc::STDOUT_FILENO;
 use store_types::{
     Answer, HeldPair, HoldReply, InsertReply, Label, ListReply, LoadReply, MarkReply,

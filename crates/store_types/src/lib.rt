@@ -1,4 +1,6 @@
 // The two kinds of number, held pairs, and the replies of the calls.
+#![tactic(auto)]
+
 pub mod file;
 pub mod refusals;
 
@@ -6,11 +8,11 @@ ghost use Rattle.std.specs.Prelude.{◌≡◌, eqb};
 ghost use Rattle.store_types.specs.Limits.{no_tag};
 
 // Document 01's tag number: it never changes. Only a tag number finds a record in the store.
-#[derive(Drop)]
+#[derive(Clone, Copy)]
 pub struct TagId(pub u32);
 
 // Document 01's label: it may change with any insertion. It is compared, and finds nothing.
-#[derive(Drop)]
+#[derive(Clone, Copy)]
 pub struct Label(pub u32);
 
 impl TagId {
@@ -53,7 +55,7 @@ pub const MOST_TAGS: u32 = 200000;
 pub const LABEL_LIMIT: u64 = 4294967296;
 
 // Document 01's held pair: a section's book number, begin tag (or text) and two labels.
-#[derive(Drop)]
+#[derive(Clone, Copy)]
 pub struct HeldPair {
     pub book: u32,
     pub tag: TagId,
@@ -64,7 +66,7 @@ pub struct HeldPair {
 // Document 02, CR 6: what a party may do on a section, which is named by its begin tag's number. The rights are added up. A record
 // is the caller's, and may hold any words.
 #[repr(C)]
-#[derive(Drop)]
+#[derive(Clone, Copy)]
 pub struct Grant {
     pub party: u32,
     pub section: u32,
@@ -83,7 +85,7 @@ pub const INSERT: u32 = 4;
 pub const ALL_RIGHTS: u32 = READ + WRITE + INSERT;
 
 // What a party asks for: the pair that it shows, a tag, one right, and a kind, which only the right to insert looks at.
-#[derive(Drop)]
+#[derive(Clone, Copy)]
 pub struct Act {
     pub pair: HeldPair,
     pub tag: TagId,
@@ -91,13 +93,13 @@ pub struct Act {
     pub kind: u8,
 }
 
-#[derive(Drop)]
+#[derive(Clone, Copy)]
 pub enum LoadReply {
     Loaded { tags: u32, height: u32 },
     Refused(u32),
 }
 
-#[derive(Drop)]
+#[derive(Clone, Copy)]
 pub enum InsertReply {
     Inserted {
         first: TagId,
@@ -107,56 +109,56 @@ pub enum InsertReply {
     Refused(u32),
 }
 
-#[derive(Drop)]
+#[derive(Clone, Copy)]
 pub enum MarkReply {
     Marked(u32),
     Refused(u32),
 }
 
-#[derive(Drop)]
+#[derive(Clone, Copy)]
 pub enum HoldReply {
     Held(HeldPair),
     Refused(u32),
 }
 
-#[derive(Drop)]
+#[derive(Clone, Copy)]
 pub enum Answer {
     Yes,
     No,
     Stale,
 }
 
-#[derive(Drop)]
+#[derive(Clone, Copy)]
 pub enum QuestionReply {
     Answered(Answer),
     Refused(u32),
 }
 
-#[derive(Drop)]
+#[derive(Clone, Copy)]
 pub enum ListReply {
     Listed(u32),
     Refused(u32),
 }
 
-#[derive(Drop)]
+#[derive(Clone, Copy)]
 pub enum WriteReply {
     Written(u32),
     Refused(u32),
 }
 
-#[derive(Drop)]
+#[derive(Clone, Copy)]
 pub enum GrantReply {
     Granted(usize),
     Refused(u32),
 }
 
-#[derive(Drop)]
+#[derive(Clone, Copy)]
 pub enum RevokeReply {
     Revoked(usize),
     Refused(u32),
 }
 
-#[derive(Drop)]
+#[derive(Clone, Copy)]
 pub enum PartyReply {
     Yes,
     Stale,

@@ -1,5 +1,7 @@
 // The interpreter over standard input and standard output. No contract can say which bytes the C library reads and writes;
 // what is printed of what was read is crate interpreter's.
+#![tactic(auto)]
+
 ghost use Rattle.std.specs.Prelude.{◌≡◌, true, [], ◌≤◌, length, take};
 ghost use Rattle.io.specs.Counts.{IsPrefixLen};
 ghost use Rattle.interpreter.specs.Answer.{first_words};
@@ -9,7 +11,7 @@ use interpreter::{BOOK_WORDS, LINE_BUFFER, OUT_SIZE};
 use libc::{STDIN_FILENO, STDOUT_FILENO};
 
 // How many bytes of a line are in hand, and whether all was printed.
-#[derive(Drop)]
+#[derive(Clone, Copy)]
 struct Served {
     held: usize,
     printed: bool,

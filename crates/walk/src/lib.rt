@@ -1,4 +1,6 @@
 // The soundness walk (document 01, "Sound means"): the header, then one pass along next with no scratch memory.
+#![tactic(auto)]
+
 ghost use Rattle.std.specs.Prelude.{◌≡◌, true, ◌<◌};
 ghost use Rattle.store_types.specs.Layout.{at_kind, field, label_at};
 ghost use Rattle.walk_model.specs.Walk.{kind_fits, depth_fits, placed, walk, words_pass};
@@ -13,7 +15,7 @@ use store_types::TagId;
 use words::Offset;
 
 // How many tags the book has, and the height of the root's children.
-#[derive(Drop)]
+#[derive(Clone, Copy)]
 pub struct Extent {
     pub n: u32,
     pub under: usize,
@@ -22,7 +24,7 @@ pub struct Extent {
 // Where the pass stands: its place, which is the tags so far, marked ones too; the next tag and where its record stands, the
 // tag before it, the innermost open begin and how many begins are open, the marked tags so far, and the label that the next
 // child is to have.
-#[derive(Drop)]
+#[derive(Clone, Copy)]
 pub struct State {
     pub place: u32,
     pub tag: TagId,

@@ -1,4 +1,6 @@
 // Labels in one pass: for each height where the open node ends, at which place it began, and the size of the watched node.
+#![tactic(auto)]
+
 pub mod ancestors;
 
 ghost use Rattle.std.specs.Prelude.{◌≡◌, true, cond, ◌+◌, ◌-◌, ◌≤◌, ◌<◌, eqb, get_or};

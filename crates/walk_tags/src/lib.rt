@@ -1,5 +1,7 @@
 // One tag of the soundness walk: its prior; its kind, mate, up and mark where a begin is open; and its depth. No processor can
 // foretell the next kind, so nothing branches on it: each test is one that every tag of a sound store passes.
+#![tactic(auto)]
+
 ghost use Rattle.std.specs.Prelude.{◌≡◌, true, cond, ℕ, ◌%◌, ◌<◌, ltb, eqb, get_or};
 ghost use Rattle.store_types.specs.Layout.{at_kind, field};
 ghost use Rattle.walk_model.specs.Walk.{kind_fits, open_after as open_behind, depth_fits, depth_after};

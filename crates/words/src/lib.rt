@@ -1,6 +1,8 @@
 // The store's words (document 01, "The book in words"): header words at their places, and records behind the header. Every
 // record is read and written through one pair of field functions and one pair for its label; only a tag number finds a
 // record.
+#![tactic(auto)]
+
 pub mod places;
 
 ghost use Rattle.std.specs.Prelude.{◌≡◌, ℕ, ◌≤◌, ◌<◌, length, set};
@@ -258,7 +260,7 @@ pub fn set_depth(words: &mut [u32], tag: TagId, v: u32)
 
 // Where a tag's record stands, as a walk carries it: worked out where the tag's number is read, so that no product stands
 // between one record and the next.
-#[derive(Drop)]
+#[derive(Clone, Copy)]
 pub struct Offset(pub usize);
 
 impl Offset {

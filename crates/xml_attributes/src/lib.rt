@@ -1,5 +1,7 @@
 // Attributes, and what stands next in a tag (document 02, CR 1). Each contract is an equation with the scanners of
 // xml/specs/Scan.antt, of the text from a place on.
+#![tactic(auto)]
+
 ghost use Rattle.std.specs.Prelude.{◌≡◌, ◌≤◌, length, drop};
 ghost use Rattle.xml.specs.Grammar.{is_quote};
 ghost use Rattle.xml.specs.Scan.{attribute_at};
@@ -12,7 +14,7 @@ use xml_scan::runs::{blank_end, name_end};
 use xml_scan::strings::stands;
 
 // Where an attribute's name ends, and the attribute.
-#[derive(Drop)]
+#[derive(Clone, Copy)]
 pub enum AttributeRead {
     Read { name: usize, end: usize },
     Nothing,
@@ -20,7 +22,7 @@ pub enum AttributeRead {
 
 // What stands next in a tag: its end, and whether it is an empty-element tag; or an attribute, by where it begins, where its name ends
 // and where it does.
-#[derive(Drop)]
+#[derive(Clone, Copy)]
 pub enum NextInTag {
     Closer {
         end: usize,

@@ -1,5 +1,7 @@
 // The five classes of a byte (document 02, CR 1): a table of 256 entries, tested whole against the standard's rules for ASCII. A
 // call makes the table once and lends it to every scanner, because a constant array is written anew wherever it is used.
+#![tactic(auto)]
+
 ghost use Rattle.std.specs.Prelude.{◌≡◌};
 ghost use Rattle.xml.specs.Bytes.{class_of, is_char, is_name_start};
 ghost use Rattle.xml_classes.specs.Classes.{Classes, is_usual};

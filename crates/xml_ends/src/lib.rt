@@ -1,4 +1,6 @@
 // Where content of a sheet goes on and where an element opens; the kinds of its tags, and its end tag (document 02, CR 1).
+#![tactic(auto)]
+
 ghost use Rattle.std.specs.Prelude.{◌≡◌, false, [], ◌∷◌, ◌+◌, ◌^◌, ◌≤◌, ◌<◌, length, drop, set};
 ghost use Rattle.xml.specs.Reader.{end_step};
 ghost use Rattle.xml_classes.specs.Classes.{Classes};

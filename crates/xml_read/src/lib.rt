@@ -1,4 +1,6 @@
 // The reader of a sheet (document 02, CR 1): content holds elements and an element holds content.
+#![tactic(auto)]
+
 mod nesting;
 
 ghost use Rattle.std.specs.Prelude.{◌≡◌};

@@ -1,5 +1,7 @@
 // Whether the names of a tag's attributes differ (document 02, CR 1), whatever the names are and however many there are: in batches
 // of as many as an index has places, with all names after a batch searched in it.
+#![tactic(auto)]
+
 ghost use Rattle.std.specs.Prelude.{◌≡◌, List, ℕ, ◌≤◌, ◌<◌, length};
 ghost use Rattle.name_index.specs.Order.{differ};
 ghost use Rattle.name_index.specs.Index.{places, Arrays, Index, Holds};
@@ -12,7 +14,7 @@ use name_index::{PLACES, arrange, has, note};
 use xml_attributes::{NextInTag, next_in_tag};
 
 // How many attributes were noted, and where the last of them ends.
-#[derive(Drop)]
+#[derive(Clone, Copy)]
 pub struct Batch {
     pub count: usize,
     pub end: usize,

@@ -1,11 +1,13 @@
 // Scanners of a sheet's text: how far what begins at a place reaches (document 02, CR 1). Each contract is an equation with the
 // scanner of xml/specs/Scan.antt, of the text from that place on.
+#![tactic(auto)]
+
 pub mod bodies;
 pub mod runs;
 pub mod strings;
 
 // Where what was looked for ends, or that it is not there.
-#[derive(Drop)]
+#[derive(Clone, Copy)]
 pub enum Found {
     At(usize),
     Nothing,

@@ -1,0 +1,30 @@
+-- `held_call::answer` meets its contract. Assumes nothing.
+use borrow.Author.Tests.{not-true, not-false, lt-ltb, le-ltb}
+use mathlib.Core.Path.{sym, ◌∙◌}
+use mathlib.Core.Bool.{true, false, and-false}
+use mathlib.Core.Logic.{⊎_elim}
+use Rattle.store_refuse.proofs.Laws.{tag_room}
+use Rattle.held_call.proofs.Pairs.{outdated, other_marked, tells}
+use Rattle.held_call.proofs.answer.Goals as goal
+
+pub returns-then-not-is_current : goal.returns-then-not-is_current
+returns-then-not-is_current c = outdated _ _ _ c.requires (sym c.is_current.ensures ∙ not-true _ c.if-not-is_current.true-raw)
+
+pub kind_of-requires : goal.kind_of-requires
+kind_of-requires c = tag_room c.requires.other
+
+pub returns-then-kind_of-ge-MARK : goal.returns-then-kind_of-ge-MARK
+returns-then-kind_of-ge-MARK c =
+    other_marked _ _ _ c.requires (sym c.is_current.ensures ∙ not-false _ c.if-not-is_current.false-raw) (rw c.kind_of.ensures at c.if-kind_of-ge-MARK.true)
+
+pub label_of-label-requires : goal.label_of-label-requires
+label_of-label-requires c = tag_room c.requires.other
+
+pub returns-then-label-end : goal.returns-then-label-end
+returns-then-label-end c =
+    (tells _ _ _ c.requires (sym c.is_current.ensures ∙ not-false _ c.if-not-is_current.false-raw) (rw c.kind_of.ensures at c.if-kind_of-ge-MARK.false) t (rw c.label_of-label.ensures at true)) (rw (lt-ltb _ _ c.if-start-label.true) c.if-label-end.true-raw)
+
+pub returns : goal.returns
+returns c =
+    (tells _ _ _ c.requires (sym c.is_current.ensures ∙ not-false _ c.if-not-is_current.false-raw) (rw c.kind_of.ensures at c.if-kind_of-ge-MARK.false) t (rw c.label_of-label.ensures at false))
+    (⊎_elim (λ w. rw (w.3.left, and-false)) (λ w. rw (le-ltb _ _ w.left)) c.else-start-label.branch)

@@ -1,0 +1,17 @@
+-- `little_endian::put_u32` meets its contract. Assumes nothing.
+use native.Mathlib.Omega.{arith}
+use lib.ListN.{length-set}
+use Rattle.little_endian.proofs.Stores.{four_put}
+use Rattle.little_endian.proofs.put_u32.Goals as goal
+
+pub bounds-bytes-at-2 : goal.bounds-bytes-at-2
+bounds-bytes-at-2 c = simp length-set (omega arith)
+
+pub bounds-bytes-at-3 : goal.bounds-bytes-at-3
+bounds-bytes-at-3 c = simp length-set (omega arith)
+
+pub bounds-bytes-at-4 : goal.bounds-bytes-at-4
+bounds-bytes-at-4 c = simp length-set (omega arith)
+
+pub returns : goal.returns
+returns c = four_put c.args.bytes.now c.args.at c.args.v

@@ -1,0 +1,13 @@
+-- `name_index::compare_at` meets its contract, by the hashes, and where they are equal by the names. Assumes nothing.
+use native.Mathlib.Omega.{arith}
+use Rattle.name_index.proofs.Entries.{key_less, key_more, key_rest}
+use Rattle.name_index.proofs.compare_at.Goals as goal
+
+pub returns-then-k-h : goal.returns-then-k-h
+returns-then-k-h c = key_less _ _ _ _ _ _ (omega arith)
+
+pub returns-then-h-k : goal.returns-then-h-k
+returns-then-h-k c = key_more _ _ _ _ _ _ (omega arith)
+
+pub returns : goal.returns
+returns c = key_rest _ _ _ _ _ _ _ _ (omega arith) c.name_end-b.ensures c.compare.ensures

@@ -1,0 +1,46 @@
+-- `xml_attributes::next_in_tag` meets its contract: by where the spaces end, and what stands there. Assumes nothing.
+use mathlib.Core.Path.{sym, ◌∙◌}
+use mathlib.Core.Bool.{true, false}
+use Prim.Native.Nat.{◌≤◌}
+use native.Mathlib.Omega.{arith}
+use lib.ListN.{length}
+use Rattle.xml.specs.Bytes.{lone_closes}
+use Rattle.xml_laws.proofs.Bounds.{spaces_within, stands_within}
+use Rattle.xml_attributes.proofs.NextSteps.{next_closes, next_lone, next_no_gap, next_nothing, next_read}
+use Rattle.xml_attributes.proofs.next_in_tag.Goals as goal
+
+pub stands-requires : goal.stands-requires
+stands-requires c = (let it : c.blank_end-begins.result ≤ length c.args.text.now = omega (arith, c.blank_end-begins.ensures, spaces_within c.args.text.now c.args.at c.requires.at_in_bounds) in it)
+
+pub returns-then-stands : goal.returns-then-stands
+returns-then-stands c = next_closes _ _ _ c.blank_end-begins.ensures (sym c.stands.ensures ∙ c.if-stands.true)
+
+pub stands-requires-2 : goal.stands-requires-2
+stands-requires-2 c = (let it : c.blank_end-begins.result ≤ length c.args.text.now = omega (arith, c.blank_end-begins.ensures, spaces_within c.args.text.now c.args.at c.requires.at_in_bounds) in it)
+
+pub overflow_add-result-then-stands-2 : goal.overflow_add-result-then-stands-2
+overflow_add-result-then-stands-2 c =
+    let l = stands_within lone_closes c.args.text.now c.blank_end-begins.result (let it : c.blank_end-begins.result ≤ length c.args.text.now = omega (arith, c.blank_end-begins.ensures, spaces_within c.args.text.now c.args.at c.requires.at_in_bounds) in it) (sym c.stands-2.ensures ∙ c.if-stands-2.true) in
+    omega arith
+
+pub returns-then-stands-2 : goal.returns-then-stands-2
+returns-then-stands-2 c =
+    next_lone _ _ _ c.blank_end-begins.ensures (sym c.stands.ensures ∙ c.if-stands.false) (sym c.stands-2.ensures ∙ c.if-stands-2.true)
+
+pub returns-then-begins-at : goal.returns-then-begins-at
+returns-then-begins-at c =
+    next_no_gap _ _ _ c.blank_end-begins.ensures (sym c.stands.ensures ∙ c.if-stands.false) (sym c.stands-2.ensures ∙ c.if-stands-2.false) (omega (arith, c.if-begins-at.true))
+
+pub read_attribute-requires : goal.read_attribute-requires
+read_attribute-requires c =
+    record { at_in_bounds = (let it : c.blank_end-begins.result ≤ length c.args.text.now = omega (arith, c.blank_end-begins.ensures, spaces_within c.args.text.now c.args.at c.requires.at_in_bounds) in it); classes = c.requires.classes }
+
+pub returns-in_default : goal.returns-in_default
+returns-in_default c =
+    next_nothing _ _ _ c.blank_end-begins.ensures (sym c.stands.ensures ∙ c.if-stands.false) (sym c.stands-2.ensures ∙ c.if-stands-2.false) c.if-begins-at.false
+    (sym c.enum_told-1.given.1 ∙ c.read_attribute.ensures)
+
+pub returns : goal.returns
+returns c =
+    next_read _ _ _ c.blank_end-begins.ensures (sym c.stands.ensures ∙ c.if-stands.false) (sym c.stands-2.ensures ∙ c.if-stands-2.false) c.if-begins-at.false _ _
+    (sym c.name-1.given.1 ∙ c.read_attribute.ensures)
