@@ -242,7 +242,7 @@ account_row {w} {n0} {m} {t} (suc n) p x k widths fits next each a =
     let end = inserted_row n (suc p) (suc x) l in
     let in_place = tags_inserted p x k a.sane fits in
     let grown = size_inserted p x k a.sane fits in
-    let rest = account_row {w = w} n (suc p) (suc x) l (rw (inserted_s p x k, inserted_r p x k) widths) (omega (arith, grown)) (rw grown (ap suc next))
+    let rest = account_row {w = w} {n0 = n0} {m = suc m} {t = t + moved w k l} n (suc p) (suc x) l (rw (inserted_s p x k, inserted_r p x k) widths) (omega (arith, grown)) (rw grown (ap suc next))
     (rw in_place (below_next p x (tags k) each)) (account_inserted p x k st (rw (← next) each) a) in
     let one : suc m + n ≡ m + suc n = omega arith in
     account_fewer (t + moved w k end) (omega (arith, moved_in_turn w p (x ∷ []) k l end in_place)) (rw one at rest)

@@ -5,16 +5,16 @@ use Rattle.little_endian.proofs.Stores.{two_read}
 use Rattle.little_endian.proofs.u16_at.Goals as goal
 
 pub overflow_cast-low : goal.overflow_cast-low
-overflow_cast-low c = omega (arith, c.shared_slice_known-1.given c.args.at)
+overflow_cast-low c = omega (arith, c.type_inv.bytes c.args.at)
 
 pub overflow_cast-high : goal.overflow_cast-high
-overflow_cast-high c = omega (arith, (omega (arith, c.shared-slice-known2.given (c.args.at + 1))))
+overflow_cast-high c = omega (arith, c.type_inv.bytes (c.args.at + 1))
 
 pub overflow_mul-result : goal.overflow_mul-result
-overflow_mul-result c = omega (arith, (omega (arith, c.shared-slice-known2.given c.args.at)), (omega (arith, c.shared-slice-known2.given (c.args.at + 1))))
+overflow_mul-result c = omega (arith, c.type_inv.bytes c.args.at, c.type_inv.bytes (c.args.at + 1))
 
 pub overflow_add-result : goal.overflow_add-result
-overflow_add-result c = omega (arith, (omega (arith, c.shared-slice-known2.given c.args.at)), (omega (arith, c.shared-slice-known2.given (c.args.at + 1))))
+overflow_add-result c = omega (arith, c.type_inv.bytes c.args.at, c.type_inv.bytes (c.args.at + 1))
 
 pub returns : goal.returns
 returns c = two_read c.args.bytes.now c.args.at
