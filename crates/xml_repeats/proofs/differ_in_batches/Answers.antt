@@ -1,4 +1,3 @@
-use mathlib.Core.Bool.{true}
 use native.Mathlib.Omega.{arith}
 use borrow.Author.Tests.{not-true, not-false}
 use Rattle.xml_repeats.proofs.Batching.{batching_start, batching_end, batching_chained, batch_begun, batch_twice, batch_again, batch_passed}
