@@ -48,9 +48,9 @@ overflow_add-result c =
 pub returns-then-stands : goal.returns-then-stands
 returns-then-stands c =
     rw c.blank_end-e.ensures (end_closed c.args.text.now c.args.name.now c.args.at (sym c.stands.ensures ∙ not-false _ c.if-not-stands.false-raw) (sym c.stands-2.ensures ∙ not-false _ c.if-not-stands-2.false-raw)
-    (rw c.blank_end-e.ensures c (sym c.stands-3.ensures ∙ c.if-stands.true)))
+    (rw c.blank_end-e.ensures at (sym c.stands-3.ensures ∙ c.if-stands.true)))
 
 pub returns : goal.returns
 returns c =
     end_unclosed c.args.text.now c.args.name.now c.args.at (sym c.stands.ensures ∙ not-false _ c.if-not-stands.false-raw) (sym c.stands-2.ensures ∙ not-false _ c.if-not-stands-2.false-raw)
-    (rw c.blank_end-e.ensures c (sym c.stands-3.ensures ∙ c.if-stands.false))
+    (rw c.blank_end-e.ensures at (sym c.stands-3.ensures ∙ c.if-stands.false))
