@@ -1,5 +1,5 @@
 -- `xml_attributes::next_in_tag` meets its contract: by where the spaces end, and what stands there. Assumes nothing.
-use mathlib.Core.Path.{◌≡◌, sym, ◌∙◌}
+use mathlib.Core.Path.{◌≡◌, sym}
 use mathlib.Core.List.{List}
 use Prim.Native.Nat.{ℕ, ◌+◌, ◌≤◌}
 use native.Mathlib.Omega.{arith}
@@ -19,27 +19,27 @@ stands-requires c = begun_within _ _ c.blank_end-begins.ensures c.requires.at_in
 
 pub overflow_add-result : goal.overflow_add-result
 overflow_add-result c =
-    let l = stands_within tag_closes c.args.text.now c.blank_end-begins.result (begun_within _ _ c.blank_end-begins.ensures c.requires.at_in_bounds) (sym c.stands.ensures ∙ c.if-stands.true) in
+    let l = stands_within tag_closes c.args.text.now c.blank_end-begins.result (begun_within _ _ c.blank_end-begins.ensures c.requires.at_in_bounds) (sym c.if-stands.ensures) in
     omega arith
 
 pub returns-then-stands : goal.returns-then-stands
-returns-then-stands c = next_closes _ _ _ c.blank_end-begins.ensures (sym c.stands.ensures ∙ c.if-stands.true)
+returns-then-stands c = next_closes _ _ _ c.blank_end-begins.ensures (sym c.if-stands.ensures)
 
 pub stands-requires-2 : goal.stands-requires-2
 stands-requires-2 c = begun_within _ _ c.blank_end-begins.ensures c.requires.at_in_bounds
 
 pub overflow_add-result-then-stands-2 : goal.overflow_add-result-then-stands-2
 overflow_add-result-then-stands-2 c =
-    let l = stands_within lone_closes c.args.text.now c.blank_end-begins.result (begun_within _ _ c.blank_end-begins.ensures c.requires.at_in_bounds) (sym c.stands-2.ensures ∙ c.if-stands-2.true) in
+    let l = stands_within lone_closes c.args.text.now c.blank_end-begins.result (begun_within _ _ c.blank_end-begins.ensures c.requires.at_in_bounds) (sym c.if-stands-2.ensures) in
     omega arith
 
 pub returns-then-stands-2 : goal.returns-then-stands-2
 returns-then-stands-2 c =
-    next_lone _ _ _ c.blank_end-begins.ensures (sym c.stands.ensures ∙ c.if-stands.false) (sym c.stands-2.ensures ∙ c.if-stands-2.true)
+    next_lone _ _ _ c.blank_end-begins.ensures (sym c.if-stands.ensures) (sym c.if-stands-2.ensures)
 
 pub returns-then-begins-at : goal.returns-then-begins-at
 returns-then-begins-at c =
-    next_no_gap _ _ _ c.blank_end-begins.ensures (sym c.stands.ensures ∙ c.if-stands.false) (sym c.stands-2.ensures ∙ c.if-stands-2.false) (omega (arith, c.if-begins-at.true))
+    next_no_gap _ _ _ c.blank_end-begins.ensures (sym c.if-stands.ensures) (sym c.if-stands-2.ensures) (omega (arith, c.if-begins-at.true))
 
 pub read_attribute-requires : goal.read_attribute-requires
 read_attribute-requires c =
@@ -47,10 +47,10 @@ read_attribute-requires c =
 
 pub returns-in_default : goal.returns-in_default
 returns-in_default c =
-    next_nothing _ _ _ c.blank_end-begins.ensures (sym c.stands.ensures ∙ c.if-stands.false) (sym c.stands-2.ensures ∙ c.if-stands-2.false) c.if-begins-at.false
+    next_nothing _ _ _ c.blank_end-begins.ensures (sym c.if-stands.ensures) (sym c.if-stands-2.ensures) c.if-begins-at.false
     c.in_default.ensures
 
 pub returns : goal.returns
 returns c =
-    next_read _ _ _ c.blank_end-begins.ensures (sym c.stands.ensures ∙ c.if-stands.false) (sym c.stands-2.ensures ∙ c.if-stands-2.false) c.if-begins-at.false _ _
+    next_read _ _ _ c.blank_end-begins.ensures (sym c.if-stands.ensures) (sym c.if-stands-2.ensures) c.if-begins-at.false _ _
     c.in-Read.ensures

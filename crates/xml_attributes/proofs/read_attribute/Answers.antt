@@ -1,9 +1,8 @@
 -- `xml_attributes::read_attribute` meets its contract: by the places of its parts, one after the other. Assumes nothing.
-use mathlib.Core.Path.{◌≡◌, sym, ◌∙◌}
+use mathlib.Core.Path.{◌≡◌, sym}
 use mathlib.Core.List.{List, [], ◌∷◌}
 use Prim.Native.Nat.{ℕ, ◌+◌, ◌≤◌}
 use native.Mathlib.Omega.{arith}
-use borrow.Author.Tests.{not-true, not-false}
 use lib.ListN.{length, drop}
 use Rattle.xml.specs.Bytes.{is_space, equals}
 use Rattle.xml.specs.Scan.{run, name_length}
@@ -30,13 +29,13 @@ stands-requires c = equals_within _ _ _ c.name_end-name.ensures c.requires.at_in
 
 pub returns-then-not-stands : goal.returns-then-not-stands
 returns-then-not-stands c =
-    nothing _ _ (no_equals _ _ _ _ c.name_end-name.ensures c.if-name-at.false c.blank_end-equals.ensures (sym c.stands.ensures ∙ not-true _ c.if-not-stands.true-raw))
+    nothing _ _ (no_equals _ _ _ _ c.name_end-name.ensures c.if-name-at.false c.blank_end-equals.ensures (sym c.if-not-stands.ensures))
 
 pub overflow_add-equals : goal.overflow_add-equals
-overflow_add-equals c = let l = (stands_within (equals ∷ []) c.args.text.now c.blank_end-equals.result (equals_within _ _ _ c.name_end-name.ensures c.requires.at_in_bounds c.blank_end-equals.ensures) (sym c.stands.ensures ∙ not-false _ c.if-not-stands.false-raw)) in omega arith
+overflow_add-equals c = let l = (stands_within (equals ∷ []) c.args.text.now c.blank_end-equals.result (equals_within _ _ _ c.name_end-name.ensures c.requires.at_in_bounds c.blank_end-equals.ensures) (sym c.if-not-stands.ensures)) in omega arith
 
 pub blank_end-opens-requires : goal.blank_end-opens-requires
-blank_end-opens-requires c = record { from_in_bounds = (stands_within (equals ∷ []) c.args.text.now c.blank_end-equals.result (equals_within _ _ _ c.name_end-name.ensures c.requires.at_in_bounds c.blank_end-equals.ensures) (sym c.stands.ensures ∙ not-false _ c.if-not-stands.false-raw)); classes = c.requires.classes }
+blank_end-opens-requires c = record { from_in_bounds = (stands_within (equals ∷ []) c.args.text.now c.blank_end-equals.result (equals_within _ _ _ c.name_end-name.ensures c.requires.at_in_bounds c.blank_end-equals.ensures) (sym c.if-not-stands.ensures)); classes = c.requires.classes }
 
 pub returns-then-text-opens : goal.returns-then-text-opens
 returns-then-text-opens c =
@@ -44,7 +43,7 @@ returns-then-text-opens c =
 
 pub returns-then-not-is_quote : goal.returns-then-not-is_quote
 returns-then-not-is_quote c =
-    nothing _ _ (no_quote _ _ _ _ c.name_end-name.ensures c.if-name-at.false c.blank_end-equals.ensures _ c.blank_end-opens.ensures (sym c.is_quote.ensures ∙ not-true _ c.if-not-is_quote.true-raw))
+    nothing _ _ (no_quote _ _ _ _ c.name_end-name.ensures c.if-name-at.false c.blank_end-equals.ensures _ c.blank_end-opens.ensures (sym c.if-not-is_quote.ensures))
 
 pub returns-in_default : goal.returns-in_default
 returns-in_default c =
@@ -57,5 +56,5 @@ overflow_add-result c =
 
 pub returns : goal.returns
 returns c =
-    whole _ _ _ _ c.name_end-name.ensures c.if-name-at.false c.blank_end-equals.ensures _ c.blank_end-opens.ensures _ (sym c.stands.ensures ∙ not-false _ c.if-not-stands.false-raw)
-    (sym c.is_quote.ensures ∙ not-false _ c.if-not-is_quote.false-raw) c.in-At.ensures
+    whole _ _ _ _ c.name_end-name.ensures c.if-name-at.false c.blank_end-equals.ensures _ c.blank_end-opens.ensures _ (sym c.if-not-stands.ensures)
+    (sym c.if-not-is_quote.ensures) c.in-At.ensures

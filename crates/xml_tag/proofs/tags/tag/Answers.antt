@@ -1,5 +1,5 @@
 -- `xml_tag::tag` meets its contract: a name, and what stands after it. Assumes nothing.
-use mathlib.Core.Path.{◌≡◌, refl, sym, ◌∙◌}
+use mathlib.Core.Path.{◌≡◌, refl, sym}
 use mathlib.Core.List.{List}
 use Prim.Native.Nat.{ℕ, ◌+◌, ◌<◌, ◌≤◌}
 use native.Mathlib.Omega.{arith}
@@ -22,24 +22,24 @@ stands-requires c = named_within _ _ c.name_end-name.ensures c.requires.at_in_bo
 
 pub overflow_add-result : goal.overflow_add-result
 overflow_add-result c =
-    let l = stands_within tag_closes c.args.text.now c.name_end-name.result (named_within _ _ c.name_end-name.ensures c.requires.at_in_bounds) (sym c.stands.ensures ∙ c.if-stands.true) in
+    let l = stands_within tag_closes c.args.text.now c.name_end-name.result (named_within _ _ c.name_end-name.ensures c.requires.at_in_bounds) (sym c.if-stands.ensures) in
     omega arith
 
 pub returns-then-stands : goal.returns-then-stands
 returns-then-stands c =
-    record { value = tag_whole _ _ _ c.name_end-name.ensures (right_closed _ _ _ c.name_end-name.ensures (sym c.stands.ensures ∙ c.if-stands.true)) c.if-name-at.false refl; arrays = c.requires.arrays }
+    record { value = tag_whole _ _ _ c.name_end-name.ensures (right_closed _ _ _ c.name_end-name.ensures (sym c.if-stands.ensures)) c.if-name-at.false refl; arrays = c.requires.arrays }
 
 pub stands-requires-2 : goal.stands-requires-2
 stands-requires-2 c = named_within _ _ c.name_end-name.ensures c.requires.at_in_bounds
 
 pub overflow_add-result-then-stands-2 : goal.overflow_add-result-then-stands-2
 overflow_add-result-then-stands-2 c =
-    let l = stands_within lone_closes c.args.text.now c.name_end-name.result (named_within _ _ c.name_end-name.ensures c.requires.at_in_bounds) (sym c.stands-2.ensures ∙ c.if-stands-2.true) in
+    let l = stands_within lone_closes c.args.text.now c.name_end-name.result (named_within _ _ c.name_end-name.ensures c.requires.at_in_bounds) (sym c.if-stands-2.ensures) in
     omega arith
 
 pub returns-then-stands-2 : goal.returns-then-stands-2
 returns-then-stands-2 c =
-    record { value = tag_whole _ _ _ c.name_end-name.ensures (right_lone _ _ _ c.name_end-name.ensures (sym c.stands-2.ensures ∙ c.if-stands-2.true)) c.if-name-at.false refl; arrays = c.requires.arrays }
+    record { value = tag_whole _ _ _ c.name_end-name.ensures (right_lone _ _ _ c.name_end-name.ensures (sym c.if-stands-2.ensures)) c.if-name-at.false refl; arrays = c.requires.arrays }
 
 pub tail-requires : goal.tail-requires
 tail-requires c =
