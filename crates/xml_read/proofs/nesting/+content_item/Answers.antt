@@ -63,23 +63,32 @@ item-returns-in_default-clause-reads_on t c =
 
 pub item-returns-then-depth-eq0-clause-reads_on : goal.item-returns-then-depth-eq0-clause-reads_on
 item-returns-then-depth-eq0-clause-reads_on t c =
-    found_deep c.args.text.now c.args.here c.requires.in_text.0 c.requires.in_text.1 (sym c.if-not-opens_element.ensures) _ _ _ (tag_whole _ _ _ _ _ c.in-Whole.ensures.value) _ _ c.if-depth-eq0.true
+    let found = tag_whole _ _ _ _ _ c.in-Whole.ensures.value in
+    found_deep c.args.text.now c.args.here c.requires.in_text.0 c.requires.in_text.1 (sym c.if-not-opens_element.ensures) _ _ _ found _ _ c.if-depth-eq0.true
 
 pub item-returns-then-lone-clause-reads_on : goal.item-returns-then-lone-clause-reads_on
 item-returns-then-lone-clause-reads_on t c =
-    found_lone c.args.text.now c.args.here c.requires.in_text.0 c.requires.in_text.1 (sym c.if-not-opens_element.ensures) _ _ _ (tag_whole _ _ _ _ _ c.in-Whole.ensures.value) c.args.depth c.args.kinds.now _ _ c.if-depth-eq0.false c.opened-from.ensures.cursor c.opened-from.ensures.list _ _
+    let found = tag_whole _ _ _ _ _ c.in-Whole.ensures.value in
+    found_lone c.args.text.now c.args.here c.requires.in_text.0 c.requires.in_text.1 (sym c.if-not-opens_element.ensures) _ _ _ found c.args.depth c.args.kinds.now _ _ c.if-depth-eq0.false
+    c.opened-from.ensures.cursor c.opened-from.ensures.list _ _
     c.if-lone.true c.closed.ensures.part c.closed.ensures.list
 
 pub item-content-part-requires : goal.item-content-part-requires
 item-content-part-requires t c =
+    let found = tag_whole _ _ _ _ _ c.in-Whole.ensures.value in
     let left = c.if-depth-eq0.false in (
       omega (arith, c.decreases, left),
       (
-        (found_inside c.args.text.now c.args.here c.requires.in_text.0 c.requires.in_text.1 (sym c.if-not-opens_element.ensures) _ _ _ (tag_whole _ _ _ _ _ c.in-Whole.ensures.value) c.args.depth c.args.kinds.now _ _ c.if-depth-eq0.false c.opened-from.ensures.cursor c.opened-from.ensures.list, omega (arith, c.requires.in_text)),
+        (
+          found_inside c.args.text.now c.args.here c.requires.in_text.0 c.requires.in_text.1 (sym c.if-not-opens_element.ensures) _ _ _ found c.args.depth c.args.kinds.now _ _ c.if-depth-eq0.false
+              c.opened-from.ensures.cursor c.opened-from.ensures.list,
+          omega (arith, c.requires.in_text),
+        ),
         (
           c.requires.classes,
           (
-            found_sure c.args.text.now c.args.here c.requires.in_text.0 c.requires.in_text.1 (sym c.if-not-opens_element.ensures) _ _ _ (tag_whole _ _ _ _ _ c.in-Whole.ensures.value) c.args.depth c.args.kinds.now _ _ c.if-depth-eq0.false c.opened-from.ensures.cursor c.opened-from.ensures.list
+            found_sure c.args.text.now c.args.here c.requires.in_text.0 c.requires.in_text.1 (sym c.if-not-opens_element.ensures) _ _ _ found c.args.depth c.args.kinds.now _ _ c.if-depth-eq0.false
+                c.opened-from.ensures.cursor c.opened-from.ensures.list
                 c.if-lone.false c.requires.sure,
             c.tag.ensures.arrays,
           ),
@@ -89,22 +98,32 @@ item-content-part-requires t c =
 
 pub item-returns-in_default-part-clause-reads_on : goal.item-returns-in_default-part-clause-reads_on
 item-returns-in_default-part-clause-reads_on t c =
-    found_refused c.args.text.now c.args.here c.requires.in_text.0 c.requires.in_text.1 (sym c.if-not-opens_element.ensures) _ _ _ (tag_whole _ _ _ _ _ c.in-Whole.ensures.value) c.args.depth c.args.kinds.now _ _ c.if-depth-eq0.false c.opened-from.ensures.cursor c.opened-from.ensures.list _ _
+    let found = tag_whole _ _ _ _ _ c.in-Whole.ensures.value in
+    found_refused c.args.text.now c.args.here c.requires.in_text.0 c.requires.in_text.1 (sym c.if-not-opens_element.ensures) _ _ _ found c.args.depth c.args.kinds.now _ _ c.if-depth-eq0.false
+    c.opened-from.ensures.cursor c.opened-from.ensures.list _ _
     c.if-lone.false c.content-part.ensures.reads _ c.in_default-part.is
 
 pub item-slice_bounds-ending-count : goal.item-slice_bounds-ending-count
-item-slice_bounds-ending-count t c = omega (arith, (places c.args.text.now c.args.here c.requires.in_text.0 c.requires.in_text.1 (sym c.if-not-opens_element.ensures) _ _ _ (tag_whole _ _ _ _ _ c.in-Whole.ensures.value)).name_least)
+item-slice_bounds-ending-count t c =
+    let found = tag_whole _ _ _ _ _ c.in-Whole.ensures.value in
+    omega (arith, (places c.args.text.now c.args.here c.requires.in_text.0 c.requires.in_text.1 (sym c.if-not-opens_element.ensures) _ _ _ found).name_least)
 
 pub item-slice_bounds-ending-start : goal.item-slice_bounds-ending-start
-item-slice_bounds-ending-start t c = omega (arith, (places c.args.text.now c.args.here c.requires.in_text.0 c.requires.in_text.1 (sym c.if-not-opens_element.ensures) _ _ _ (tag_whole _ _ _ _ _ c.in-Whole.ensures.value)).name_least)
+item-slice_bounds-ending-start t c =
+    let found = tag_whole _ _ _ _ _ c.in-Whole.ensures.value in
+    omega (arith, (places c.args.text.now c.args.here c.requires.in_text.0 c.requires.in_text.1 (sym c.if-not-opens_element.ensures) _ _ _ found).name_least)
 
 pub item-slice_bounds-ending-end : goal.item-slice_bounds-ending-end
-item-slice_bounds-ending-end t c = (places c.args.text.now c.args.here c.requires.in_text.0 c.requires.in_text.1 (sym c.if-not-opens_element.ensures) _ _ _ (tag_whole _ _ _ _ _ c.in-Whole.ensures.value)).name_most
+item-slice_bounds-ending-end t c =
+    let found = tag_whole _ _ _ _ _ c.in-Whole.ensures.value in
+    (places c.args.text.now c.args.here c.requires.in_text.0 c.requires.in_text.1 (sym c.if-not-opens_element.ensures) _ _ _ found).name_most
 
 pub item-ending-requires-clause-in_text : goal.item-ending-requires-clause-in_text
 item-ending-requires-clause-in_text t c = ended_at _ _ _ _ _ _ _ _ c.content-part.ensures.reads c.content-part.ensures.ended c.in-On.is
 
 pub item-returns-clause-reads_on : goal.item-returns-clause-reads_on
 item-returns-clause-reads_on t c =
-    found_element c.args.text.now c.args.here c.requires.in_text.0 c.requires.in_text.1 (sym c.if-not-opens_element.ensures) _ _ _ (tag_whole _ _ _ _ _ c.in-Whole.ensures.value) c.args.depth c.args.kinds.now _ _ c.if-depth-eq0.false c.opened-from.ensures.cursor c.opened-from.ensures.list _ _
+    let found = tag_whole _ _ _ _ _ c.in-Whole.ensures.value in
+    found_element c.args.text.now c.args.here c.requires.in_text.0 c.requires.in_text.1 (sym c.if-not-opens_element.ensures) _ _ _ found c.args.depth c.args.kinds.now _ _ c.if-depth-eq0.false
+    c.opened-from.ensures.cursor c.opened-from.ensures.list _ _
     c.if-lone.false c.content-part.ensures.reads _ _ _ _ c.in-On.is refl c.ending.ensures
