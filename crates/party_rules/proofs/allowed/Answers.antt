@@ -17,12 +17,10 @@ unfolding is_allowed
 returns-in-Yes c = search rules
 
 pub returns-then-act-eq-INSERT : goal.returns-then-act-eq-INSERT
-returns-then-act-eq-INSERT c = at_begin c.args.granted c.args.act (let it : c.args.asked ≡ Answered No = cc in it) (⊎_elim (λ w. granted_right c.args.granted c.args.act w.0.taken w.2)
-    (λ w. not_granted c.args.granted c.args.act w.0.left w.1) c.if-granted.branch) c.if-act-eq-INSERT.true-raw c.same.ensures
+returns-then-act-eq-INSERT c = let h = c.if-granted in let k = c.if-act-eq-INSERT in ?
 
 pub returns-else-act-eq-INSERT : goal.returns-else-act-eq-INSERT
-returns-else-act-eq-INSERT c = no_right c.args.granted c.args.act (let it : c.args.asked ≡ Answered No = cc in it) (⊎_elim (λ w. granted_right c.args.granted c.args.act w.0.taken w.2)
-    (λ w. not_granted c.args.granted c.args.act w.0.left w.1) c.if-granted.branch) c.if-act-eq-INSERT.false-raw
+returns-else-act-eq-INSERT c = let h = c.if-granted in ?
 
 pub returns-in-Stale : goal.returns-in-Stale
 unfolding is_allowed

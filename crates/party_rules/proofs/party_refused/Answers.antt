@@ -9,5 +9,4 @@ use Rattle.calls.specs.Rights.{is_right}
 use Rattle.party_rules.proofs.party_refused.Goals as goal
 
 pub returns : goal.returns
-returns c = c.range_refused.ensures ∙ rw (let it : c.if-right-eq-WRITE.range-refused ≡ is_right c.args.right = rw (← or_assoc (eqb c.args.right read_right) (eqb c.args.right write_right) (eqb c.args.right insert_right), ← (⊎_elim (λ w. w.1 ∙ rw (eq-eqb _ 1 w.0.taken)) (λ w. w.1 ∙ rw (ne_eqb _ 1 w.0.left)) c.if-right-eq-READ.branch))
-    (⊎_elim (λ w. w.1 ∙ rw w.0.taken) (λ w. w.1 ∙ rw w.0.left) c.if-right-eq-WRITE.branch) in it)
+returns c = let h = c.if-right-eq-WRITE in ?
