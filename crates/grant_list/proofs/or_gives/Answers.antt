@@ -12,8 +12,8 @@ pub returns-then-right-eq0 : goal.returns-then-right-eq0
 unfolding gives
 returns-then-right-eq0 c =
     elim c.then-right-eq0.branch [
-      then-right-eq0-via-then-right-eq0 w ↦ rw (w.if-right-eq0.true, div-zero, and-false) (sym (or-false _))
-    | then-right-eq0-via-else-right-eq0+then-not-names w ↦ rw (sym w.names.ensures ∙ w.if-not-names.true) (sym (or-false _))
+      | then-right-eq0-via-then-right-eq0 w ↦ rw (w.if-right-eq0.true, div-zero, and-false) (sym (or-false _))
+      | then-right-eq0-via-else-right-eq0+then-not-names w ↦ rw (sym w.names.ensures ∙ w.if-not-names.true) (sym (or-false _))
     ]
 
 pub returns-then-g-right-eq1 : goal.returns-then-g-right-eq1
