@@ -229,14 +229,14 @@ AllSurrounded st d (x ∷ xs) = Surrounded st d x × AllSurrounded st (depth_aft
 
 one_of : (st : Store) (d : ℕ) (xs : List ℕ) → AllSurrounded st d xs → (x : ℕ) → member x xs ≡ true → (e : ℕ) × Surrounded st e x
 one_of st d [] all x m = absurd (true≢false (sym m ∙ member_nil x))
-one_of st d (y ∷ ys) all x m = member_cases x y ys m (λ q. rw q (d, all.0)) (λ q later. one_of st _ ys all.1 x later)
+one_of st d (y ∷ ys) all x m = member_cases x y ys m (λ q. rw q (d, all.0)) (λ q later. one_of st (depth_after (fact st y).kind d) ys all.1 x later)
 
 -- depths that are right count those around, and the other way round
 depth_counts : (st : Store) (d e : ℕ) (xs : List ℕ) → AllSurrounded st d xs → Depths st.facts d xs e → (x : ℕ) → member x xs ≡ true → (fact st x).depth ≡ length (around st x)
 depth_counts st d e [] all deep x m = absurd (true≢false (sym m ∙ member_nil x))
 depth_counts st d e (y ∷ ys) all deep x m =
     let t = all.0 in
-    member_cases x y ys m (λ q. rw (q, t.are) (deep.0 ∙ t.many)) (λ q later. depth_counts st _ e ys all.1 deep.1 x later)
+    member_cases x y ys m (λ q. rw (q, t.are) (deep.0 ∙ t.many)) (λ q later. depth_counts st (depth_after (fact st y).kind d) e ys all.1 deep.1 x later)
 
 counts_right : (st : Store) (d : ℕ) (xs : List ℕ) → AllSurrounded st d xs → ((x : ℕ) → member x xs ≡ true → (fact st x).depth ≡ length (around st x)) →
     depths_right st.facts d xs ≡ true
@@ -245,7 +245,7 @@ counts_right st d [] all each = refl
 counts_right st d (y ∷ ys) all each =
     let t = all.0 in
     and_both (eq-eqb _ _ (each y (member_first y ys) ∙ (ap length t.are ∙ sym t.many)))
-    (counts_right st _ ys all.1 (λ x m. each x (member_later x y ys m)))
+    (counts_right st (depth_after (fact st y).kind d) ys all.1 (λ x m. each x (member_later x y ys m)))
 
 module _ {D : Type 0} {st : Store} (h : SoundWith D st) where
   along : (xs front : List ℕ) (o d : ℕ) → row st ≡ front ++ xs → Pass st.facts no_tag o xs no_tag → Between st front o d → AllSurrounded st d xs

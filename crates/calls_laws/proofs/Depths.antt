@@ -42,16 +42,16 @@ depths_of fs d (x ∷ xs) h =
 pub depths_test : (fs : List Fact) (d : ℕ) (xs : List ℕ) (e : ℕ) → Depths fs d xs e → depths_right fs d xs ≡ true
 unfolding depths_right
 depths_test fs d [] e h = refl
-depths_test fs d (x ∷ xs) e h = and_both (eq-eqb _ _ h.0) (depths_test fs _ xs e h.1)
+depths_test fs d (x ∷ xs) e h = and_both (eq-eqb _ _ h.0) (depths_test fs (depth_after (fact_in fs x).kind d) xs e h.1)
 
 -- of a row joined of two
 pub depths_join : (fs : List Fact) (d m e : ℕ) (xs ys : List ℕ) → Depths fs d xs m → Depths fs m ys e → Depths fs d (xs ++ ys) e
 depths_join fs d m e [] ys p q = rw p q
-depths_join fs d m e (x ∷ xs) ys p q = (p.0, depths_join fs _ m e xs ys p.1 q)
+depths_join fs d m e (x ∷ xs) ys p q = (p.0, depths_join fs (depth_after (fact_in fs x).kind d) m e xs ys p.1 q)
 
 pub depths_parts : (fs : List Fact) (d e : ℕ) (xs ys : List ℕ) → Depths fs d (xs ++ ys) e → (m : ℕ) × Depths fs d xs m × Depths fs m ys e
 depths_parts fs d e [] ys p = (d, refl, p)
-depths_parts fs d e (x ∷ xs) ys p = let rest = depths_parts fs _ e xs ys p.1 in (rest.0, (p.0, rest.1), rest.2)
+depths_parts fs d e (x ∷ xs) ys p = let rest = depths_parts fs (depth_after (fact_in fs x).kind d) e xs ys p.1 in (rest.0, (p.0, rest.1), rest.2)
 
 -- OTHER FACTS that say the same kind and depth of a tag
 pub record Level (fs gs : List Fact) (x : ℕ) : Type 0 where
@@ -65,7 +65,7 @@ pub depths_same : (fs gs : List Fact) (d : ℕ) (xs : List ℕ) (e : ℕ) → ((
 depths_same fs gs d [] e all h = h
 depths_same fs gs d (x ∷ xs) e all h =
     let own = all x (member_first x xs) in
-    rw own.kind (own.depth ∙ h.0, depths_same fs gs _ xs e (λ y m. all y (member_later y x xs m)) h.1)
+    rw own.kind (own.depth ∙ h.0, depths_same fs gs (depth_after (fact_in fs x).kind d) xs e (λ y m. all y (member_later y x xs m)) h.1)
 
 -- OF NEW TAGS: after kinds that nest where j begins of their own are open, as many are open as before those
 module _ (fs : List Fact) (few : length fs ≤ no_tag) (base : ℕ) where
@@ -96,7 +96,7 @@ after_most text d = omega arith
 
 pub depths_most : (fs : List Fact) (d : ℕ) (xs : List ℕ) (e : ℕ) → Depths fs d xs e → e ≤ d + length xs
 depths_most fs d [] e h = omega arith
-depths_most fs d (x ∷ xs) e h = omega (arith, depths_most fs _ xs e h.1, after_most (fact_in fs x).kind d)
+depths_most fs d (x ∷ xs) e h = omega (arith, depths_most fs (depth_after (fact_in fs x).kind d) xs e h.1, after_most (fact_in fs x).kind d)
 
 -- a whole book keeps its depths by facts that say the same
 pub depths_kept : (fs gs : List Fact) (xs : List ℕ) → ((x : ℕ) → member x xs ≡ true → Level fs gs x) → depths_right fs 0 xs ≡ true → depths_right gs 0 xs ≡ true

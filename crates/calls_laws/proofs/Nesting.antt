@@ -121,7 +121,7 @@ pass_of fs o [] h = eqb-true _ _ h
 pass_of fs o (x ∷ xs) h =
     let k = (fact_in fs x).kind in
     let rest = nested fs (opened fs o x k) xs in
-    (opened fs o x k, step_of fs o x k refl (and_left (fits fs o x k) rest h), pass_of fs _ xs (and_right (fits fs o x k) rest h))
+    (opened fs o x k, step_of fs o x k refl (and_left (fits fs o x k) rest h), pass_of fs (opened fs o x (fact_in fs x).kind) xs (and_right (fits fs o x k) rest h))
 
 pub nested_of : (fs : List Fact) (o : ℕ) (xs : List ℕ) → Pass fs no_tag o xs no_tag → nested fs o xs ≡ true
 unfolding nested
