@@ -1,63 +1,77 @@
-// The interpreter over standard input and standard output. No contract can say which bytes the C library reads and writes;
-// what is printed of what was read is crate interpreter's.
+// The interpreter over a reader and a writer, as standard input and standard output are. What is printed of what was read is
+// crate interpreter's.
 #![tactic(auto)]
 
-ghost use Rattle.std.specs.Prelude.{◌≡◌, true, [], ◌≤◌, length, take};
-ghost use Rattle.io.specs.Counts.{IsPrefixLen};
+ghost use Rattle.std.specs.Prelude.{◌≡◌, [], ◌≤◌, length, take, IfOk};
+ghost use Rattle.std.specs.Io.{ReadsAtMost};
 ghost use Rattle.interpreter.specs.Answer.{first_words};
 ghost use Rattle.interpreter.specs.Session.{Passed, Led};
 
 use interpreter::{BOOK_WORDS, LINE_BUFFER, OUT_SIZE};
-use libc::{STDIN_FILENO, STDOUT_FILENO};
+use std::fmt;
+use std::io::{self, ErrorKind, Read, Write};
+use std::process::ExitCode;
 
-// How many bytes of a line are in hand, and whether all was printed.
-#[derive(Clone, Copy)]
-struct Served {
-    held: usize,
-    printed: bool,
+// How many bytes of input are asked for at once.
+const PIECE: usize = 65536;
+
+// What ends a run before its input ends: a read or a write that failed.
+#[derive(Debug, Drop)]
+pub enum Stopped {
+    Input(io::Error),
+    Output(io::Error),
 }
 
-// The front of a buffer, written whole. That the bytes went out is what `io::write_all` says by its bool; it has no contract,
-// so that nothing is proved of it here.
-fn print(out: &[u8], count: usize) -> bool
+impl fmt::Display for Stopped {
+    fn fmt<W: fmt::Write>(&self, f: &mut fmt::Formatter<W>) -> fmt::Result {
+        match self {
+            Stopped::Input(e) => write!(f, "book: standard input: {e}"),
+            Stopped::Output(e) => write!(f, "book: standard output: {e}"),
+        }
+    }
+}
+
+// The front of a buffer, written whole.
+fn print<W: Write>(output: &mut W, out: &[u8], count: usize) -> Result<(), Stopped>
     requires { count ≤ length out.now }
 {
-    let printed = io::write_all(STDOUT_FILENO, &out[..count]);
-    if !printed {
-        os::fail(b"book: standard output");
+    match output.write_all(&out[..count]) {
+        Ok(()) => Ok(()),
+        Err(e) => Err(Stopped::Output(e)),
     }
-    printed
 }
 
-// One piece of the input; none at its end, or where it cannot be read. A read that a signal interrupts is made again: a
-// proved loop has to end, so that the tries are counted down from a number that no run uses up.
-fn read_piece(buffer: &mut [u8]) -> usize
-    ensures { IsPrefixLen result buffer.new }
+// One piece of the input; none at its end. A read that a signal interrupts is made again: a proved loop has to end, so that
+// the tries are counted down from a number that no run uses up.
+fn read_piece<R: Read>(input: &mut R, buffer: &mut [u8]) -> Result<usize, Stopped>
+    ensures { ReadsAtMost result buffer.new }
 {
     let mut tries = u64::MAX;
     while tries > 0 {
-        let got = libc::read(STDIN_FILENO, buffer);
-        if got >= 0 {
-            return io::count(got, buffer);
-        }
-        if os::errno() != libc::EINTR {
-            os::fail(b"book: standard input");
-            return 0;
+        match input.read(buffer) {
+            Ok(n) => return Ok(n),
+            Err(e) => {
+                if e.kind() != ErrorKind::Interrupted {
+                    return Err(Stopped::Input(e));
+                }
+            }
         }
         tries -= 1;
     }
-    0
+    Err(Stopped::Input(io::Error::from(ErrorKind::Interrupted)))
 }
 
-// Every line that ends in a piece is answered; what is then in hand and in the store is what the session's steps leave.
-fn serve(
+// Every line that ends in a piece is answered. How many bytes of a line are then in hand; what they and the store are is what
+// the session's steps leave.
+fn serve<W: Write>(
     piece: &[u8],
     line: &mut [u8; LINE_BUFFER],
     held: usize,
     words: &mut [u32],
     out: &mut [u8; OUT_SIZE],
-) -> Served
-    ensures { result.printed ≡ true → Passed (take held line.old) words.old piece.now (take result.held line.new) words.new }
+    output: &mut W,
+) -> Result<usize, Stopped>
+    ensures { IfOk result (λ h. Passed (take held line.old) words.old piece.now (take h line.new) words.new) }
 {
     let mut at: usize = 0;
     let mut h = held;
@@ -65,55 +79,46 @@ fn serve(
         let s = interpreter::step(piece, at, line, h, words, out);
         h = s.held;
         at = s.at;
-        if !print(out, s.text) {
-            return Served {
-                held: 0,
-                printed: false,
-            };
-        }
+        print(output, out, s.text)?;
     }
-    Served {
-        held: h,
-        printed: true,
-    }
+    Ok(h)
 }
 
-// Piece by piece to the end of the input. How many bytes of a last line are in hand, and whether all was printed; where it
-// was, some pieces have led from the words at first to what is in hand and in the store.
-fn serve_all(line: &mut [u8; LINE_BUFFER], words: &mut [u32], out: &mut [u8; OUT_SIZE]) -> Served
-    ensures { result.printed ≡ true → Led [] words.old (take result.held line.new) words.new }
+// Piece by piece to the end of the input. How many bytes of a last line are in hand; some pieces have led from the words at
+// first to what is in hand and in the store.
+fn serve_all<R: Read, W: Write>(
+    input: &mut R,
+    line: &mut [u8; LINE_BUFFER],
+    words: &mut [u32],
+    out: &mut [u8; OUT_SIZE],
+    output: &mut W,
+) -> Result<usize, Stopped>
+    ensures { IfOk result (λ h. Led [] words.old (take h line.new) words.new) }
 {
-    let mut buffer = io::large_buffer();
+    let mut buffer = [0u8; PIECE];
     let mut held: usize = 0;
     let mut pieces = u64::MAX;
     while pieces > 0 {
-        let n = read_piece(&mut buffer);
+        let n = read_piece(input, &mut buffer)?;
         if n == 0 {
-            return Served {
-                held: held,
-                printed: true,
-            };
+            return Ok(held);
         }
-        let served = serve(&buffer[..n], line, held, words, out);
-        if !served.printed {
-            return Served {
-                held: 0,
-                printed: false,
-            };
-        }
-        held = served.held;
+        held = serve(&buffer[..n], line, held, words, out, output)?;
         pieces -= 1;
     }
-    Served {
-        held: held,
-        printed: true,
-    }
+    Ok(held)
 }
 
 // The end of the input: a last line that lacks its line feed.
-fn serve_last(line: &[u8; LINE_BUFFER], held: usize, words: &mut [u32], out: &mut [u8; OUT_SIZE]) {
+fn serve_last<W: Write>(
+    line: &[u8; LINE_BUFFER],
+    held: usize,
+    words: &mut [u32],
+    out: &mut [u8; OUT_SIZE],
+    output: &mut W,
+) -> Result<(), Stopped> {
     let n = interpreter::finish(line, held, words, out);
-    print(out, n);
+    print(output, out, n)
 }
 
 // The store that a run starts from: all words 0.
@@ -123,13 +128,22 @@ fn first_words() -> [u32; BOOK_WORDS]
     [0u32; BOOK_WORDS]
 }
 
-// All of standard input, over that store.
-pub fn run() {
+// All of an input, over that store.
+pub fn run<R: Read, W: Write>(input: &mut R, output: &mut W) -> Result<(), Stopped> {
     let mut words = first_words();
     let mut line = [0u8; LINE_BUFFER];
     let mut out = [0u8; OUT_SIZE];
-    let served = serve_all(&mut line, &mut words, &mut out);
-    if served.printed {
-        serve_last(&line, served.held, &mut words, &mut out);
+    let held = serve_all(input, &mut line, &mut words, &mut out, output)?;
+    serve_last(&line, held, &mut words, &mut out, output)
+}
+
+// How a program ends behind a run: with status 0; where the run was stopped, with 1, and a message on standard error.
+pub fn status(rt: &impl Eprint, ran: Result<(), Stopped>) -> ExitCode {
+    match ran {
+        Ok(()) => ExitCode::SUCCESS,
+        Err(e) => {
+            let _ = eprintln!(rt; "{e}");
+            ExitCode::FAILURE
+        }
     }
 }
