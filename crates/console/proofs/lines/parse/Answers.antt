@@ -12,10 +12,10 @@ pub returns-then-e-line : goal.returns-then-e-line
 returns-then-e-line c = line_one _ _ c.if-line-gt-LINE_LIMIT.false c.field_end-e.ensures c.if-e-line.true c.one_field.ensures
 
 pub overflow_add-rest : goal.overflow_add-rest
-overflow_add-rest c = omega (arith, (word_within _ _ c.if-line-gt-LINE_LIMIT.false c.field_end-e.ensures c.if-e-line.false))
+overflow_add-rest c = omega (arith, word_within _ _ c.if-line-gt-LINE_LIMIT.false c.field_end-e.ensures c.if-e-line.false)
 
 pub slice_bounds-rest-count : goal.slice_bounds-rest-count
-slice_bounds-rest-count c = (word_within _ _ c.if-line-gt-LINE_LIMIT.false c.field_end-e.ensures c.if-e-line.false)
+slice_bounds-rest-count c = word_within _ _ c.if-line-gt-LINE_LIMIT.false c.field_end-e.ensures c.if-e-line.false
 
 pub returns-then-same_bytes : goal.returns-then-same_bytes
 returns-then-same_bytes c =
@@ -28,3 +28,6 @@ returns-then-field_end-rest c =
 pub returns : goal.returns
 returns c =
     line_two _ _ c.if-line-gt-LINE_LIMIT.false c.field_end-e.ensures c.if-e-line.false _ c.field_end.ensures c.if-field_end-rest.false c.two_fields.ensures
+
+pub slice_bounds-word-end : goal.slice_bounds-word-end
+slice_bounds-word-end c = omega (arith, word_within _ _ c.if-line-gt-LINE_LIMIT.false c.field_end-e.ensures c.if-e-line.false)
