@@ -24,7 +24,7 @@ use Rattle.edit_model.proofs.Applied.{labels_widths, Applies, applied_words, app
 -- the same added to each number, where there are any
 raised_same : (a b : ℕ) (xs : List ℕ) → (1 ≤ length xs → a ≡ b) → map (λ l. l + a) xs ≡ map (λ l. l + b) xs
 raised_same a b [] e = refl
-raised_same a b (x ∷ xs) e = rw (e (omega arith))
+raised_same a b (x ∷ xs) e = ap (λ (k : ℕ). map (λ l. l + k) (x ∷ xs)) (e (omega arith))
 
 -- labels of which only two parts change
 differ_parts : (ts : List Bool) (before old new beside raised after : List ℕ) → length old ≡ length new → length beside ≡ length raised →

@@ -16,4 +16,4 @@ returns-then-not-begins c = formed_headless _ (c.if-bytes-file_bytes.false ∙ (
 
 pub returns : goal.returns
 returns c =
-    formed_by_tags _ (c.if-bytes-file_bytes.false ∙ (c.file_bytes.ensures ∙ ap file_bytes c.count-n.ensures)) c.begins.ensures c.if-not-begins.false-raw (λ i l. omega (arith, c.shared_slice_known-1.given i)) (rw c.count-n.ensures c c.tags_formed.ensures)
+    formed_by_tags _ (c.if-bytes-file_bytes.false ∙ (c.file_bytes.ensures ∙ ap file_bytes c.count-n.ensures)) c.begins.ensures c.if-not-begins.false-raw (λ i l. omega (arith, c.shared_slice_known-1.given i)) (rw c.count-n.ensures at c.tags_formed.ensures)

@@ -17,15 +17,15 @@ mark_section-marked-requires c =
     let all = rw c.count_of-n.ensures (a.tag, a.records) in record { tag = all.0; records = all.1 }
 
 pub stamp_of-stamp-requires : goal.stamp_of-stamp-requires
-stamp_of-stamp-requires c = (done _ _ c.section_refused-refusal.ensures c.if-refusal-ne0.false (rw c.count_of-n.ensures c c.mark_section-marked.ensures.new) (rw c.count_of-n.ensures c c.mark_section-marked.ensures.words)).there
+stamp_of-stamp-requires c = (done _ _ c.section_refused-refusal.ensures c.if-refusal-ne0.false (rw c.count_of-n.ensures at c.mark_section-marked.ensures.new) (rw c.count_of-n.ensures at c.mark_section-marked.ensures.words)).there
 
 pub overflow_add-stamp : goal.overflow_add-stamp
-overflow_add-stamp c = omega (arith, (done _ _ c.section_refused-refusal.ensures c.if-refusal-ne0.false (rw c.count_of-n.ensures c c.mark_section-marked.ensures.new) (rw c.count_of-n.ensures c c.mark_section-marked.ensures.words)).same, c.stamp_of-stamp.ensures)
+overflow_add-stamp c = omega (arith, (done _ _ c.section_refused-refusal.ensures c.if-refusal-ne0.false (rw c.count_of-n.ensures at c.mark_section-marked.ensures.new) (rw c.count_of-n.ensures at c.mark_section-marked.ensures.words)).same, c.stamp_of-stamp.ensures)
 
 pub set_stamp-requires : goal.set_stamp-requires
-set_stamp-requires c = (done _ _ c.section_refused-refusal.ensures c.if-refusal-ne0.false (rw c.count_of-n.ensures c c.mark_section-marked.ensures.new) (rw c.count_of-n.ensures c c.mark_section-marked.ensures.words)).there
+set_stamp-requires c = (done _ _ c.section_refused-refusal.ensures c.if-refusal-ne0.false (rw c.count_of-n.ensures at c.mark_section-marked.ensures.new) (rw c.count_of-n.ensures at c.mark_section-marked.ensures.words)).there
 
 pub returns : goal.returns
 returns c =
-    let m = (done _ _ c.section_refused-refusal.ensures c.if-refusal-ne0.false (rw c.count_of-n.ensures c c.mark_section-marked.ensures.new) (rw c.count_of-n.ensures c c.mark_section-marked.ensures.words)).replies in
+    let m = (done _ _ c.section_refused-refusal.ensures c.if-refusal-ne0.false (rw c.count_of-n.ensures at c.mark_section-marked.ensures.new) (rw c.count_of-n.ensures at c.mark_section-marked.ensures.words)).replies in
     record { reply = m.0; words = c.set_stamp.ensures ∙ rw c.stamp_of-stamp.ensures m.1 }

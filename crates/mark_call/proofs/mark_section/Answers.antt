@@ -20,7 +20,7 @@ mark_tag-marked-requires c =
 pub overflow_add-marked : goal.overflow_add-marked
 overflow_add-marked c = omega (
   arith,
-  turn_few (let it : Turn c.args.n c.mate_of-last.result.0 c.args.words.now (tags_of c.args.n c.args.words.now c.args.x.0) c.loop-steps.words c.loop-steps.tag.0 c.loop-steps.marked c.loop-steps.steps c.mark_tag-marked.result c.mark_tag-marked.new.0 = record {
+  turn_few (let it : Turn c.args.n c.mate_of-last.result.0 c.args.words.now (tags_of c.args.n c.args.words.now c.args.x.0) c.loop-steps.words c.loop-steps.tag.0 c.loop-steps.marked c.loop-steps.steps c.mark_tag-marked.result c.mark_tag-marked.new.words = record {
     left = c.loop-steps.invariant;
     more = c.loop-steps-test.true;
     tag = ltb-true _ _ c.if-tag-n.true-raw;
@@ -30,7 +30,7 @@ overflow_add-marked c = omega (
 )
 
 pub returns-then-same : goal.returns-then-same
-returns-then-same c = let all = left_last (let it : Turn c.args.n c.mate_of-last.result.0 c.args.words.now (tags_of c.args.n c.args.words.now c.args.x.0) c.loop-steps.words c.loop-steps.tag.0 c.loop-steps.marked c.loop-steps.steps c.mark_tag-marked.result c.mark_tag-marked.new.0 = record {
+returns-then-same c = let all = left_last (let it : Turn c.args.n c.mate_of-last.result.0 c.args.words.now (tags_of c.args.n c.args.words.now c.args.x.0) c.loop-steps.words c.loop-steps.tag.0 c.loop-steps.marked c.loop-steps.steps c.mark_tag-marked.result c.mark_tag-marked.new.words = record {
   left = c.loop-steps.invariant;
   more = c.loop-steps-test.true;
   tag = ltb-true _ _ c.if-tag-n.true-raw;
@@ -50,7 +50,7 @@ loop-steps-smaller c = omega arith
 
 pub loop-steps-preserved : goal.loop-steps-preserved
 loop-steps-preserved c =
-    left_turn (let it : Turn c.args.n c.mate_of-last.result.0 c.args.words.now (tags_of c.args.n c.args.words.now c.args.x.0) c.loop-steps.words c.loop-steps.tag.0 c.loop-steps.marked c.loop-steps.steps c.mark_tag-marked.result c.mark_tag-marked.new.0 = record {
+    left_turn (let it : Turn c.args.n c.mate_of-last.result.0 c.args.words.now (tags_of c.args.n c.args.words.now c.args.x.0) c.loop-steps.words c.loop-steps.tag.0 c.loop-steps.marked c.loop-steps.steps c.mark_tag-marked.result c.mark_tag-marked.new.words = record {
       left = c.loop-steps.invariant;
       more = c.loop-steps-test.true;
       tag = ltb-true _ _ c.if-tag-n.true-raw;

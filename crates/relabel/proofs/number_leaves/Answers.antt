@@ -36,12 +36,12 @@ loop-left-smaller c = omega arith
 pub loop-left-preserved : goal.loop-left-preserved
 loop-left-preserved c =
     rw c.sum-at.ensures
-    (leaf_on c.args.width c.loop-left.invariant c.loop-left-test.true c.number_leaf-moved.new.0 c.number_leaf-moved.result c.next_of-tag.result.0 c.number_leaf-moved.ensures.words c.number_leaf-moved.ensures.moved c.next_of-tag.ensures)
+    (leaf_on c.args.width c.loop-left.invariant c.loop-left-test.true c.number_leaf-moved.new.words c.number_leaf-moved.result c.next_of-tag.result.0 c.number_leaf-moved.ensures.words c.number_leaf-moved.ensures.moved c.next_of-tag.ensures)
 
 pub shape_of-words : goal.shape_of-words
 shape_of-words c = c.loop-left.invariant.long
 
 pub returns : goal.returns
 returns c =
-    let none : c.loop-left.false ≡ 0 = omega arith in
-    arrived c.loop-left.invariant none (leaves_end c.loop-left.words c.args.width c.loop-left.at c.loop-left.tag.0 c.loop-left.false none)
+    let none : c.loop-left.left ≡ 0 = omega arith in
+    arrived c.loop-left.invariant none (leaves_end c.loop-left.words c.args.width c.loop-left.at c.loop-left.tag.0 c.loop-left.left none)

@@ -46,7 +46,7 @@ loop-parts-preserved t c = (
 pub returns : goal.returns
 returns t c =
     let none : c.loop-parts.parts ≡ 0 = omega arith in
-    let end = parts_end c.loop-parts.words (widths_in c.args.tables.now) (r_in c.args.tables.now) c.args.j c.low-each.result c.loop-parts.at c.loop-parts.tag.0 c.loop-parts.false in
+    let end = parts_end c.loop-parts.words (widths_in c.args.tables.now) (r_in c.args.tables.now) c.args.j c.low-each.result c.loop-parts.at c.loop-parts.tag.0 c.loop-parts.left in
     arrived c.loop-parts.invariant.0 (c.loop-parts.invariant.1.none none) (rw none end)
 
 pub shape_of-words : goal.shape_of-words

@@ -21,7 +21,7 @@ pub returns : goal.returns
 returns c = record {
       place = refl;
       tag = c.get_at.ensures _ c.requires.tag.0.there;
-      c.requires.tag.0.there = c.of.ensures;
+      there = c.of.ensures;
       prior = refl;
       parent = c.open_after-parent.ensures;
       depth = c.depth_after-depth.ensures;

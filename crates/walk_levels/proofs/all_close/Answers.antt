@@ -60,7 +60,7 @@ loop-h-preserved c = (
   omega arith,
   omega arith,
   close_more _ _ _ _ _ _ c.loop-h.invariant.2 c.loop-h-test.true c.closes.ensures c.if-not-closes.false-raw,
-  close_sizes_more _ _ _ _ _ _ _ _ c.loop-h.invariant.3 c.loop-h-test.true (rw c.watched_end.ensures c.loop-h.invariant c.watched.ensures),
+  close_sizes_more _ _ _ _ _ _ _ _ c.loop-h.invariant.3 c.loop-h-test.true (rw c.watched_end.ensures at c.watched.ensures),
 )
 
 pub returns : goal.returns

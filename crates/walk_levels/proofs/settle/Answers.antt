@@ -85,7 +85,7 @@ loop-h-preserved c = (
   omega arith,
   omega arith,
   rw c.end_at.ensures (settle_more _ _ _ _ _ _ _ _ _ _ c.loop-h.invariant.2 c.loop-h-test.true c.if-l-end.false c.closes.ensures c.if-not-closes.false-raw),
-  rw c.end_at.ensures (sizes_more _ _ _ _ _ _ _ _ _ c.loop-h.invariant.3 c.loop-h-test.true c.if-l-end.false (rw c.watched_end.ensures c c.watched.ensures)),
+  rw c.end_at.ensures (sizes_more _ _ _ _ _ _ _ _ _ c.loop-h.invariant.3 c.loop-h-test.true c.if-l-end.false (rw c.watched_end.ensures at c.watched.ensures)),
 )
 
 pub offset_bounds-ends-h-then-exact : goal.offset_bounds-ends-h-then-exact
