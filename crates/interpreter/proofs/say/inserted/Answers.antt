@@ -5,9 +5,9 @@ use Rattle.interpreter.proofs.say.inserted.Goals as goal
 pub returns-in-Inserted : goal.returns-in-Inserted
 unfolding insert_numbers
 returns-in-Inserted c =
-    rw c.reply-1.given.1 c.ok_three.ensures
+    rw c.in-Inserted.is c.ok_three.ensures
 
 pub returns-in-Refused : goal.returns-in-Refused
 unfolding insert_numbers
 returns-in-Refused c =
-    rw c.reply-in-Refused-1.given.1 c.no_line.ensures
+    rw c.in-Refused.is c.no_line.ensures

@@ -5,9 +5,9 @@ use Rattle.interpreter.proofs.say.loaded.Goals as goal
 pub returns-in-Loaded : goal.returns-in-Loaded
 unfolding load_numbers
 returns-in-Loaded c =
-    rw c.reply-1.given.1 c.ok_two.ensures
+    rw c.in-Loaded.is c.ok_two.ensures
 
 pub returns-in-Refused : goal.returns-in-Refused
 unfolding load_numbers
 returns-in-Refused c =
-    rw c.reply-in-Refused-1.given.1 c.no_line.ensures
+    rw c.in-Refused.is c.no_line.ensures

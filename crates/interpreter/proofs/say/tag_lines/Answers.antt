@@ -16,8 +16,8 @@ loop-i-preserved c =
     c.requires
     c.loop-i.invariant
     c.loop-i-test.true
-    (omega (arith, c.shared_slice_known-in-loop-i-1.given c.loop-i.i))
-    (omega (arith, c.shared_slice_known-in-loop-i-2-1.given c.loop-i.i))
+    (omega (arith, c.type_inv.tags c.loop-i.i))
+    (omega (arith, c.type_inv.labels c.loop-i.i))
     _
     _
     (search rules)
