@@ -2,10 +2,14 @@
 // crate interpreter's.
 #![tactic(auto)]
 
-ghost use Rattle.std.specs.Prelude.{◌≡◌, [], ◌≤◌, length, take, IfOk};
+ghost use Rattle.std.specs.Prelude.{◌≡◌, ◌<◌, ◌≤◌, [], length, take, IfOk, IfSome, OnOk};
 ghost use Rattle.std.specs.Io.{ReadsAtMost};
+ghost use Rattle.std.specs.Io.KnownBytes.{Appends, Consumes, IsAtEnd};
+ghost use Rattle.line_reader.specs.Lines.{lines};
+ghost use Rattle.line_reader.specs.Reads.{last_line};
 ghost use Rattle.interpreter.specs.Answer.{first_words};
-ghost use Rattle.interpreter.specs.Session.{Passed, Led};
+ghost use Rattle.interpreter.specs.Session.{texts, Passed, Led};
+ghost use Rattle.terminal.specs.Talk.{PassedOut, Told};
 
 use interpreter::{BOOK_WORDS, LINE_BUFFER, OUT_SIZE};
 use std::fmt;
@@ -34,6 +38,7 @@ impl fmt::Display for Stopped {
 // The front of a buffer, written whole.
 fn print<W: Write>(output: &mut W, out: &[u8], count: usize) -> Result<(), Stopped>
     requires { count ≤ length out.now }
+    ensures { OnOk result (Appends (W.contents output.old) (W.contents output.new) (take count out.now)) }
 {
     match output.write_all(&out[..count]) {
         Ok(()) => Ok(()),
@@ -44,7 +49,9 @@ fn print<W: Write>(output: &mut W, out: &[u8], count: usize) -> Result<(), Stopp
 // One piece of the input; none at its end. A read that a signal interrupts is made again: a proved loop has to end, so that
 // the tries are counted down from a number that no run uses up.
 fn read_piece<R: Read>(input: &mut R, buffer: &mut [u8]) -> Result<usize, Stopped>
-    ensures { ReadsAtMost result buffer.new }
+    ensures bound { ReadsAtMost result buffer.new }
+    ensures bytes { IfOk result (λ n. Consumes (R.remaining input.old) (R.remaining input.new) (take n buffer.new)) }
+    ensures end { IfOk result (λ n. n ≡ 0 → 0 < length buffer.old → IsAtEnd (R.remaining input.new)) }
 {
     let mut tries = u64::MAX;
     while tries > 0 {
@@ -71,7 +78,8 @@ fn serve<W: Write>(
     out: &mut [u8; OUT_SIZE],
     output: &mut W,
 ) -> Result<usize, Stopped>
-    ensures { IfOk result (λ h. Passed (take held line.old) words.old piece.now (take h line.new) words.new) }
+    ensures passed { IfOk result (λ h. Passed (take held line.old) words.old piece.now (take h line.new) words.new) }
+    ensures printed { IfOk result (λ h. PassedOut (take held line.old) words.old piece.now (take h line.new) words.new (W.contents output.old) (W.contents output.new)) }
 {
     let mut at: usize = 0;
     let mut h = held;
@@ -93,7 +101,8 @@ fn serve_all<R: Read, W: Write>(
     out: &mut [u8; OUT_SIZE],
     output: &mut W,
 ) -> Result<usize, Stopped>
-    ensures { IfOk result (λ h. Led [] words.old (take h line.new) words.new) }
+    ensures led { IfOk result (λ h. Led [] words.old (take h line.new) words.new) }
+    ensures told { IfOk result (λ h. Told words.old (take h line.new) words.new (R.remaining input.old) (R.remaining input.new) (W.contents output.old) (W.contents output.new)) }
 {
     let mut buffer = [0u8; PIECE];
     let mut held: usize = 0;
@@ -106,7 +115,7 @@ fn serve_all<R: Read, W: Write>(
         held = serve(&buffer[..n], line, held, words, out, output)?;
         pieces -= 1;
     }
-    Ok(held)
+    Err(Stopped::Input(io::Error::from(ErrorKind::Other)))
 }
 
 // The end of the input: a last line that lacks its line feed.
@@ -116,7 +125,9 @@ fn serve_last<W: Write>(
     words: &mut [u32],
     out: &mut [u8; OUT_SIZE],
     output: &mut W,
-) -> Result<(), Stopped> {
+) -> Result<(), Stopped>
+    ensures { OnOk result (Appends (W.contents output.old) (W.contents output.new) (texts words.old (last_line (take held line.now)))) }
+{
     let n = interpreter::finish(line, held, words, out);
     print(output, out, n)
 }
@@ -129,7 +140,10 @@ fn first_words() -> [u32; BOOK_WORDS]
 }
 
 // All of an input, over that store.
-pub fn run<R: Read, W: Write>(input: &mut R, output: &mut W) -> Result<(), Stopped> {
+pub fn run<R: Read, W: Write>(input: &mut R, output: &mut W) -> Result<(), Stopped>
+    ensures { OnOk result (IfSome (R.remaining input.old)
+        (λ xs. Appends (W.contents output.old) (W.contents output.new) (texts first_words (lines xs)))) }
+{
     let mut words = first_words();
     let mut line = [0u8; LINE_BUFFER];
     let mut out = [0u8; OUT_SIZE];

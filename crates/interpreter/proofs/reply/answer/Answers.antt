@@ -11,7 +11,7 @@ slice_bounds-kinds-end c =
 
 pub slice_bounds-load-end : goal.slice_bounds-load-end
 slice_bounds-load-end c =
-    sym (length-take-le _ c.parse-command.new.1.0 (load_within c.args.line.now c.parse-command.ensures c.in-Load.is))
+    sym (length-take-le _ c.parse-command.new.kinds (load_within c.args.line.now c.parse-command.ensures c.in-Load.is))
 
 pub returns-in-Load : goal.returns-in-Load
 returns-in-Load c =
