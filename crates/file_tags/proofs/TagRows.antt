@@ -75,7 +75,7 @@ module _ {bs : List ℕ} {n place x o top : ℕ} (row : TagRow bs place x o top)
   pub reads_there : TagReads (file_words bs) n x (offset_of x) o
   reads_there = record {
     records = record { few = rw count row.few; long = rw count (omega (arith, length_file_words bs)) };
-    below = rw (count, row.own_val) row.read.below;
+    below = rw (count, row.own) row.read.below;
     there = refl;
     around = around;
   }
@@ -84,7 +84,7 @@ module _ {bs : List ℕ} {n place x o top : ℕ} (row : TagRow bs place x o top)
   beside_read of_q =
       ⊎_elim
       (λ none. let own = rw (le-ltb o n (omega (arith, count, row.few))) at of_q in
-      (rw own row.read, rw (own, le-ltb o n (omega (arith, count, row.few))) (sym row.own_val)))
+      (rw own row.read, rw (own, le-ltb o n (omega (arith, count, row.few))) (sym row.own)))
       (λ inner. let own = rw (lt-ltb o n inner.0) at of_q in
       let there = row.open_row (λ z. omega (arith, inner.0, count, row.few)) in
       (rw own there.1, rw (own, lt-ltb o n inner.0) (sym there.0)))

@@ -18,7 +18,7 @@ use Rattle.tree_laws.proofs.Labels.{length_labels, labels_joined}
 use Rattle.tree_laws.proofs.Spread.{some_power}
 use Rattle.tree_laws.proofs.Flat.{trees_spread}
 use Rattle.tree_laws.proofs.Aligned.{leaves_whole}
-use Rattle.tree_laws.proofs.PathLaws.{PathParts, path_before, path_below, path_zero, path_suc, leaves_path}
+use Rattle.tree_laws.proofs.PathLaws.{PathParts as PathCut, path_before, path_below, path_zero, path_suc, leaves_path}
 use Rattle.calls.specs.Words.{follow}
 use Rattle.calls_laws.proofs.Reader.{length_follow}
 use Rattle.edit_model.specs.Relabel.{Relabelled, relabel, along}
@@ -63,7 +63,7 @@ module _ (ws t : List ℕ) (i c e a x before own after : ℕ) (r_least : 2 ≤ r
   abbrev third : Relabelled
   third = trees_numbered second.words (widths_in t) r (suc i) (cut (at + w (suc i))) (along own ws (along before ws x)) after
 
-  parts : PathParts (s_in t) r i c e (before + (own + after))
+  parts : PathCut (s_in t) r i c e (before + (own + after))
   parts = path_below (s_in t) r_least h
 
   -- the row, part by part
@@ -208,10 +208,10 @@ path_moved ws t j c e a x k =
 module _ {ws t : List ℕ} {j a x count c e : ℕ} (row : RowThere ws x count) (h : PathFit j count c e t) (n : NumbersFit j a t) (low : 1 ≤ j)
     {q : PathParts} (p : PartsAre (s_in t) (r_in t) j count c e q) where
   -- the parts by the height below
-  lower : {G : Type 0} → ((i : ℕ) → j ≡ suc i → PathParts (s_in t) (r_in t) i c e count → G) → G
+  lower : {G : Type 0} → ((i : ℕ) → j ≡ suc i → PathCut (s_in t) (r_in t) i c e count → G) → G
   lower = go j low h.path
     where
-      go : (m : ℕ) → 1 ≤ m → PathFits (r_in t) m c e count → {G : Type 0} → ((i : ℕ) → m ≡ suc i → PathParts (s_in t) (r_in t) i c e count → G) → G
+      go : (m : ℕ) → 1 ≤ m → PathFits (r_in t) m c e count → {G : Type 0} → ((i : ℕ) → m ≡ suc i → PathCut (s_in t) (r_in t) i c e count → G) → G
       go zero some f use_it = absurd (omega arith)
       go (suc i) some f use_it = use_it i refl (path_below (s_in t) h.splits.degree_r f)
 

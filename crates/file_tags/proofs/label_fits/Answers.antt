@@ -1,4 +1,5 @@
 -- `file_tags::label_fits` meets its contract. Assumes nothing.
+use mathlib.Core.List.{[]}
 use native.Mathlib.Omega.{arith}
 use Rattle.walk.proofs.PassLaws.{label_waited, label_settled}
 use Rattle.file_tags.proofs.label_fits.Goals as goal

@@ -13,3 +13,6 @@ pub returns : goal.returns
 returns c =
     tag_stored c.requires.tag_said c.args.bytes.now c.args.at c.words_for-from.ensures c.put_front.ensures c.put_u32.ensures
     c.put_words.ensures
+
+pub slice_bounds-put_words-end : goal.slice_bounds-put_words-end
+slice_bounds-put_words-end c = omega (arith, c.words_for-from.ensures, tag_fits c.requires.tag_said)

@@ -1,10 +1,12 @@
 -- `held_call::answer` meets its contract. Assumes nothing.
 use borrow.Author.Tests.{not-true, not-false, lt-ltb, le-ltb}
 use mathlib.Core.Path.{sym, ◌∙◌}
-use mathlib.Core.Bool.{true, false, and-false}
-use mathlib.Core.Logic.{⊎_elim}
+use mathlib.Core.Bool.{true, false, ◌&&◌, and-false}
+use lib.Dec.{ltb}
+use mathlib.Core.Path.{◌≡◌}
 use Rattle.store_refuse.proofs.Laws.{tag_room}
 use Rattle.held_call.proofs.Pairs.{outdated, other_marked, tells}
+use Rattle.held_call.proofs.answer.Goals.{else-start-label-via-then-start-label+else-label-end, else-start-label-via-else-start-label}
 use Rattle.held_call.proofs.answer.Goals as goal
 
 pub returns-then-not-is_current : goal.returns-then-not-is_current
@@ -22,9 +24,11 @@ label_of-label-requires c = tag_room c.requires.other
 
 pub returns-then-label-end : goal.returns-then-label-end
 returns-then-label-end c =
-    (tells _ _ _ c.requires (sym c.is_current.ensures ∙ not-false _ c.if-not-is_current.false-raw) (rw c.kind_of.ensures at c.if-kind_of-ge-MARK.false) t (rw c.label_of-label.ensures at true)) (rw (lt-ltb _ _ c.if-start-label.true) c.if-label-end.true-raw)
+    (tells _ _ _ c.requires (sym c.is_current.ensures ∙ not-false _ c.if-not-is_current.false-raw) (rw c.kind_of.ensures at c.if-kind_of-ge-MARK.false) true (rw c.label_of-label.ensures at (let it : (ltb c.args.pair.start.0 c.label_of-label.result.0 && ltb c.label_of-label.result.0 c.args.pair.end.0) ≡ true = rw (lt-ltb _ _ c.if-start-label.true) c.if-label-end.true-raw in it)))
 
 pub returns : goal.returns
 returns c =
-    (tells _ _ _ c.requires (sym c.is_current.ensures ∙ not-false _ c.if-not-is_current.false-raw) (rw c.kind_of.ensures at c.if-kind_of-ge-MARK.false) t (rw c.label_of-label.ensures at false))
-    (⊎_elim (λ w. rw (w.3.left, and-false)) (λ w. rw (le-ltb _ _ w.left)) c.else-start-label.branch)
+    (tells _ _ _ c.requires (sym c.is_current.ensures ∙ not-false _ c.if-not-is_current.false-raw) (rw c.kind_of.ensures at c.if-kind_of-ge-MARK.false) false (rw c.label_of-label.ensures at (let it : (ltb c.args.pair.start.0 c.label_of-label.result.0 && ltb c.label_of-label.result.0 c.args.pair.end.0) ≡ false = (elim c.else-start-label.branch [
+      else-start-label-via-then-start-label+else-label-end w ↦ rw (le-ltb _ _ w.if-label-end.false, and-false)
+      | else-start-label-via-else-start-label w ↦ rw (le-ltb _ _ w.if-start-label.false)
+    ]) in it)))

@@ -1,9 +1,10 @@
 -- `held_call::asked` meets its contract. Assumes nothing.
 use borrow.Author.Tests.{leb-true, leb-false}
-use mathlib.Core.Logic.{⊎_elim, inl, inr}
+use mathlib.Core.Logic.{inl, inr}
 use native.Mathlib.Omega.{arith}
 use Rattle.store_refuse.proofs.Laws.{header_room, tag_below, tag_room}
 use Rattle.held_call.proofs.Pairs.{other_book, no_such_tag, not_begin, pair_asked}
+use Rattle.held_call.proofs.asked.Goals.{then-n-section-via-then-n-section, then-n-section-via-else-n-section+then-n-tag}
 use Rattle.held_call.proofs.asked.Goals as goal
 
 pub bounds-words-6 : goal.bounds-words-6
@@ -18,7 +19,10 @@ count_of-n-requires c = header_room _ c.requires
 pub returns-then-n-section : goal.returns-then-n-section
 returns-then-n-section c =
     no_such_tag _ _ _ c.requires c.if-pair-book.false
-    (⊎_elim (λ w. inl (rw c.count_of-n.ensures at w.taken)) (λ w. inr (leb-true _ _ (rw c.count_of-n.ensures at w.2.taken))) c.then-n-section.branch)
+    (elim c.then-n-section.branch [
+      then-n-section-via-then-n-section w ↦ inl (rw c.count_of-n.ensures at w.if-n-section.true)
+      | then-n-section-via-else-n-section+then-n-tag w ↦ inr (rw c.count_of-n.ensures at w.if-n-tag.true)
+    ])
 
 pub kind_of-requires : goal.kind_of-requires
 kind_of-requires c = tag_room (tag_below _ c.requires _ (rw c.count_of-n.ensures at c.if-n-section.false))

@@ -18,11 +18,11 @@ pub next_of-x-requires : goal.next_of-x-requires
 next_of-x-requires c = tag_room (tag_on (c.loop-to.invariant).span (not_same _ _ c.same.ensures c.loop-to-test.true-raw))
 
 pub loop-to-smaller : goal.loop-to-smaller
-loop-to-smaller c = rw c.next_of-x.ensures (pass_falls (counting c).span (on c))
+loop-to-smaller c = rw c.next_of-x.ensures (pass_falls (c.loop-to.invariant).span (not_same _ _ c.same.ensures c.loop-to-test.true-raw))
 
 pub loop-to-preserved : goal.loop-to-preserved
 loop-to-preserved c =
-    rw (c.next_of-x.ensures, c.count_unmarked-count.ensures) (counting_turn (counting c) (on c))
+    rw (c.next_of-x.ensures, c.count_unmarked-count.ensures) (counting_turn (c.loop-to.invariant) (not_same _ _ c.same.ensures c.loop-to-test.true-raw))
 
 pub returns : goal.returns
 returns c = counting_end c.loop-to.invariant (are_same _ _ c.same.ensures c.loop-to-test.false-raw)

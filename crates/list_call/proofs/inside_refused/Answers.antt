@@ -1,15 +1,17 @@
 -- `list_call::inside_refused` meets its contract. Assumes nothing.
 use mathlib.Core.Path.{sym, ◌∙◌}
 use mathlib.Core.Bool.{false}
-use mathlib.Core.Logic.{⊎_elim}
 use Rattle.store_refuse.proofs.Laws.{accepted_says, words_first, header_room, tag_below, tag_room}
 use Rattle.list_call.proofs.ListRefusals.{inside_front, inside_unknown, inside_marked, inside_no_begin, inside_accepted}
+use Rattle.list_call.proofs.inside_refused.Goals.{then-first-ne0-via-then-first-ne0, then-first-ne0-via-else-first-ne0+then-is_none}
 use Rattle.list_call.proofs.inside_refused.Goals as goal
 
 pub returns-then-first-ne0 : goal.returns-then-first-ne0
 returns-then-first-ne0 c =
-    ⊎_elim (λ w. words_first _ _ _ c.words_refused-first.ensures w.taken)
-    (λ w. w.0.left ∙ sym (inside_front _ _ (accepted_says _ _ (sym c.words_refused-first.ensures ∙ w.0.left)) (sym w.1.ensures ∙ w.2.taken))) c.then-first-ne0.branch
+    elim c.then-first-ne0.branch [
+      then-first-ne0-via-then-first-ne0 w ↦ words_first _ _ _ c.words_refused-first.ensures w.if-first-ne0.true
+      | then-first-ne0-via-else-first-ne0+then-is_none w ↦ w.if-first-ne0.false ∙ sym (inside_front _ _ (accepted_says _ _ (sym c.words_refused-first.ensures ∙ w.if-first-ne0.false)) (sym w.is_none.ensures ∙ w.if-is_none.true))
+    ]
 
 pub count_of-requires : goal.count_of-requires
 count_of-requires c = header_room _ (accepted_says _ _ (sym c.words_refused-first.ensures ∙ c.if-first-ne0.false))

@@ -1,6 +1,8 @@
 -- `list_call::list` meets its contract. Assumes nothing.
 use mathlib.Core.Path.{sym, ◌∙◌}
+use Prim.Native.Nat.{◌≤◌}
 use native.Mathlib.Omega.{arith}
+use lib.ListN.{length}
 use Rattle.list_call.specs.Needs.{SpanSaid}
 use Rattle.list_call.proofs.Along.{between_few}
 use Rattle.list_call.proofs.Listed.{span_of}
@@ -24,5 +26,7 @@ overflow_cast-result c = omega (arith, c.write_between-count.ensures.count, betw
 
 pub returns : goal.returns
 returns c = let fits = short_fits _ _ _ c.too_short.ensures c.if-too_short.false in
-    let all = rw (c.write_between-count.ensures.tags, c.write_between-count.ensures.labels)
-    (list_lists _ _ _ _ (sym c.inside_refused-refusal.ensures ∙ c.if-refusal-ne0.false) _ _ c.first_inside-from.ensures c.stop_of-to.ensures _ c.write_between-count.ensures.count (rw c.write_between-count.ensures.count fits.0) (rw c.write_between-count.ensures.count fits.1)) in record { reply = all.0; tags = all.1.0; labels = all.1.1 }
+    let tags_fit : c.write_between-count.result ≤ length c.args.tags.now = rw c.write_between-count.ensures.count fits.0 in
+    let labels_fit : c.write_between-count.result ≤ length c.args.labels.now = rw c.write_between-count.ensures.count fits.1 in
+    rw (c.write_between-count.ensures.tags, c.write_between-count.ensures.labels)
+    (let all = list_lists _ _ _ _ (sym c.inside_refused-refusal.ensures ∙ c.if-refusal-ne0.false) _ _ c.first_inside-from.ensures c.stop_of-to.ensures c.write_between-count.result c.write_between-count.ensures.count tags_fit labels_fit in record { reply = all.0; tags = all.1.0; labels = all.1.1 })

@@ -10,7 +10,8 @@ pub kind_of-requires : goal.kind_of-requires
 kind_of-requires c = tag_room c.requires.tag_said
 
 pub returns-then-kind_of-ge-MARK : goal.returns-then-kind_of-ge-MARK
-returns-then-kind_of-ge-MARK c = let all = rw (one_marked c.requires.tag_said (rw c.kind_of.ensures at c.if-kind_of-ge-MARK.true)) (omega arith, (refl, refl)) in record { next = all.0; tags = all.1.0; labels = all.1.1 }
+returns-then-kind_of-ge-MARK c = rw (one_marked c.requires.tag_said (rw c.kind_of.ensures at c.if-kind_of-ge-MARK.true))
+    (record { next = omega arith; tags = refl; labels = refl })
 
 pub label_of-label-requires : goal.label_of-label-requires
 label_of-label-requires c = tag_room c.requires.tag_said
@@ -23,5 +24,5 @@ bounds-labels-i c = omega (arith, c.requires.tag_in_bounds_2, ap length (one_unm
 
 pub returns : goal.returns
 returns c =
-    let all = rw (one_unmarked c.requires.tag_said (rw c.kind_of.ensures at c.if-kind_of-ge-MARK.false))
-    (refl, (refl, rw (c.label_of-label.ensures ∙ (words_of_tag c.requires.tag_said).label_word))) in record { next = all.0; tags = all.1.0; labels = all.1.1 }
+    rw (one_unmarked c.requires.tag_said (rw c.kind_of.ensures at c.if-kind_of-ge-MARK.false))
+    (record { next = refl; tags = refl; labels = rw (c.label_of-label.ensures ∙ (words_of_tag c.requires.tag_said).label_word) })

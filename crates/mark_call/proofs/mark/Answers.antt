@@ -14,7 +14,8 @@ count_of-n-requires c = (accepted _ _ c.section_refused-refusal.ensures c.if-ref
 pub mark_section-marked-requires : goal.mark_section-marked-requires
 mark_section-marked-requires c =
     let a = accepted _ _ c.section_refused-refusal.ensures c.if-refusal-ne0.false in
-    let all = rw c.count_of-n.ensures (a.tag, a.records) in record { tag = all.0; records = all.1 }
+    rw c.count_of-n.ensures
+    (record { tag = a.tag; records = a.records })
 
 pub stamp_of-stamp-requires : goal.stamp_of-stamp-requires
 stamp_of-stamp-requires c = (done _ _ c.section_refused-refusal.ensures c.if-refusal-ne0.false (rw c.count_of-n.ensures at c.mark_section-marked.ensures.new) (rw c.count_of-n.ensures at c.mark_section-marked.ensures.words)).there

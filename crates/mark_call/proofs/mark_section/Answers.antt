@@ -40,7 +40,19 @@ returns-then-same c = let all = left_last (let it : Turn c.args.n c.mate_of-last
 
 pub next_of-tag-requires : goal.next_of-tag-requires
 next_of-tag-requires c =
-    room_same (room (start (loop-at c)).pre.1 (turn c).tag) (turn_long (turn c))
+    room_same (room c.requires.records (let it : Turn c.args.n c.mate_of-last.result.0 c.args.words.now (tags_of c.args.n c.args.words.now c.args.x.0) c.loop-steps.words c.loop-steps.tag.0 c.loop-steps.marked c.loop-steps.steps c.mark_tag-marked.result c.mark_tag-marked.new.words = record {
+      left = c.loop-steps.invariant;
+      more = c.loop-steps-test.true;
+      tag = ltb-true _ _ c.if-tag-n.true-raw;
+      new = c.mark_tag-marked.ensures.new;
+      put = c.mark_tag-marked.ensures.words;
+    } in it).tag) (turn_long (let it : Turn c.args.n c.mate_of-last.result.0 c.args.words.now (tags_of c.args.n c.args.words.now c.args.x.0) c.loop-steps.words c.loop-steps.tag.0 c.loop-steps.marked c.loop-steps.steps c.mark_tag-marked.result c.mark_tag-marked.new.words = record {
+      left = c.loop-steps.invariant;
+      more = c.loop-steps-test.true;
+      tag = ltb-true _ _ c.if-tag-n.true-raw;
+      new = c.mark_tag-marked.ensures.new;
+      put = c.mark_tag-marked.ensures.words;
+    } in it))
 
 pub overflow_add-steps : goal.overflow_add-steps
 overflow_add-steps c = omega arith

@@ -56,8 +56,9 @@ loop-steps-smaller c = omega arith
 pub loop-steps-preserved : goal.loop-steps-preserved
 loop-steps-preserved c =
     let near : label_at c.loop-steps.words c.loop-steps.tag.0 < c.args.bound = omega (arith, c.label_of-label.ensures, c.if-bound-label.false) in
-    let done = rw (c.raised.ensures, c.label_of-label.ensures) at (c.number_leaf-moved.ensures.words, c.number_leaf-moved.ensures.moved) in
-    shift_on c.loop-steps.invariant c.loop-steps-test.true (ltb-true _ _ c.if-tag-n.true-raw) near c.number_leaf-moved.new.words c.number_leaf-moved.result c.next_of-tag.result.0 done.0 done.1 c.next_of-tag.ensures
+    let put = rw (c.raised.ensures, c.label_of-label.ensures) at c.number_leaf-moved.ensures.words in
+    let counted = rw (c.raised.ensures, c.label_of-label.ensures) at c.number_leaf-moved.ensures.moved in
+    shift_on c.loop-steps.invariant c.loop-steps-test.true (ltb-true _ _ c.if-tag-n.true-raw) near c.number_leaf-moved.new.words c.number_leaf-moved.result c.next_of-tag.result.0 put counted c.next_of-tag.ensures
 
 pub shape_of-words-else-tag-n : goal.shape_of-words-else-tag-n
 shape_of-words-else-tag-n c = c.loop-steps.invariant.long

@@ -15,7 +15,7 @@ at_least-requires c = (let it : Records c.args.words.now c.count_of-n.result = r
 
 pub prior_of-tag-requires : goal.prior_of-tag-requires
 prior_of-tag-requires c =
-    room (let it : Records c.args.words.now c.count_of-n.result = rw c.count_of-n.ensures c.requires in it) (left_below c.loop-steps.invariant c.loop-steps-test.true c.at_least_lem.ensures c.if-at_least.true)
+    room (let it : Records c.args.words.now c.count_of-n.result = rw c.count_of-n.ensures c.requires in it) (left_below c.loop-steps.invariant c.loop-steps-test.true c.at_least.ensures c.if-at_least.true)
 
 pub overflow_add-steps : goal.overflow_add-steps
 overflow_add-steps c = omega arith
@@ -25,11 +25,11 @@ loop-steps-smaller c = omega arith
 
 pub loop-steps-preserved : goal.loop-steps-preserved
 loop-steps-preserved c =
-    left_on c.loop-steps.invariant c.loop-steps-test.true c.at_least_lem.ensures c.if-at_least.true c.prior_of-tag.ensures
+    left_on c.loop-steps.invariant c.loop-steps-test.true c.at_least.ensures c.if-at_least.true c.prior_of-tag.ensures
 
 pub returns-else-at_least : goal.returns-else-at_least
 returns-else-at_least c =
-    let whole = left_stops c.loop-steps.invariant c.loop-steps-test.true c.at_least_lem.ensures c.if-at_least.false in
+    let whole = left_stops c.loop-steps.invariant c.loop-steps-test.true c.at_least.ensures c.if-at_least.false in
     rw (← c.count_of-n.ensures) (record { tag_is = whole.0; steps_are = whole.1 })
 
 pub returns-after-loop-steps : goal.returns-after-loop-steps
