@@ -161,3 +161,89 @@ pub fn status(rt: &impl Eprint, ran: Result<(), Stopped>) -> ExitCode {
         }
     }
 }
+
+#[cfg(test)]
+mod tests {
+    use super::*;
+    use std::test::Fail;
+
+    // Gives its bytes three at a time; a signal interrupts each read once. Behind the last byte it ends, or fails.
+    #[derive(Drop)]
+    struct Trickle<'a> {
+        left: &'a [u8],
+        interrupted: bool,
+        fails: bool,
+    }
+
+    impl Read for Trickle<'_> {
+        fn read(&mut self, buf: &mut [u8]) -> io::Result<usize> {
+            self.interrupted = !self.interrupted;
+            if self.interrupted {
+                return Err(io::Error::from(ErrorKind::Interrupted));
+            }
+            if self.left.is_empty() && self.fails {
+                return Err(io::Error::from(ErrorKind::BrokenPipe));
+            }
+            let n = buf.len().min(3);
+            self.left.read(&mut buf[..n])
+        }
+    }
+
+    fn trickling(left: &[u8], fails: bool) -> Trickle<'_> {
+        Trickle {
+            left,
+            interrupted: false,
+            fails,
+        }
+    }
+
+    // The printed book, by pieces that end anywhere.
+    #[test]
+    fn prints_the_book(rt: HostRuntime) -> Result<(), Fail> {
+        let mut input = trickling(b"load 2 2 7 BBEBEE\ntext 2\ntext 2\nlist", false);
+        let mut output = Vec::new(rt.alloc());
+        let ran = run(&mut input, &mut output);
+        assert!(rt; ran.is_ok());
+        let want =
+            b"ok 6 2\nok 6 1 0\nok 7 4 2\n0 0\n1 1\n2 3\n7 4\n6 9\n3 10\n4 12\n5 13\nend 8\n";
+        assert_eq!(rt; output.as_slice(), want.as_slice());
+        Ok(())
+    }
+
+    // Whole lines in front of a read that fails are answered, and what is in hand is not.
+    #[test]
+    fn stops_at_a_read(rt: HostRuntime) -> Result<(), Fail> {
+        let mut input = trickling(b"list\n\nmark front", true);
+        let mut output = Vec::new(rt.alloc());
+        let ran = run(&mut input, &mut output);
+        assert!(rt; matches!(ran, Err(Stopped::Input(_))));
+        assert_eq!(rt; output.as_slice(), b"no 2\n?\n".as_slice());
+        Ok(())
+    }
+
+    // A writer that has no room left is not asked again.
+    #[test]
+    fn stops_at_a_write(rt: HostRuntime) {
+        let mut input = trickling(b"list\n\nmark front", false);
+        let mut room = [0u8; 6];
+        let mut output = &mut room[..];
+        let ran = run(&mut input, &mut output);
+        assert!(rt; matches!(ran, Err(Stopped::Output(_))));
+        assert_eq!(rt; room.as_slice(), b"no 2\n?".as_slice());
+    }
+
+    #[test]
+    fn says_what_failed(rt: HostRuntime) -> Result<(), Fail> {
+        let e = Stopped::Input(io::Error::from_raw_os_error(5));
+        assert_eq!(rt;
+            format!(in rt.alloc(); "{e}")?.as_str(),
+            "book: standard input: Input/output error (os error 5)"
+        );
+        let e = Stopped::Output(io::Error::from_raw_os_error(28));
+        assert_eq!(rt;
+            format!(in rt.alloc(); "{e}")?.as_str(),
+            "book: standard output: No space left on device (os error 28)"
+        );
+        Ok(())
+    }
+}
