@@ -6,6 +6,8 @@
 // document 01 and document 02, CR 4.
 #![tactic(auto)]
 
-fn main() {
-    terminal::run();
+use std::process::ExitCode;
+
+fn main(rt: HostRuntime) -> ExitCode {
+    terminal::status(&rt, terminal::run(&mut rt.stdin(), &mut rt.stdout()))
 }

@@ -74,6 +74,16 @@ pub record Ends (cs : List ℕ) (e f g : ℕ) : Type 0 where
   pub goes_further : f ≡ length cs → ⊥
   pub third : g ≡ f + 1 + first_space (drop (f + 1) cs)
 
+pub ends : {cs : List ℕ} {e f g : ℕ} → e ≡ 0 + first_space (drop 0 cs) → (e ≡ length cs → ⊥) → f ≡ e + 1 + first_space (drop (e + 1) cs) → (f ≡ length cs → ⊥) → g ≡ f + 1 + first_space (drop (f + 1) cs) → Ends cs e f g
+ends p m q n r = record { first = p; goes_on = m; second = q; goes_further = n; third = r }
+
+-- so more stands behind the first, and the second
+pub one_within : (cs : List ℕ) (e : ℕ) → e ≡ 0 + first_space (drop 0 cs) → (e ≡ length cs → ⊥) → e + 1 ≤ length cs
+one_within cs e q n = omega (arith, field_within cs 0 e (omega arith) q, n)
+
+pub two_within : (cs : List ℕ) (e f : ℕ) → e ≡ 0 + first_space (drop 0 cs) → (e ≡ length cs → ⊥) → f ≡ e + 1 + first_space (drop (e + 1) cs) → (f ≡ length cs → ⊥) → f + 1 ≤ length cs
+two_within cs e f q n p m = omega (arith, field_within cs (e + 1) f (one_within cs e q n) p, m)
+
 abbrev pub part : List ℕ → ℕ → ℕ → List ℕ
 part cs i e = take (e - i) (drop i cs)
 
@@ -89,10 +99,10 @@ load_two cs e f q n p l = rw (field_next cs 0 e (omega arith) q n, field_last cs
 -- THREE, and what follows
 module _ (cs : List ℕ) (e f g : ℕ) (at : Ends cs e f g) where
   pub first_within : e + 1 ≤ length cs
-  first_within = omega (arith, field_within cs 0 e (omega arith) at.first, at.goes_on)
+  first_within = one_within cs e at.first at.goes_on
 
   pub second_within : f + 1 ≤ length cs
-  second_within = omega (arith, field_within cs (e + 1) f first_within at.second, at.goes_further)
+  second_within = two_within cs e f at.first at.goes_on at.second at.goes_further
 
   pub third_within : g ≤ length cs
   third_within = field_within cs (f + 1) g second_within at.third

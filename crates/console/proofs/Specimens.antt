@@ -2,7 +2,6 @@
 use mathlib.Core.Path.{◌≡◌, refl}
 use mathlib.Core.List.{map}
 use Rattle.lists.specs.Lists.{same, with_first}
-use Rattle.lists.specs.Texts.{bytes}
 use Rattle.console_fields.specs.Field.{is_digit, all_digits, value_from, well_begun, number_of, is_letter, all_letters, letter_kind}
 use Rattle.console.specs.Line.{fields, number_or_front, load_of, insert_of, mark_of, command_of, parsed}
 use Rattle.console.specs.Specimens.{readings}

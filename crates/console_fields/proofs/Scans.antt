@@ -1,4 +1,4 @@
--- What is found in a line: by the library's search and comparison, and digit by digit. Assumes nothing.
+-- What is found in a line, byte by byte. Assumes nothing.
 use mathlib.Core.Path.{◌≡◌, refl, sym}
 use mathlib.Core.Bool.{Bool, true, false, ◌&&◌, cond, and-false}
 use mathlib.Core.List.{List, [], ◌∷◌}
@@ -8,27 +8,35 @@ use native.Mathlib.Numerals.{add-one}
 use native.Mathlib.Omega.{arith}
 use borrow.Author.Tests.{eq-eqb, ne_eqb, lt-ltb, le-ltb, le-leb, lt-leb, ltb-true, ltb-false}
 use lib.Dec.{ltb, eqb}
+use lib.Pointwise.{pointwise}
 use lib.ListN.{length, get_or, drop, drop_of_length-le}
-use lib.Seq.{drop-cons, take_all}
+use lib.Seq.{drop-cons}
+use Rattle.lists.specs.Lists.{same}
 use Rattle.store_types.specs.Limits.{word_limit}
-use Rattle.bytes.specs.Bytes.{index_of, index_after, slice}
 use Rattle.console_fields.specs.Field.{is_digit, all_digits, value_from, well_begun, number_of}
 use Rattle.console_fields.specs.Scan.{first_space, scanned}
 
 -- SPACES
-index_space : (cs : List ℕ) → index_of 32 cs ≡ first_space cs
-unfolding index_of index_after first_space
-index_space [] = refl
-index_space (c ∷ cs) = rw (index_space cs) (go (eqb c 32))
-  where
-    go : (t : Bool) → index_after t (first_space cs) ≡ cond t 0 (suc (first_space cs))
-    go true = refl
-    go false = refl
+module _ (cs : List ℕ) (i : ℕ) where
+  pub space_here : i < length cs → get_or cs i 0 ≡ 32 → first_space (drop i cs) ≡ 0
+  unfolding first_space
+  space_here l e = rw (drop-cons cs i 0 l, eq-eqb (get_or cs i 0) 32 e)
 
--- the space that is found between a place and the end
-pub space_found : (cs : List ℕ) (i : ℕ) → i + index_of 32 (slice i (length cs) cs) ≡ i + first_space (drop i cs)
-unfolding slice
-space_found cs i = rw (take_all (length cs) cs (omega arith), index_space (drop i cs))
+  pub space_turn : i < length cs → (get_or cs i 0 ≡ 32 → ⊥) → first_space (drop i cs) ≡ suc (first_space (drop (i + 1) cs))
+  unfolding first_space
+  space_turn l n = rw (add-one i, drop-cons cs i 0 l, ne_eqb (get_or cs i 0) 32 n)
+
+  pub space_end : length cs ≤ i → first_space (drop i cs) ≡ 0
+  unfolding first_space
+  space_end l = rw (drop_of_length-le cs l)
+
+-- WORDS
+pub pointwise_same : (xs ys : List ℕ) → pointwise eqb xs ys ≡ same xs ys
+unfolding same
+pointwise_same [] [] = refl
+pointwise_same [] (y ∷ ys) = refl
+pointwise_same (x ∷ xs) [] = refl
+pointwise_same (x ∷ xs) (y ∷ ys) = rw (pointwise_same xs ys) refl
 
 -- DIGITS
 pub scan_turn : (v : ℕ) (cs : List ℕ) (i : ℕ) → i < length cs → 48 ≤ get_or cs i 0 → get_or cs i 0 ≤ 57 → v * 10 + (get_or cs i 0 - 48) < word_limit →

@@ -8,11 +8,16 @@ pub fn field_end(line: &[u8], from: usize) -> usize
     requires { from ≤ length line.now }
     ensures { result ≡ from + first_space (drop from line.now) }
 {
-    bytes::scan::find(line, from, line.len(), b' ')
+    for i in from..line.len() {
+        if line[i] == b' ' {
+            return i;
+        }
+    }
+    line.len()
 }
 
 pub fn same_bytes(a: &[u8], b: &[u8]) -> bool
     ensures { result ≡ same a.now b.now }
 {
-    check::same(a, b)
+    a == b
 }

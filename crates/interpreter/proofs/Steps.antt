@@ -6,7 +6,7 @@ use Prim.Native.Nat.{ℕ, suc, ◌+◌, ◌≤◌, ◌<◌, min}
 use native.Mathlib.Omega.{arith}
 use lib.Dec.{eqb}
 use lib.ListN.{length, take, drop, length-append, length-drop, length-take}
-use lib.Seq.{drop-drop}
+use lib.Seq.{take_at, drop-drop}
 use Rattle.reply_text.specs.Post.{Written}
 use Rattle.line_reader.specs.Gather.{stretch, has_feed, Gathers}
 use Rattle.line_reader.specs.Reads.{last_line, in_hand}
@@ -107,3 +107,7 @@ module _ {held ws line ws' out out' : List ℕ} {at h text : ℕ} (piece : List 
 
 pub text_within : {out bytes after : List ℕ} {e : ℕ} → Written out 0 bytes after e → e ≤ length after
 text_within {out} {bytes} {after} {e} w = omega (arith, w.behind, ap length w.text ∙ length-append bytes (drop (0 + length bytes) out))
+
+-- and is what stands in front there
+pub text_written : {out bytes after : List ℕ} {e : ℕ} → Written out 0 bytes after e → take e after ≡ bytes
+text_written {out} {bytes} {after} {e} w = rw w.text (take_at bytes (drop (0 + length bytes) out) e (omega (arith, w.behind)))

@@ -4,9 +4,9 @@ use mathlib.Core.List.{List, [], ◌∷◌, ◌++◌, append_assoc, append-nil}
 use Prim.Native.Nat.{ℕ, zero, suc, ◌+◌, ◌-◌, ◌≤◌, ◌<◌}
 use native.Mathlib.Numerals.{add-one}
 use native.Mathlib.Omega.{arith}
-use lib.ListN.{length, take, drop, set, length-append, length-drop, drop_of_length-le}
-use lib.Seq.{take_at, drop_at, drop-drop, set_split, length-take-le, take-length, take_all}
-use borrow.Rule.Slice.PartMut.{mid_of, post_of, put_mid, Post-is}
+use lib.ListN.{length, take, drop, set, length-append}
+use lib.Seq.{take_at, drop_at, drop-drop, set_split, length-take-le}
+use borrow.Rule.Slice.PartMut.{put_mid, Post-is}
 use Rattle.reply_text.specs.Text.{decimal, spaced, reply_line}
 use Rattle.reply_text.specs.Post.{Written}
 
@@ -14,15 +14,11 @@ use Rattle.reply_text.specs.Post.{Written}
 pub writes_byte : (out : List ℕ) (at b : ℕ) → at < length out → Written out at (b ∷ []) (set out at b) (at + 1)
 writes_byte out at b l = record { text = rw (set_split out at b l, add-one at); behind = refl }
 
--- bytes copied to the front of what stands from a place on
-pub writes_copied : (out : List ℕ) (at : ℕ) (bs ys : List ℕ) (n : ℕ) → at ≤ length out → n ≡ length bs →
-    ys ≡ take (length bs) bs ++ drop (length bs) (mid_of at (length out - at) out) → Written out at bs (put_mid at (length out - at) out ys) (at + n)
-writes_copied out at bs ys n l e copied =
-    let part : mid_of at (length out - at) out ≡ drop at out = take_all (length out - at) (drop at out) (omega (arith, length-drop at out)) in
-    let whole : length out ≤ length out = omega arith in
-    let none : post_of at (length out - at) out ≡ [] = Post-is at (length out) out l ∙ drop_of_length-le out whole in
-    let put : ys ≡ bs ++ drop (at + length bs) out = copied ∙ rw (part, take-length bs, drop-drop) in
-    record { text = rw (none, put, append-nil); behind = rw e }
+-- bytes copied to a place that has as many
+pub writes_copied : (out : List ℕ) (at : ℕ) (bs ys : List ℕ) → ys ≡ bs → Written out at bs (put_mid at (at + length bs - at) out ys) (at + length bs)
+writes_copied out at bs ys e =
+    let l : at ≤ at + length bs = omega arith in
+    record { text = rw (Post-is at (at + length bs) out l, e); behind = refl }
 
 -- xs, and ys behind them
 pub writes_both : {out middle after xs ys : List ℕ} {at e f : ℕ} → at + length xs ≤ length out → Written out at xs middle e → Written middle e ys after f → Written out at (xs ++ ys) after f

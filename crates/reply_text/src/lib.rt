@@ -17,8 +17,9 @@ fn put_bytes(out: &mut [u8], at: usize, bytes: &[u8]) -> usize
     requires { at + length bytes.now ≤ length out.old }
     ensures { Written out.old at bytes.now out.new result }
 {
-    let n = bytes::copy(bytes, &mut out[at..]);
-    at + n
+    let end = at + bytes.len();
+    out[at..end].copy_from_slice(bytes);
+    end
 }
 
 // The digits of a number, the highest first. A word has at most ten.

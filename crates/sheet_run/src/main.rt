@@ -2,61 +2,61 @@
 // worked out by hand from document 02, CR 1.
 #![tactic(auto)]
 
-use libc::STDOUT_FILENO;
+use std::io;
 use xml::SheetReply;
 
-fn number(n: u64) {
-    io::write_all(STDOUT_FILENO, b" ");
-    io::print_decimal(STDOUT_FILENO, n);
+fn number(rt: &impl Print, n: u64) -> io::Result<()> {
+    print!(rt; " {n}")
 }
 
-fn kind(k: u8) {
-    number(k as u64);
+fn kind(rt: &impl Print, k: u8) -> io::Result<()> {
+    number(rt, k as u64)
 }
 
-fn show(kinds: &[u8]) {
+fn show(rt: &impl Print, kinds: &[u8]) -> io::Result<()> {
     let mut i: usize = 0;
     while i < kinds.len() {
-        kind(kinds[i]);
+        kind(rt, kinds[i])?;
         i += 1;
     }
+    Ok(())
 }
 
 // The reply, and all that the list then holds.
-fn sheet(text: &[u8], kinds: &mut [u8]) {
-    io::write_all(STDOUT_FILENO, b"sheet");
+fn sheet(rt: &impl Print, text: &[u8], kinds: &mut [u8]) -> io::Result<()> {
+    print!(rt; "sheet")?;
     match xml_read::xml_kinds(text, kinds) {
-        SheetReply::Kinds(n) => number(n as u64),
+        SheetReply::Kinds(n) => number(rt, n as u64)?,
         SheetReply::Refused(k) => {
-            io::write_all(STDOUT_FILENO, b" no");
-            number(k as u64);
+            print!(rt; " no")?;
+            number(rt, k as u64)?;
         }
     }
-    io::write_all(STDOUT_FILENO, b" :");
-    show(kinds);
-    io::write_all(STDOUT_FILENO, b"\n");
+    print!(rt; " :")?;
+    show(rt, kinds)?;
+    println!(rt; "")
 }
 
 // With a list of eight, so that what is not written shows.
-fn eight(text: &[u8]) {
+fn eight(rt: &impl Print, text: &[u8]) -> io::Result<()> {
     let mut kinds = [9u8; 8];
-    sheet(text, &mut kinds);
+    sheet(rt, text, &mut kinds)
 }
 
-fn sheets() {
-    eight(b"");
-    eight(b" ");
-    eight(b"<a/>");
-    eight(b"<a>t<b/>u<!--c-->v<![CDATA[w]]>&gt;</a>");
-    eight(b"]]<!---->>");
-    eight(b"<a b = \"1\" c='&lt;\"]]>'/>");
-    eight(b"<!-- a--->");
-    eight(b"<a b=\"1\" c=\"2\" b=\"3\"/>");
-    eight(b"<a></b><?c?>");
-    eight(b"<a/>\x80");
-    eight(b"<!DOCTYP");
-    eight(b"<!DOCTYPEx");
-    eight(b"<a><?b?></a>");
+fn sheets(rt: &impl Print) -> io::Result<()> {
+    eight(rt, b"")?;
+    eight(rt, b" ")?;
+    eight(rt, b"<a/>")?;
+    eight(rt, b"<a>t<b/>u<!--c-->v<![CDATA[w]]>&gt;</a>")?;
+    eight(rt, b"]]<!---->>")?;
+    eight(rt, b"<a b = \"1\" c='&lt;\"]]>'/>")?;
+    eight(rt, b"<!-- a--->")?;
+    eight(rt, b"<a b=\"1\" c=\"2\" b=\"3\"/>")?;
+    eight(rt, b"<a></b><?c?>")?;
+    eight(rt, b"<a/>\x80")?;
+    eight(rt, b"<!DOCTYP")?;
+    eight(rt, b"<!DOCTYPEx")?;
+    eight(rt, b"<a><?b?></a>")
 }
 
 // Start tags one in another, as far as the text has room.
@@ -70,30 +70,30 @@ fn nest(text: &mut [u8]) {
 }
 
 // 64 elements are open: then a whole tag, one that is not whole, and <?.
-fn deep() {
+fn deep(rt: &impl Print) -> io::Result<()> {
     let mut whole = [0u8; 195];
     let mut broken = [0u8; 194];
     nest(&mut whole);
     nest(&mut broken);
-    eight(&whole);
-    eight(&broken);
+    eight(rt, &whole)?;
+    eight(rt, &broken)?;
     whole[193] = b'?';
-    eight(&whole);
+    eight(rt, &whole)
 }
 
 // Lists that are too short, just long enough and longer; the text's own refusal comes before a short list's.
-fn lists() {
+fn lists(rt: &impl Print) -> io::Result<()> {
     let mut two = [9u8; 2];
     let mut three = [9u8; 3];
     let mut five = [9u8; 5];
-    sheet(b"<a>x</a>", &mut two);
-    sheet(b"<a>x</a>", &mut three);
-    sheet(b"<a>x</a>", &mut five);
-    sheet(b"<a>x", &mut two);
+    sheet(rt, b"<a>x</a>", &mut two)?;
+    sheet(rt, b"<a>x</a>", &mut three)?;
+    sheet(rt, b"<a>x</a>", &mut five)?;
+    sheet(rt, b"<a>x", &mut two)
 }
 
-fn main() {
-    sheets();
-    deep();
-    lists();
+fn main(rt: HostRuntime) -> io::Result<()> {
+    sheets(&rt)?;
+    deep(&rt)?;
+    lists(&rt)
 }

@@ -1,63 +1,85 @@
-// The interpreter over standard input and standard output. No contract can say which bytes the C library reads and writes;
-// what is printed of what was read is crate interpreter's.
+// The interpreter over a reader and a writer, as standard input and standard output are. What is printed of what was read is
+// crate interpreter's.
 #![tactic(auto)]
 
-ghost use Rattle.std.specs.Prelude.{◌≡◌, true, [], ◌≤◌, length, take};
-ghost use Rattle.io.specs.Counts.{IsPrefixLen};
+ghost use Rattle.std.specs.Prelude.{◌≡◌, ◌<◌, ◌≤◌, [], length, take, IfOk, IfSome, OnOk};
+ghost use Rattle.std.specs.Io.{ReadsAtMost};
+ghost use Rattle.std.specs.Io.KnownBytes.{Appends, Consumes, IsAtEnd};
+ghost use Rattle.line_reader.specs.Lines.{lines};
+ghost use Rattle.line_reader.specs.Reads.{last_line};
 ghost use Rattle.interpreter.specs.Answer.{first_words};
-ghost use Rattle.interpreter.specs.Session.{Passed, Led};
+ghost use Rattle.interpreter.specs.Session.{texts, Passed, Led};
+ghost use Rattle.terminal.specs.Talk.{PassedOut, Told};
 
 use interpreter::{BOOK_WORDS, LINE_BUFFER, OUT_SIZE};
-use libc::{STDIN_FILENO, STDOUT_FILENO};
+use std::fmt;
+use std::io::{self, ErrorKind, Read, Write};
+use std::process::ExitCode;
 
-// How many bytes of a line are in hand, and whether all was printed.
-#[derive(Clone, Copy)]
-struct Served {
-    held: usize,
-    printed: bool,
+// How many bytes of input are asked for at once.
+const PIECE: usize = 65536;
+
+// What ends a run before its input ends: a read or a write that failed.
+#[derive(Debug, Drop)]
+pub enum Stopped {
+    Input(io::Error),
+    Output(io::Error),
 }
 
-// The front of a buffer, written whole. That the bytes went out is what `io::write_all` says by its bool; it has no contract,
-// so that nothing is proved of it here.
-fn print(out: &[u8], count: usize) -> bool
-    requires { count ≤ length out.now }
-{
-    let printed = io::write_all(STDOUT_FILENO, &out[..count]);
-    if !printed {
-        os::fail(b"book: standard output");
+impl fmt::Display for Stopped {
+    fn fmt<W: fmt::Write>(&self, f: &mut fmt::Formatter<W>) -> fmt::Result {
+        match self {
+            Stopped::Input(e) => write!(f, "book: standard input: {e}"),
+            Stopped::Output(e) => write!(f, "book: standard output: {e}"),
+        }
     }
-    printed
 }
 
-// One piece of the input; none at its end, or where it cannot be read. A read that a signal interrupts is made again: a
-// proved loop has to end, so that the tries are counted down from a number that no run uses up.
-fn read_piece(buffer: &mut [u8]) -> usize
-    ensures { IsPrefixLen result buffer.new }
+// The front of a buffer, written whole.
+fn print<W: Write>(output: &mut W, out: &[u8], count: usize) -> Result<(), Stopped>
+    requires { count ≤ length out.now }
+    ensures { OnOk result (Appends (W.contents output.old) (W.contents output.new) (take count out.now)) }
+{
+    match output.write_all(&out[..count]) {
+        Ok(()) => Ok(()),
+        Err(e) => Err(Stopped::Output(e)),
+    }
+}
+
+// One piece of the input; none at its end. A read that a signal interrupts is made again: a proved loop has to end, so that
+// the tries are counted down from a number that no run uses up.
+fn read_piece<R: Read>(input: &mut R, buffer: &mut [u8]) -> Result<usize, Stopped>
+    ensures bound { ReadsAtMost result buffer.new }
+    ensures bytes { IfOk result (λ n. Consumes (R.remaining input.old) (R.remaining input.new) (take n buffer.new)) }
+    ensures end { IfOk result (λ n. n ≡ 0 → 0 < length buffer.old → IsAtEnd (R.remaining input.new)) }
 {
     let mut tries = u64::MAX;
     while tries > 0 {
-        let got = libc::read(STDIN_FILENO, buffer);
-        if got >= 0 {
-            return io::count(got, buffer);
-        }
-        if os::errno() != libc::EINTR {
-            os::fail(b"book: standard input");
-            return 0;
+        match input.read(buffer) {
+            Ok(n) => return Ok(n),
+            Err(e) => {
+                if e.kind() != ErrorKind::Interrupted {
+                    return Err(Stopped::Input(e));
+                }
+            }
         }
         tries -= 1;
     }
-    0
+    Err(Stopped::Input(io::Error::from(ErrorKind::Interrupted)))
 }
 
-// Every line that ends in a piece is answered; what is then in hand and in the store is what the session's steps leave.
-fn serve(
+// Every line that ends in a piece is answered. How many bytes of a line are then in hand; what they and the store are is what
+// the session's steps leave.
+fn serve<W: Write>(
     piece: &[u8],
     line: &mut [u8; LINE_BUFFER],
     held: usize,
     words: &mut [u32],
     out: &mut [u8; OUT_SIZE],
-) -> Served
-    ensures { result.printed ≡ true → Passed (take held line.old) words.old piece.now (take result.held line.new) words.new }
+    output: &mut W,
+) -> Result<usize, Stopped>
+    ensures passed { IfOk result (λ h. Passed (take held line.old) words.old piece.now (take h line.new) words.new) }
+    ensures printed { IfOk result (λ h. PassedOut (take held line.old) words.old piece.now (take h line.new) words.new (W.contents output.old) (W.contents output.new)) }
 {
     let mut at: usize = 0;
     let mut h = held;
@@ -65,55 +87,49 @@ fn serve(
         let s = interpreter::step(piece, at, line, h, words, out);
         h = s.held;
         at = s.at;
-        if !print(out, s.text) {
-            return Served {
-                held: 0,
-                printed: false,
-            };
-        }
+        print(output, out, s.text)?;
     }
-    Served {
-        held: h,
-        printed: true,
-    }
+    Ok(h)
 }
 
-// Piece by piece to the end of the input. How many bytes of a last line are in hand, and whether all was printed; where it
-// was, some pieces have led from the words at first to what is in hand and in the store.
-fn serve_all(line: &mut [u8; LINE_BUFFER], words: &mut [u32], out: &mut [u8; OUT_SIZE]) -> Served
-    ensures { result.printed ≡ true → Led [] words.old (take result.held line.new) words.new }
+// Piece by piece to the end of the input. How many bytes of a last line are in hand; some pieces have led from the words at
+// first to what is in hand and in the store.
+fn serve_all<R: Read, W: Write>(
+    input: &mut R,
+    line: &mut [u8; LINE_BUFFER],
+    words: &mut [u32],
+    out: &mut [u8; OUT_SIZE],
+    output: &mut W,
+) -> Result<usize, Stopped>
+    ensures led { IfOk result (λ h. Led [] words.old (take h line.new) words.new) }
+    ensures told { IfOk result (λ h. Told words.old (take h line.new) words.new (R.remaining input.old) (R.remaining input.new) (W.contents output.old) (W.contents output.new)) }
 {
-    let mut buffer = io::large_buffer();
+    let mut buffer = [0u8; PIECE];
     let mut held: usize = 0;
     let mut pieces = u64::MAX;
     while pieces > 0 {
-        let n = read_piece(&mut buffer);
+        let n = read_piece(input, &mut buffer)?;
         if n == 0 {
-            return Served {
-                held: held,
-                printed: true,
-            };
+            return Ok(held);
         }
-        let served = serve(&buffer[..n], line, held, words, out);
-        if !served.printed {
-            return Served {
-                held: 0,
-                printed: false,
-            };
-        }
-        held = served.held;
+        held = serve(&buffer[..n], line, held, words, out, output)?;
         pieces -= 1;
     }
-    Served {
-        held: held,
-        printed: true,
-    }
+    Err(Stopped::Input(io::Error::from(ErrorKind::Other)))
 }
 
 // The end of the input: a last line that lacks its line feed.
-fn serve_last(line: &[u8; LINE_BUFFER], held: usize, words: &mut [u32], out: &mut [u8; OUT_SIZE]) {
+fn serve_last<W: Write>(
+    line: &[u8; LINE_BUFFER],
+    held: usize,
+    words: &mut [u32],
+    out: &mut [u8; OUT_SIZE],
+    output: &mut W,
+) -> Result<(), Stopped>
+    ensures { OnOk result (Appends (W.contents output.old) (W.contents output.new) (texts words.old (last_line (take held line.now)))) }
+{
     let n = interpreter::finish(line, held, words, out);
-    print(out, n);
+    print(output, out, n)
 }
 
 // The store that a run starts from: all words 0.
@@ -123,13 +139,111 @@ fn first_words() -> [u32; BOOK_WORDS]
     [0u32; BOOK_WORDS]
 }
 
-// All of standard input, over that store.
-pub fn run() {
+// All of an input, over that store.
+pub fn run<R: Read, W: Write>(input: &mut R, output: &mut W) -> Result<(), Stopped>
+    ensures { OnOk result (IfSome (R.remaining input.old)
+        (λ xs. Appends (W.contents output.old) (W.contents output.new) (texts first_words (lines xs)))) }
+{
     let mut words = first_words();
     let mut line = [0u8; LINE_BUFFER];
     let mut out = [0u8; OUT_SIZE];
-    let served = serve_all(&mut line, &mut words, &mut out);
-    if served.printed {
-        serve_last(&line, served.held, &mut words, &mut out);
+    let held = serve_all(input, &mut line, &mut words, &mut out, output)?;
+    serve_last(&line, held, &mut words, &mut out, output)
+}
+
+// How a program ends behind a run: with status 0; where the run was stopped, with 1, and a message on standard error.
+pub fn status(rt: &impl Eprint, ran: Result<(), Stopped>) -> ExitCode {
+    match ran {
+        Ok(()) => ExitCode::SUCCESS,
+        Err(e) => {
+            let _ = eprintln!(rt; "{e}");
+            ExitCode::FAILURE
+        }
+    }
+}
+
+#[cfg(test)]
+mod tests {
+    use super::*;
+    use std::test::Fail;
+
+    // Gives its bytes three at a time; a signal interrupts each read once. Behind the last byte it ends, or fails.
+    #[derive(Drop)]
+    struct Trickle<'a> {
+        left: &'a [u8],
+        interrupted: bool,
+        fails: bool,
+    }
+
+    impl Read for Trickle<'_> {
+        fn read(&mut self, buf: &mut [u8]) -> io::Result<usize> {
+            self.interrupted = !self.interrupted;
+            if self.interrupted {
+                return Err(io::Error::from(ErrorKind::Interrupted));
+            }
+            if self.left.is_empty() && self.fails {
+                return Err(io::Error::from(ErrorKind::BrokenPipe));
+            }
+            let n = buf.len().min(3);
+            self.left.read(&mut buf[..n])
+        }
+    }
+
+    fn trickling(left: &[u8], fails: bool) -> Trickle<'_> {
+        Trickle {
+            left,
+            interrupted: false,
+            fails,
+        }
+    }
+
+    // The printed book, by pieces that end anywhere.
+    #[test]
+    fn prints_the_book(rt: HostRuntime) -> Result<(), Fail> {
+        let mut input = trickling(b"load 2 2 7 BBEBEE\ntext 2\ntext 2\nlist", false);
+        let mut output = Vec::new(rt.alloc());
+        let ran = run(&mut input, &mut output);
+        assert!(rt; ran.is_ok());
+        let want =
+            b"ok 6 2\nok 6 1 0\nok 7 4 2\n0 0\n1 1\n2 3\n7 4\n6 9\n3 10\n4 12\n5 13\nend 8\n";
+        assert_eq!(rt; output.as_slice(), want.as_slice());
+        Ok(())
+    }
+
+    // Whole lines in front of a read that fails are answered, and what is in hand is not.
+    #[test]
+    fn stops_at_a_read(rt: HostRuntime) -> Result<(), Fail> {
+        let mut input = trickling(b"list\n\nmark front", true);
+        let mut output = Vec::new(rt.alloc());
+        let ran = run(&mut input, &mut output);
+        assert!(rt; matches!(ran, Err(Stopped::Input(_))));
+        assert_eq!(rt; output.as_slice(), b"no 2\n?\n".as_slice());
+        Ok(())
+    }
+
+    // A writer that has no room left is not asked again.
+    #[test]
+    fn stops_at_a_write(rt: HostRuntime) {
+        let mut input = trickling(b"list\n\nmark front", false);
+        let mut room = [0u8; 6];
+        let mut output = &mut room[..];
+        let ran = run(&mut input, &mut output);
+        assert!(rt; matches!(ran, Err(Stopped::Output(_))));
+        assert_eq!(rt; room.as_slice(), b"no 2\n?".as_slice());
+    }
+
+    #[test]
+    fn says_what_failed(rt: HostRuntime) -> Result<(), Fail> {
+        let e = Stopped::Input(io::Error::from_raw_os_error(5));
+        assert_eq!(rt;
+            format!(in rt.alloc(); "{e}")?.as_str(),
+            "book: standard input: Input/output error (os error 5)"
+        );
+        let e = Stopped::Output(io::Error::from_raw_os_error(28));
+        assert_eq!(rt;
+            format!(in rt.alloc(); "{e}")?.as_str(),
+            "book: standard output: No space left on device (os error 28)"
+        );
+        Ok(())
     }
 }

@@ -1,0 +1,85 @@
+-- One step more of a piece, and one piece more of an input: what is printed of them all was written. Assumes nothing.
+use Rattle.std.proofs.Common.{◌≡◌, ℕ, List, [], ◌∷◌, ◌++◌, Option, IfSome, Result, Ok, Err, OnOk, refl, sym, ap, ◌∙◌, append_assoc, append-nil, take, drop}
+use Rattle.std.specs.Io.KnownBytes.{Appends, Consumes, IsAtEnd}
+use Rattle.std.proofs.KnownBytes.{Appends-nil, Appends-trans, Consumes-nil, Consumes-trans, Consumes-whole}
+use Rattle.line_reader.specs.Lines.{lines}
+use Rattle.line_reader.specs.Reads.{whole, last_line}
+use Rattle.interpreter.specs.Session.{texts, step_text, Steps, Passes, over, Passed, Talks, ends, piece}
+use Rattle.interpreter.proofs.Steps.{steps_pass, text_written}
+use Rattle.interpreter.proofs.Sessions.{pieces_printed}
+use Rattle.terminal.specs.Talk.{PassedOut, Told}
+
+-- A PIECE by steps: what is left of it is passed as the whole is, behind what was said
+pub record Going (held words piece h ws rest : List ℕ) (before after : Option (List ℕ)) : Type 0 where
+  pub said : List ℕ
+  pub passes : (a b t : List ℕ) → Passes h ws rest a b t → Passes held words piece a b (said ++ t)
+  pub written : Appends before after said
+
+pub going_first : (h ws p : List ℕ) (out : Option (List ℕ)) → Going h ws p h ws p out out
+going_first h ws p out = record { said = []; passes = λ a b t x. x; written = Appends-nil out }
+
+pub going_on : {held words h ws line ws' out out' : List ℕ} {at h' text : ℕ} {before mid after : Option (List ℕ)} (p : List ℕ) (from : ℕ) →
+    Going held words p h ws (drop from p) before mid → Steps h (drop from p) ws from line ws' out out' at h' text → Appends mid after (take text out') →
+    Going held words p (take h' line) ws' (drop at p) before after
+going_on {h = h} {ws = ws} p from g s w =
+    let t : List ℕ = step_text h (drop from p) ws in
+    record {
+      said = g.said ++ t;
+      passes = λ a b u x. rw (append_assoc g.said t u) (g.passes a b (t ++ u) (steps_pass p from s x));
+      written = Appends-trans _ _ _ g.said t g.written (rw (text_written s.printed) at w);
+    }
+
+pub going_over : {held words p h ws : List ℕ} {before after : Option (List ℕ)} → Going held words p h ws [] before after → PassedOut held words p h ws before after
+going_over g = record { printed = g.said ++ []; passes = g.passes _ _ [] over; written = rw (append-nil g.said) g.written }
+
+pub passed_of : {held words p h ws : List ℕ} {before after : Option (List ℕ)} → PassedOut held words p h ws before after → Passed held words p h ws
+passed_of o = record { printed = o.printed; passes = o.passes }
+
+-- AN INPUT by pieces: any that follow are talked of as all are, behind what was printed
+pub record Speaking (words h ws : List ℕ) (left left' before after : Option (List ℕ)) : Type 0 where
+  pub pieces : List (List ℕ)
+  pub printed : List ℕ
+  pub onward : (ps : List (List ℕ)) (u : List ℕ) → Talks h ws ps u → Talks [] words (pieces ++ ps) (printed ++ u)
+  pub read : Consumes left left' (whole pieces)
+  pub written : Appends before after printed
+
+whole_append : (ps : List (List ℕ)) (p : List ℕ) → whole (ps ++ (p ∷ [])) ≡ whole ps ++ p
+unfolding whole
+whole_append [] p = append-nil p
+whole_append (q ∷ ps) p = ap (λ k. q ++ k) (whole_append ps p) ∙ sym (append_assoc q (whole ps) p)
+
+pub speaking_first : (ws : List ℕ) (left out : Option (List ℕ)) → Speaking ws [] ws left left out out
+unfolding whole
+speaking_first ws left out = record { pieces = []; printed = []; onward = λ ps u x. x; read = Consumes-nil left; written = Appends-nil out }
+
+pub speaking_on : {words h ws p h' ws' : List ℕ} {left left' left'' before mid after : Option (List ℕ)} → Speaking words h ws left left' before mid →
+    PassedOut h ws p h' ws' mid after → Consumes left' left'' p → Speaking words h' ws' left left'' before after
+speaking_on {p = p} s o r = record {
+  pieces = s.pieces ++ (p ∷ []);
+  printed = s.printed ++ o.printed;
+  onward = λ ps u x. rw (append_assoc s.pieces (p ∷ []) ps, append_assoc s.printed o.printed u) (s.onward (p ∷ ps) (o.printed ++ u) (piece o.passes x));
+  read = rw (whole_append s.pieces p) (Consumes-trans _ _ _ (whole s.pieces) p s.read r);
+  written = Appends-trans _ _ _ s.printed o.printed s.written o.written;
+}
+
+pub speaking_over : {words h ws : List ℕ} {left left' left'' before after : Option (List ℕ)} → Speaking words h ws left left' before after →
+    Consumes left' left'' [] → IsAtEnd left'' → Told words h ws left left'' before after
+speaking_over {h = h} {ws = ws} s r e = record {
+  pieces = s.pieces;
+  printed = s.printed;
+  talks = rw (append-nil s.pieces) at (s.onward [] (texts ws (last_line h)) ends);
+  read = rw (append-nil (whole s.pieces)) at (Consumes-trans _ _ _ (whole s.pieces) [] s.read r);
+  end = e;
+  written = s.written;
+}
+
+-- ALL of it, with the last line's text
+pub told_all : {words h ws : List ℕ} {left left' before mid : Option (List ℕ)} (after : Option (List ℕ)) → Told words h ws left left' before mid → Appends mid after (texts ws (last_line h)) →
+    IfSome left (λ xs. Appends before after (texts words (lines xs)))
+told_all {words} {h} {ws} {left} {left'} {before} {mid} after t w =
+    let all : Appends before after (t.printed ++ texts ws (last_line h)) = Appends-trans _ _ _ t.printed (texts ws (last_line h)) t.written w in
+    Consumes-whole _ _ _ (λ xs. Appends before after (texts words (lines xs))) t.read t.end (rw ((pieces_printed words t.pieces (t.printed ++ texts ws (last_line h))).0 t.talks) at all)
+
+pub on_ok : {A E P Q : Type 0} (r : Result A E) → (P → Q) → OnOk r P → OnOk r Q
+on_ok (Ok x) f p = f p
+on_ok (Err e) f p = tt
