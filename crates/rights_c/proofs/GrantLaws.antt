@@ -64,7 +64,7 @@ looked_fits t p c room = go (range_refusal t p c room) refl
     go zero e = count_fits t p c room e
     go (suc k) e = omega arith
 
-looked_most : (k c : ℕ) → looked k c ≤ c
+pub looked_most : (k c : ℕ) → looked k c ≤ c
 unfolding replied
 looked_most zero c = omega arith
 looked_most (suc k) c = omega arith

@@ -1,2 +1,1 @@
 pub mod GrantLaws
-pub mod GrantWalks

@@ -42,8 +42,7 @@ pub extern "C" fn vk_read_file_with_grants(
     c_replies::of_load(store_party::read_file_with_grants(bytes, words, count))
 }
 
-// The three over a lent list of grants are straight lines: no checker of borrows covers a slice of records, so that each is proved by
-// a walk of its own.
+// The three over a lent list of grants are straight lines.
 #[unsafe(no_mangle)]
 pub extern "C" fn vk_grant_add(
     party: u32,

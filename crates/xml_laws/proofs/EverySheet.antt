@@ -19,7 +19,7 @@ use Rattle.xml.specs.Grammar.{Construct, datum, reference, cdata, comment, start
 use Rattle.xml.specs.declared.SheetReply.TheVariants.{Kinds, Refused}
 use Rattle.xml.specs.Reader.{Reading, accepted, refused, read_sheet}
 use Rattle.xml.specs.Replies.{list_short, sheet_refusal, kinds_in, sheet_reply, sheet_list}
-use Rattle.xml.specs.Promise.{InGrammar, Outside, Fits, TooShort, SheetRight, EverySheet, OneKinds, OneNumber, NotBoth}
+use Rattle.xml.specs.Promise.{InGrammar, Outside, Fits, TooShort, EverySheet, OneKinds, OneNumber, NotBoth}
 use Rattle.xml_laws.proofs.Readings.{begun}
 use Rattle.xml_laws.proofs.Sheets.{sheets_right, one_kinds, one_number, not_both, refused_some}
 

@@ -125,8 +125,8 @@ module _ (bs ls ms : List ℕ) (q : SheetReply) (first : ReadWhole bs [] ms q) w
   unfolding sheet_reply sheet_list sheet_refusal
   reply_refused k e =
       let is = refused_reading (read_sheet bs) k (sym e ∙ first.reply) in
-      let SomeNumber = refused_some bs k is in
-      (e ∙ rw is (replied_refused answer.Refused k _ SomeNumber), kept ∙ rw is (written_refused k _ ls SomeNumber))
+      let some_number = refused_some bs k is in
+      (e ∙ rw is (replied_refused answer.Refused k _ some_number), kept ∙ rw is (written_refused k _ ls some_number))
 
   module _ (n : ℕ) (e : q ≡ answer.Kinds n) where
     pub reply_short : length (ms ++ ls) < n → (answer.Refused list_short ≡ sheet_reply bs ls) × (ms ++ ls ≡ sheet_list bs ls)

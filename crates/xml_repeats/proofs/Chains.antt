@@ -1,17 +1,14 @@
 -- Chains of attributes: two from and up to the same places are one, and before a chain's end an attribute stands next. Assumes nothing.
 use mathlib.Core.Path.{◌≡◌, ap, sym, ◌∙◌}
 use mathlib.Core.List.{List, [], ◌∷◌}
-use mathlib.Core.Logic.{◌⊎◌, ⊎_elim}
 use Prim.Native.Nat.{ℕ, ◌≤◌, ◌<◌}
 use native.Mathlib.Omega.{arith}
 use lib.ListN.{length, drop}
-use denote.Enum.Declared.{tag_of}
 use Rattle.xml_scan.specs.Post.{name_from}
 use Rattle.xml_attributes.specs.Next.{next_in_tag}
 use Rattle.xml_attributes.specs.Chain.{Chain, here, on}
 use Rattle.xml_attributes.specs.declared.NextInTag.{NextInTag}
 use Rattle.xml_attributes.specs.declared.NextInTag.TheVariants as next
-use Rattle.xml_attributes.specs.contracts.NextInTag.{the_type}
 use Rattle.xml_attributes.proofs.NextLaws.{chain_order, chain_next, chain_after, chain_end, next_later}
 
 -- past its end nothing is left
@@ -32,10 +29,6 @@ chain_same {text} {k} {i} (on {begins = b} {name = n} {end = e} q h) g w =
 -- no attribute stands next
 abbrev pub Stopped : NextInTag → Type 0
 Stopped q = (b n e : ℕ) → q ≡ next.Attribute b n e → ⊥
-
--- by the number of its case
-pub stopped : (q : NextInTag) → (tag_of the_type q ≡ 0) ⊎ (tag_of the_type q ≡ 2) → Stopped q
-stopped q k b n e is = ⊎_elim (λ t. let z : ◌≡◌ {A = ℕ} 1 0 = rw is at t in omega arith) (λ t. let z : ◌≡◌ {A = ℕ} 1 2 = rw is at t in omega arith) k
 
 pub chain_goes_on : {text : List ℕ} {k i : ℕ} {row : List (List ℕ)} → Chain text k i row → i < k → Stopped (next_in_tag i (drop i text)) → ⊥
 chain_goes_on h l s = let r = chain_next h l in s r.0 r.1 r.2 r.4

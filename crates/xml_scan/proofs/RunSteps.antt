@@ -2,7 +2,7 @@
 use mathlib.Core.Path.{◌≡◌, refl, fun_ext}
 use mathlib.Core.Bool.{Bool, true, false, and-false}
 use mathlib.Core.List.{List}
-use Prim.Native.Nat.{ℕ, suc, ◌+◌, ◌≤◌, ◌<◌}
+use Prim.Native.Nat.{ℕ, suc, ◌+◌, ◌-◌, ◌≤◌, ◌<◌}
 use native.Mathlib.Numerals.{add-one}
 use native.Mathlib.Omega.{arith}
 use borrow.Author.Tests.{ltb-true, ltb-false, le-leb, lt-leb}
@@ -61,6 +61,22 @@ module _ {test : ℕ → Bool} {text : List ℕ} {from i : ℕ} (h : Running tes
 
   pub running_end : length text ≤ i → i ≡ from + run test (drop from text)
   running_end l = omega (arith, h.rest, run_end test text i l)
+
+-- FOUR BYTES IN ONE TURN: what is passed behind each of them
+module _ {test : ℕ → Bool} {text : List ℕ} {from i : ℕ} (h : Running test text from i) (l : 4 ≤ length text - i) (a : test (get_or text i 0) ≡ true) where
+  pub passed_1 : Running test text from (i + 1)
+  passed_1 = running_turn h (omega arith) a
+
+  module _ (b : test (get_or text (i + 1) 0) ≡ true) where
+    pub passed_2 : Running test text from (i + 2)
+    passed_2 = running_next passed_1 (i + 2) (omega arith) (omega arith) b
+
+    module _ (d : test (get_or text (i + 2) 0) ≡ true) where
+      pub passed_3 : Running test text from (i + 3)
+      passed_3 = running_next passed_2 (i + 3) (omega arith) (omega arith) d
+
+      pub passed_4 : test (get_or text (i + 3) 0) ≡ true → Running test text from (i + 4)
+      passed_4 e = running_next passed_3 (i + 4) (omega arith) (omega arith) e
 
 -- CLASSES: a byte is of the classes from least to most or not, by its class
 module _ (l m c : ℕ) {k : ℕ} (e : k ≡ class_of c) where

@@ -1,6 +1,6 @@
 -- The pass over a tag's attributes: attributes that were met, the filter that their names mark, and what they tell at the end of the tag.
 -- Assumes nothing.
-use mathlib.Core.Path.{◌≡◌, refl, ap, subst, sym, ◌∙◌}
+use mathlib.Core.Path.{◌≡◌, refl, ap, sym, ◌∙◌}
 use mathlib.Core.Bool.{Bool, true, false}
 use mathlib.Core.List.{List, [], ◌∷◌, ◌++◌}
 use mathlib.Core.Option.{none}
@@ -22,9 +22,7 @@ use Rattle.xml_attributes.proofs.NextLaws.{next_order, next_name, chain_length, 
 use Rattle.xml_repeats.specs.Batches.{Chained, Met}
 use Rattle.xml_tag.specs.Post.{end_found}
 use Rattle.xml_tag.specs.Filter.{filter_places, filter_place, Either}
-use Rattle.xml_tag.specs.Gather.{Closed, Gathers}
-use Rattle.xml_tag.specs.declared.Gathered.{Gathered}
-use Rattle.xml_tag.specs.declared.Gathered.TheVariants as gathered
+use Rattle.xml_tag.specs.Gather.{Closed}
 use Rattle.xml_tag.specs.declared.TagEnd.TheVariants.{Whole, Broken}
 use Rattle.xml_tag.proofs.FilterMarks.{Marked, marked_none, unmarked_new, marked_more}
 use Rattle.xml_tag.proofs.TailSteps.{chain_closes, chain_broken, chain_over}
@@ -99,15 +97,6 @@ module _ {text : List ℕ} {from : ℕ} {starts filter : List ℕ} {shared count
 
   pub gathering_over : length text ≤ at → Broken ≡ end_found from (tail_at [] 0 (drop from text))
   gathering_over l = chain_over h.met.chain [] l
-
--- WHAT THE PASS TELLS, by its answer
-pub gathers_whole : {text : List ℕ} {from : ℕ} {ss : List ℕ} {g : Gathered} {end : ℕ} {lone : Bool} {last count shared : ℕ} →
-    g ≡ gathered.Whole end lone last count shared → Gathers text from ss g → Closed text from ss end lone last count shared
-gathers_whole {text} {from} {ss} e h = subst (λ g. Gathers text from ss g) e h
-
-pub gathers_broken : (text : List ℕ) (from : ℕ) (ss : List ℕ) {g : Gathered} → g ≡ gathered.Broken → Gathers text from ss g →
-    Broken ≡ end_found from (tail_at [] 0 (drop from text))
-gathers_broken text from ss e h = subst (λ g. Gathers text from ss g) e h
 
 -- A TAG WHOSE END was met: it is whole where the names differ
 module _ {text : List ℕ} {from : ℕ} {ss : List ℕ} {end : ℕ} {lone : Bool} {last count shared : ℕ} (h : Closed text from ss end lone last count shared) where

@@ -6,8 +6,8 @@ use Rattle.c_replies.proofs.of_grant.Goals as goal
 
 pub returns-in-Granted : goal.returns-in-Granted
 unfolding c_granted grant_numbers
-returns-in-Granted c = ap c_granted (sym c.reply-1.given.1)
+returns-in-Granted c = ap c_granted (sym c.in-Granted.is)
 
 pub returns-in-Refused : goal.returns-in-Refused
 unfolding c_granted grant_numbers
-returns-in-Refused c = ap c_granted (sym c.reply-in-Refused-1.given.1)
+returns-in-Refused c = ap c_granted (sym c.in-Refused.is)

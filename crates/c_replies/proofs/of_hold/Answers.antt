@@ -6,8 +6,8 @@ use Rattle.c_replies.proofs.of_hold.Goals as goal
 
 pub returns-in-Held : goal.returns-in-Held
 unfolding c_held hold_numbers
-returns-in-Held c = ap c_held (sym c.reply-1.given.1)
+returns-in-Held c = ap c_held (sym c.in-Held.is)
 
 pub returns-in-Refused : goal.returns-in-Refused
 unfolding c_held hold_numbers
-returns-in-Refused c = ap c_held (sym c.reply-in-Refused-1.given.1)
+returns-in-Refused c = ap c_held (sym c.in-Refused.is)

@@ -6,8 +6,8 @@ use Rattle.c_replies.proofs.of_insert.Goals as goal
 
 pub returns-in-Inserted : goal.returns-in-Inserted
 unfolding c_inserted insert_numbers
-returns-in-Inserted c = ap c_inserted (sym c.reply-1.given.1)
+returns-in-Inserted c = ap c_inserted (sym c.in-Inserted.is)
 
 pub returns-in-Refused : goal.returns-in-Refused
 unfolding c_inserted insert_numbers
-returns-in-Refused c = ap c_inserted (sym c.reply-in-Refused-1.given.1)
+returns-in-Refused c = ap c_inserted (sym c.in-Refused.is)

@@ -6,8 +6,8 @@ use Rattle.c_replies.proofs.of_list.Goals as goal
 
 pub returns-in-Listed : goal.returns-in-Listed
 unfolding c_listed list_numbers
-returns-in-Listed c = ap c_listed (sym c.reply-1.given.1)
+returns-in-Listed c = ap c_listed (sym c.in-Listed.is)
 
 pub returns-in-Refused : goal.returns-in-Refused
 unfolding c_listed list_numbers
-returns-in-Refused c = ap c_listed (sym c.reply-in-Refused-1.given.1)
+returns-in-Refused c = ap c_listed (sym c.in-Refused.is)

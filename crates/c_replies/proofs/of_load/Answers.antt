@@ -6,8 +6,8 @@ use Rattle.c_replies.proofs.of_load.Goals as goal
 
 pub returns-in-Loaded : goal.returns-in-Loaded
 unfolding c_loaded load_numbers
-returns-in-Loaded c = ap c_loaded (sym c.reply-1.given.1)
+returns-in-Loaded c = ap c_loaded (sym c.in-Loaded.is)
 
 pub returns-in-Refused : goal.returns-in-Refused
 unfolding c_loaded load_numbers
-returns-in-Refused c = ap c_loaded (sym c.reply-in-Refused-1.given.1)
+returns-in-Refused c = ap c_loaded (sym c.in-Refused.is)

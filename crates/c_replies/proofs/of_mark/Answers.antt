@@ -6,8 +6,8 @@ use Rattle.c_replies.proofs.of_mark.Goals as goal
 
 pub returns-in-Marked : goal.returns-in-Marked
 unfolding c_marked mark_numbers
-returns-in-Marked c = ap c_marked (sym c.reply-1.given.1)
+returns-in-Marked c = ap c_marked (sym c.in-Marked.is)
 
 pub returns-in-Refused : goal.returns-in-Refused
 unfolding c_marked mark_numbers
-returns-in-Refused c = ap c_marked (sym c.reply-in-Refused-1.given.1)
+returns-in-Refused c = ap c_marked (sym c.in-Refused.is)

@@ -6,16 +6,16 @@ use Rattle.c_replies.proofs.of_party.Goals as goal
 
 pub returns-in-Yes : goal.returns-in-Yes
 unfolding c_party party_numbers
-returns-in-Yes c = ap c_party (sym c.enum_told-1.given.1)
+returns-in-Yes c = ap c_party (sym c.in-Yes.is)
 
 pub returns-in-Stale : goal.returns-in-Stale
 unfolding c_party party_numbers
-returns-in-Stale c = ap c_party (sym c.enum_told-in-Stale-1.given.1)
+returns-in-Stale c = ap c_party (sym c.in-Stale.is)
 
 pub returns-in-Inserted : goal.returns-in-Inserted
 unfolding c_party party_numbers
-returns-in-Inserted c = ap c_party (sym c.reply-1.given.1)
+returns-in-Inserted c = ap c_party (sym c.in-Inserted.is)
 
 pub returns-in-Refused : goal.returns-in-Refused
 unfolding c_party party_numbers
-returns-in-Refused c = ap c_party (sym c.reply-in-Refused-1.given.1)
+returns-in-Refused c = ap c_party (sym c.in-Refused.is)

@@ -6,8 +6,8 @@ use Rattle.c_replies.proofs.of_question.Goals as goal
 
 pub returns-in-Answered : goal.returns-in-Answered
 unfolding c_answered question_numbers
-returns-in-Answered c = rw c.of_answer.ensures (ap c_answered (sym c.reply-1.given.1))
+returns-in-Answered c = rw c.of_answer.ensures (ap c_answered (sym c.in-Answered.is))
 
 pub returns-in-Refused : goal.returns-in-Refused
 unfolding c_answered question_numbers
-returns-in-Refused c = ap c_answered (sym c.reply-in-Refused-1.given.1)
+returns-in-Refused c = ap c_answered (sym c.in-Refused.is)

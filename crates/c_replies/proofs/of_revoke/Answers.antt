@@ -6,8 +6,8 @@ use Rattle.c_replies.proofs.of_revoke.Goals as goal
 
 pub returns-in-Revoked : goal.returns-in-Revoked
 unfolding c_revoked revoke_numbers
-returns-in-Revoked c = ap c_revoked (sym c.reply-1.given.1)
+returns-in-Revoked c = ap c_revoked (sym c.in-Revoked.is)
 
 pub returns-in-Refused : goal.returns-in-Refused
 unfolding c_revoked revoke_numbers
-returns-in-Refused c = ap c_revoked (sym c.reply-in-Refused-1.given.1)
+returns-in-Refused c = ap c_revoked (sym c.in-Refused.is)

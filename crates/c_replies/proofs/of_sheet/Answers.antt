@@ -6,8 +6,8 @@ use Rattle.c_replies.proofs.of_sheet.Goals as goal
 
 pub returns-in-Kinds : goal.returns-in-Kinds
 unfolding c_kinds sheet_numbers
-returns-in-Kinds c = ap c_kinds (sym c.reply-1.given.1)
+returns-in-Kinds c = ap c_kinds (sym c.in-Kinds.is)
 
 pub returns-in-Refused : goal.returns-in-Refused
 unfolding c_kinds sheet_numbers
-returns-in-Refused c = ap c_kinds (sym c.reply-in-Refused-1.given.1)
+returns-in-Refused c = ap c_kinds (sym c.in-Refused.is)

@@ -6,8 +6,8 @@ use Rattle.c_replies.proofs.of_write.Goals as goal
 
 pub returns-in-Written : goal.returns-in-Written
 unfolding c_written write_numbers
-returns-in-Written c = ap c_written (sym c.reply-1.given.1)
+returns-in-Written c = ap c_written (sym c.in-Written.is)
 
 pub returns-in-Refused : goal.returns-in-Refused
 unfolding c_written write_numbers
-returns-in-Refused c = ap c_written (sym c.reply-in-Refused-1.given.1)
+returns-in-Refused c = ap c_written (sym c.in-Refused.is)

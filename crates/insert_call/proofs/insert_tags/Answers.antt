@@ -12,14 +12,14 @@ pub count_of-n-requires : goal.count_of-n-requires
 count_of-n-requires c = header_long (records_said c.requires.0)
 
 pub stamp_of-stamp-requires : goal.stamp_of-stamp-requires
-stamp_of-stamp-requires c = (let it : header_words ≤ length c.change-done.new.1.1.0 = omega (arith, c.change-done.auto, header_long (records_said c.requires.0)) in it)
+stamp_of-stamp-requires c = (let it : header_words ≤ length c.change-done.new.words = omega (arith, c.change-done.auto, header_long (records_said c.requires.0)) in it)
 
 pub overflow_add-stamp : goal.overflow_add-stamp
 overflow_add-stamp c =
-    omega (arith, c.stamp_of-stamp.ensures, stamp_fits c.requires.0 c.change-done.ensures (let it : header_words ≤ length c.change-done.new.1.1.0 = omega (arith, c.change-done.auto, header_long (records_said c.requires.0)) in it))
+    omega (arith, c.stamp_of-stamp.ensures, stamp_fits c.requires.0 c.change-done.ensures (let it : header_words ≤ length c.change-done.new.words = omega (arith, c.change-done.auto, header_long (records_said c.requires.0)) in it))
 
 pub set_stamp-requires : goal.set_stamp-requires
-set_stamp-requires c = (let it : header_words ≤ length c.change-done.new.1.1.0 = omega (arith, c.change-done.auto, header_long (records_said c.requires.0)) in it)
+set_stamp-requires c = (let it : header_words ≤ length c.change-done.new.words = omega (arith, c.change-done.auto, header_long (records_said c.requires.0)) in it)
 
 pub returns : goal.returns
 returns c =

@@ -19,7 +19,7 @@ pub shift-requires : goal.shift-requires
 unfolding plan_record
 shift-requires c =
     let kept = count_kept _ _ (plan_record c.args.p) c.behind-start.ensures c.cut-first.ensures c.number_path-q.ensures in
-    (rw kept (records_kept c.requires.records c.number_path-q.auto.0), c.requires.by)
+    (rw kept (records_kept c.requires.records c.number_path-q.auto.words), c.requires.by)
 
 pub overflow_add-result : goal.overflow_add-result
 unfolding plan_record

@@ -1,5 +1,4 @@
 use native.Mathlib.Omega.{arith}
-use borrow.Author.Tests.{not-true, not-false}
 use Rattle.name_index.proofs.Arranging.{arranging_start, arranging_next, arranging_turn, arranging_not, arranging_end}
 use Rattle.name_index.proofs.arrange.Goals as goal
 
@@ -12,7 +11,7 @@ join-requires c =
 
 pub returns-then-not-join : goal.returns-then-not-join
 returns-then-not-join c =
-    record { arranged = arranging_not c.requires.begun c.requires.arrays.1 c.loop-i.invariant (omega arith) c.join.ensures (not-true _ c.if-not-join.true-raw); arrays = c.join.ensures.sizes }
+    record { arranged = arranging_not c.requires.begun c.requires.arrays.1 c.loop-i.invariant (omega arith) c.join.ensures c.if-not-join.true; arrays = c.join.ensures.sizes }
 
 pub overflow_add-i : goal.overflow_add-i
 overflow_add-i c = omega arith
@@ -22,7 +21,7 @@ loop-i-smaller c = omega arith
 
 pub loop-i-preserved : goal.loop-i-preserved
 loop-i-preserved c =
-    arranging_turn c.requires.begun c.requires.arrays.1 c.loop-i.invariant (omega arith) c.join.ensures (not-false _ c.if-not-join.false-raw)
+    arranging_turn c.requires.begun c.requires.arrays.1 c.loop-i.invariant (omega arith) c.join.ensures c.if-not-join.false
 
 pub returns : goal.returns
 returns c =

@@ -4,8 +4,8 @@ use Rattle.party_rules.proofs.inserted.Goals as goal
 
 pub returns-in-Inserted : goal.returns-in-Inserted
 unfolding inserted_reply
-returns-in-Inserted c = rw c.reply-1.given.1
+returns-in-Inserted c = rw c.in-Inserted.is
 
 pub returns-in-Refused : goal.returns-in-Refused
 unfolding inserted_reply
-returns-in-Refused c = rw c.reply-in-Refused-1.given.1
+returns-in-Refused c = rw c.in-Refused.is

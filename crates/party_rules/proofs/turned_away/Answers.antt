@@ -5,7 +5,7 @@ use Rattle.party_rules.proofs.turned_away.Goals as goal
 
 pub returns-in-Refused : goal.returns-in-Refused
 unfolding turned_away
-returns-in-Refused c = rw c.asked-1.given.1
+returns-in-Refused c = rw c.in-Refused.is
 
 pub returns-in-Stale : goal.returns-in-Stale
 unfolding turned_away

@@ -1,46 +1,56 @@
 -- `xml_attributes::next_in_tag` meets its contract: by where the spaces end, and what stands there. Assumes nothing.
-use mathlib.Core.Path.{sym, ◌∙◌}
-use mathlib.Core.Bool.{true, false}
-use Prim.Native.Nat.{◌≤◌}
+use mathlib.Core.Path.{◌≡◌, sym}
+use mathlib.Core.List.{List}
+use Prim.Native.Nat.{ℕ, ◌+◌, ◌≤◌}
 use native.Mathlib.Omega.{arith}
-use lib.ListN.{length}
-use Rattle.xml.specs.Bytes.{lone_closes}
+use lib.ListN.{length, drop}
+use Rattle.xml.specs.Bytes.{is_space, tag_closes, lone_closes}
+use Rattle.xml.specs.Scan.{run}
 use Rattle.xml_laws.proofs.Bounds.{spaces_within, stands_within}
 use Rattle.xml_attributes.proofs.NextSteps.{next_closes, next_lone, next_no_gap, next_nothing, next_read}
 use Rattle.xml_attributes.proofs.next_in_tag.Goals as goal
 
+-- the spaces end within the text
+begun_within : (text : List ℕ) (at : ℕ) {begins : ℕ} → begins ≡ at + run is_space (drop at text) → at ≤ length text → begins ≤ length text
+begun_within text at e l = omega (arith, e, spaces_within text at l)
+
 pub stands-requires : goal.stands-requires
-stands-requires c = (let it : c.blank_end-begins.result ≤ length c.args.text.now = omega (arith, c.blank_end-begins.ensures, spaces_within c.args.text.now c.args.at c.requires.at_in_bounds) in it)
+stands-requires c = begun_within _ _ c.blank_end-begins.ensures c.requires.at_in_bounds
+
+pub overflow_add-result : goal.overflow_add-result
+overflow_add-result c =
+    let l = stands_within tag_closes c.args.text.now c.blank_end-begins.result (begun_within _ _ c.blank_end-begins.ensures c.requires.at_in_bounds) (sym c.if-stands.ensures) in
+    omega arith
 
 pub returns-then-stands : goal.returns-then-stands
-returns-then-stands c = next_closes _ _ _ c.blank_end-begins.ensures (sym c.stands.ensures ∙ c.if-stands.true)
+returns-then-stands c = next_closes _ _ _ c.blank_end-begins.ensures (sym c.if-stands.ensures)
 
 pub stands-requires-2 : goal.stands-requires-2
-stands-requires-2 c = (let it : c.blank_end-begins.result ≤ length c.args.text.now = omega (arith, c.blank_end-begins.ensures, spaces_within c.args.text.now c.args.at c.requires.at_in_bounds) in it)
+stands-requires-2 c = begun_within _ _ c.blank_end-begins.ensures c.requires.at_in_bounds
 
 pub overflow_add-result-then-stands-2 : goal.overflow_add-result-then-stands-2
 overflow_add-result-then-stands-2 c =
-    let l = stands_within lone_closes c.args.text.now c.blank_end-begins.result (let it : c.blank_end-begins.result ≤ length c.args.text.now = omega (arith, c.blank_end-begins.ensures, spaces_within c.args.text.now c.args.at c.requires.at_in_bounds) in it) (sym c.stands-2.ensures ∙ c.if-stands-2.true) in
+    let l = stands_within lone_closes c.args.text.now c.blank_end-begins.result (begun_within _ _ c.blank_end-begins.ensures c.requires.at_in_bounds) (sym c.if-stands-2.ensures) in
     omega arith
 
 pub returns-then-stands-2 : goal.returns-then-stands-2
 returns-then-stands-2 c =
-    next_lone _ _ _ c.blank_end-begins.ensures (sym c.stands.ensures ∙ c.if-stands.false) (sym c.stands-2.ensures ∙ c.if-stands-2.true)
+    next_lone _ _ _ c.blank_end-begins.ensures (sym c.if-stands.ensures) (sym c.if-stands-2.ensures)
 
 pub returns-then-begins-at : goal.returns-then-begins-at
 returns-then-begins-at c =
-    next_no_gap _ _ _ c.blank_end-begins.ensures (sym c.stands.ensures ∙ c.if-stands.false) (sym c.stands-2.ensures ∙ c.if-stands-2.false) (omega (arith, c.if-begins-at.true))
+    next_no_gap _ _ _ c.blank_end-begins.ensures (sym c.if-stands.ensures) (sym c.if-stands-2.ensures) (omega (arith, c.if-begins-at.true))
 
 pub read_attribute-requires : goal.read_attribute-requires
 read_attribute-requires c =
-    record { at_in_bounds = (let it : c.blank_end-begins.result ≤ length c.args.text.now = omega (arith, c.blank_end-begins.ensures, spaces_within c.args.text.now c.args.at c.requires.at_in_bounds) in it); classes = c.requires.classes }
+    record { at_in_bounds = begun_within _ _ c.blank_end-begins.ensures c.requires.at_in_bounds; classes = c.requires.classes }
 
 pub returns-in_default : goal.returns-in_default
 returns-in_default c =
-    next_nothing _ _ _ c.blank_end-begins.ensures (sym c.stands.ensures ∙ c.if-stands.false) (sym c.stands-2.ensures ∙ c.if-stands-2.false) c.if-begins-at.false
-    (sym c.enum_told-1.given.1 ∙ c.read_attribute.ensures)
+    next_nothing _ _ _ c.blank_end-begins.ensures (sym c.if-stands.ensures) (sym c.if-stands-2.ensures) c.if-begins-at.false
+    c.in_default.ensures
 
 pub returns : goal.returns
 returns c =
-    next_read _ _ _ c.blank_end-begins.ensures (sym c.stands.ensures ∙ c.if-stands.false) (sym c.stands-2.ensures ∙ c.if-stands-2.false) c.if-begins-at.false _ _
-    (sym c.name-1.given.1 ∙ c.read_attribute.ensures)
+    next_read _ _ _ c.blank_end-begins.ensures (sym c.if-stands.ensures) (sym c.if-stands-2.ensures) c.if-begins-at.false _ _
+    c.in-Read.ensures

@@ -1,8 +1,7 @@
 -- `xml_ends::end_tag` meets its contract, test by test. Assumes nothing.
-use mathlib.Core.Path.{◌≡◌, sym, ◌∙◌}
+use mathlib.Core.Path.{◌≡◌, sym}
 use mathlib.Core.Bool.{true}
 use native.Mathlib.Omega.{arith}
-use borrow.Author.Tests.{not-true, not-false}
 use lib.ListN.{drop}
 use Rattle.lists.specs.Fronts.{starts_with}
 use Rattle.xml.specs.Bytes.{end_opens, tag_closes}
@@ -12,45 +11,45 @@ use Rattle.xml_ends.proofs.end_tag.Goals as goal
 
 pub returns-then-not-stands : goal.returns-then-not-stands
 returns-then-not-stands c =
-    end_none c.args.text.now c.args.name.now c.args.at (sym c.stands.ensures ∙ not-true _ c.if-not-stands.true-raw)
+    end_none c.args.text.now c.args.name.now c.args.at (sym c.if-not-stands.ensures)
 
 pub overflow_add-from : goal.overflow_add-from
 overflow_add-from c =
-    omega (arith, stands_within end_opens c.args.text.now c.args.at c.requires.at_in_bounds (sym c.stands.ensures ∙ not-false _ c.if-not-stands.false-raw))
+    omega (arith, stands_within end_opens c.args.text.now c.args.at c.requires.at_in_bounds (sym c.if-not-stands.ensures))
 
 pub stands-requires-2 : goal.stands-requires-2
 stands-requires-2 c =
-    stands_within end_opens c.args.text.now c.args.at c.requires.at_in_bounds (sym c.stands.ensures ∙ not-false _ c.if-not-stands.false-raw)
+    stands_within end_opens c.args.text.now c.args.at c.requires.at_in_bounds (sym c.if-not-stands.ensures)
 
 pub returns-then-not-stands-2 : goal.returns-then-not-stands-2
 returns-then-not-stands-2 c =
-    end_other c.args.text.now c.args.name.now c.args.at (sym c.stands.ensures ∙ not-false _ c.if-not-stands.false-raw) (sym c.stands-2.ensures ∙ not-true _ c.if-not-stands-2.true-raw)
+    end_other c.args.text.now c.args.name.now c.args.at (sym c.if-not-stands.ensures) (sym c.if-not-stands-2.ensures)
 
 pub overflow_add-from-2 : goal.overflow_add-from-2
 overflow_add-from-2 c =
-    omega (arith, end_room c.args.text.now c.args.name.now c.args.at (sym c.stands.ensures ∙ not-false _ c.if-not-stands.false-raw) (sym c.stands-2.ensures ∙ not-false _ c.if-not-stands-2.false-raw) c.requires.at_in_bounds)
+    omega (arith, end_room c.args.text.now c.args.name.now c.args.at (sym c.if-not-stands.ensures) (sym c.if-not-stands-2.ensures) c.requires.at_in_bounds)
 
 pub blank_end-e-requires : goal.blank_end-e-requires
 blank_end-e-requires c =
-    record { from_in_bounds = end_room c.args.text.now c.args.name.now c.args.at (sym c.stands.ensures ∙ not-false _ c.if-not-stands.false-raw) (sym c.stands-2.ensures ∙ not-false _ c.if-not-stands-2.false-raw) c.requires.at_in_bounds; classes = c.requires.classes }
+    record { from_in_bounds = end_room c.args.text.now c.args.name.now c.args.at (sym c.if-not-stands.ensures) (sym c.if-not-stands-2.ensures) c.requires.at_in_bounds; classes = c.requires.classes }
 
 pub stands-requires-3 : goal.stands-requires-3
 stands-requires-3 c =
-    let room = end_room c.args.text.now c.args.name.now c.args.at (sym c.stands.ensures ∙ not-false _ c.if-not-stands.false-raw) (sym c.stands-2.ensures ∙ not-false _ c.if-not-stands-2.false-raw) c.requires.at_in_bounds in
+    let room = end_room c.args.text.now c.args.name.now c.args.at (sym c.if-not-stands.ensures) (sym c.if-not-stands-2.ensures) c.requires.at_in_bounds in
     omega (arith, c.blank_end-e.ensures, spaces_within c.args.text.now _ room)
 
 pub overflow_add-result : goal.overflow_add-result
 overflow_add-result c =
-    let room = end_room c.args.text.now c.args.name.now c.args.at (sym c.stands.ensures ∙ not-false _ c.if-not-stands.false-raw) (sym c.stands-2.ensures ∙ not-false _ c.if-not-stands-2.false-raw) c.requires.at_in_bounds in
-    let closes : starts_with tag_closes (drop c.blank_end-e.result c.args.text.now) ≡ true = sym c.stands-3.ensures ∙ c.if-stands.true in
+    let room = end_room c.args.text.now c.args.name.now c.args.at (sym c.if-not-stands.ensures) (sym c.if-not-stands-2.ensures) c.requires.at_in_bounds in
+    let closes : starts_with tag_closes (drop c.blank_end-e.result c.args.text.now) ≡ true = sym c.if-stands.ensures in
     omega (arith, stands_within tag_closes c.args.text.now c.blank_end-e.result (omega (arith, c.blank_end-e.ensures, spaces_within c.args.text.now _ room)) closes)
 
 pub returns-then-stands : goal.returns-then-stands
 returns-then-stands c =
-    rw c.blank_end-e.ensures (end_closed c.args.text.now c.args.name.now c.args.at (sym c.stands.ensures ∙ not-false _ c.if-not-stands.false-raw) (sym c.stands-2.ensures ∙ not-false _ c.if-not-stands-2.false-raw)
-    (rw c.blank_end-e.ensures c (sym c.stands-3.ensures ∙ c.if-stands.true)))
+    rw c.blank_end-e.ensures (end_closed c.args.text.now c.args.name.now c.args.at (sym c.if-not-stands.ensures) (sym c.if-not-stands-2.ensures)
+    (rw c.blank_end-e.ensures at (sym c.if-stands.ensures)))
 
 pub returns : goal.returns
 returns c =
-    end_unclosed c.args.text.now c.args.name.now c.args.at (sym c.stands.ensures ∙ not-false _ c.if-not-stands.false-raw) (sym c.stands-2.ensures ∙ not-false _ c.if-not-stands-2.false-raw)
-    (rw c.blank_end-e.ensures c (sym c.stands-3.ensures ∙ c.if-stands.false))
+    end_unclosed c.args.text.now c.args.name.now c.args.at (sym c.if-not-stands.ensures) (sym c.if-not-stands-2.ensures)
+    (rw c.blank_end-e.ensures at (sym c.if-stands.ensures))

@@ -1,13 +1,12 @@
 -- `xml_ends::ending` meets its contract, by its end tag. Assumes nothing.
-use mathlib.Core.Path.{sym, ◌∙◌}
 use Rattle.xml_ends.proofs.EndLaws.{ending_missing, ending_found}
 use Rattle.xml_ends.proofs.ending.Goals as goal
 
 pub returns-in_default : goal.returns-in_default
 returns-in_default c =
-    ending_missing c.args.text.now c.args.name.now c.args.here c.args.kinds.now c.requires.in_text.0 c.requires.in_text.1 (sym c.enum_told-1.given.1 ∙ c.end_tag.ensures)
+    ending_missing c.args.text.now c.args.name.now c.args.here c.args.kinds.now c.requires.in_text.0 c.requires.in_text.1 c.in_default.ensures
 
 pub returns : goal.returns
 returns c =
     rw (c.closed.ensures.part, c.closed.ensures.list)
-    (ending_found c.args.text.now c.args.name.now c.args.here c.args.kinds.now c.requires.in_text.0 c.requires.in_text.1 _ (sym c.e-1.given.1 ∙ c.end_tag.ensures))
+    (ending_found c.args.text.now c.args.name.now c.args.here c.args.kinds.now c.requires.in_text.0 c.requires.in_text.1 _ c.in-At.ensures)

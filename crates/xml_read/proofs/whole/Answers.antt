@@ -6,14 +6,14 @@ use Rattle.xml_read.proofs.whole.Goals as goal
 
 pub returns-in-Refused : goal.returns-in-Refused
 unfolding whole_part
-returns-in-Refused c = ap (whole_part _) (sym c.part-1.given.1)
+returns-in-Refused c = ap (whole_part _) (sym c.in-Refused.is)
 
 pub returns-then-c-text : goal.returns-then-c-text
 unfolding whole_part
 returns-then-c-text c =
-    rw (c.part-in-On-1.given.1, lt-ltb _ _ c.if-c-text.true)
+    rw (c.in-On.is, lt-ltb _ _ c.if-c-text.true)
 
 pub returns-else-c-text : goal.returns-else-c-text
 unfolding whole_part
 returns-else-c-text c =
-    rw (c.part-in-On-1.given.1, le-ltb _ _ c.if-c-text.false)
+    rw (c.in-On.is, le-ltb _ _ c.if-c-text.false)

@@ -10,16 +10,19 @@ read-first-requires c = record { classes = c.table-classes.ensures; sure = (λ l
 
 pub returns-in_default : goal.returns-in_default
 returns-in_default c =
-    let all = reply_refused c.args.text.now c.args.kinds.now _ _ c.read-first.ensures.read_whole _ c.enum_told-1.given.1 in record { reply = all.0; list = all.1 }
+    let all = reply_refused c.args.text.now c.args.kinds.now _ _ c.read-first.ensures.read_whole _ c.in_default.is in
+    record { reply = all.0; list = all.1 }
 
 pub returns-then-kinds-n : goal.returns-then-kinds-n
 returns-then-kinds-n c =
-    let all = reply_short c.args.text.now c.args.kinds.now _ _ c.read-first.ensures.read_whole _ c.first-1.given.1 c.if-kinds-n.true in record { reply = all.0; list = all.1 }
+    let all = reply_short c.args.text.now c.args.kinds.now _ _ c.read-first.ensures.read_whole _ c.in-Kinds.is c.if-kinds-n.true in
+    record { reply = all.0; list = all.1 }
 
 pub read-requires : goal.read-requires
 read-requires c =
-    record { classes = c.table-classes.ensures; sure = sure_second c.args.text.now c.args.kinds.now _ _ c.read-first.ensures.read_whole _ c.first-1.given.1; arrays = c.read-first.ensures.arrays }
+    record { classes = c.table-classes.ensures; sure = sure_second c.args.text.now c.args.kinds.now _ _ c.read-first.ensures.read_whole _ c.in-Kinds.is; arrays = c.read-first.ensures.arrays }
 
 pub returns : goal.returns
 returns c =
-    let all = reply_kinds c.args.text.now c.args.kinds.now _ _ c.read-first.ensures.read_whole _ c.first-1.given.1 c.if-kinds-n.false _ _ c.read.ensures.read_whole in record { reply = all.0; list = all.1 }
+    let all = reply_kinds c.args.text.now c.args.kinds.now _ _ c.read-first.ensures.read_whole _ c.in-Kinds.is c.if-kinds-n.false _ _ c.read.ensures.read_whole in
+    record { reply = all.0; list = all.1 }

@@ -1,6 +1,4 @@
-use mathlib.Core.Bool.{true}
 use native.Mathlib.Omega.{arith}
-use borrow.Author.Tests.{not-true, not-false}
 use Rattle.xml_repeats.proofs.Batching.{batching_start, batching_end, batching_chained, batch_begun, batch_twice, batch_again, batch_passed}
 use Rattle.xml_repeats.proofs.differ_in_batches.Goals as goal
 
@@ -16,15 +14,15 @@ arrange-requires c =
 
 pub returns-then-not-arrange : goal.returns-then-not-arrange
 returns-then-not-arrange c =
-    record { by_index = batch_twice c.loop-at.invariant.0 (c.fill-batch.ensures.batch c.loop-at.invariant.0.late c.loop-at.invariant.0.rest) c.arrange.ensures.arranged (not-true _ c.if-not-arrange.true-raw); arrays = c.arrange.ensures.arrays }
+    record { by_index = batch_twice c.loop-at.invariant.0 (c.fill-batch.ensures.batch c.loop-at.invariant.0.late c.loop-at.invariant.0.rest) c.arrange.ensures.arranged c.if-not-arrange.true; arrays = c.arrange.ensures.arrays }
 
 pub none_held-requires : goal.none_held-requires
 none_held-requires c =
-    record { to_in_bounds = (c.loop-at.invariant.0.within, c.arrange.ensures.arranged.index (not-false _ c.if-not-arrange.false-raw)); classes = c.requires.classes }
+    record { to_in_bounds = (c.loop-at.invariant.0.within, c.arrange.ensures.arranged.index c.if-not-arrange.false); classes = c.requires.classes }
 
 pub returns-then-not-none_held : goal.returns-then-not-none_held
 returns-then-not-none_held c =
-    record { by_index = batch_again c.loop-at.invariant.0 (c.fill-batch.ensures.batch c.loop-at.invariant.0.late c.loop-at.invariant.0.rest) c.arrange.ensures.arranged (not-false _ c.if-not-arrange.false-raw) c.none_held.ensures (not-true _ c.if-not-none_held.true-raw); arrays = c.arrange.ensures.arrays }
+    record { by_index = batch_again c.loop-at.invariant.0 (c.fill-batch.ensures.batch c.loop-at.invariant.0.late c.loop-at.invariant.0.rest) c.arrange.ensures.arranged c.if-not-arrange.false c.none_held.ensures c.if-not-none_held.true; arrays = c.arrange.ensures.arrays }
 
 pub loop-at-smaller : goal.loop-at-smaller
 loop-at-smaller c =
@@ -33,7 +31,7 @@ loop-at-smaller c =
 
 pub loop-at-preserved : goal.loop-at-preserved
 loop-at-preserved c =
-    (batch_passed c.loop-at.invariant.0 (c.fill-batch.ensures.batch c.loop-at.invariant.0.late c.loop-at.invariant.0.rest) c.arrange.ensures.arranged (not-false _ c.if-not-arrange.false-raw) c.none_held.ensures (not-false _ c.if-not-none_held.false-raw), c.arrange.ensures.arrays)
+    (batch_passed c.loop-at.invariant.0 (c.fill-batch.ensures.batch c.loop-at.invariant.0.late c.loop-at.invariant.0.rest) c.arrange.ensures.arranged c.if-not-arrange.false c.none_held.ensures c.if-not-none_held.false, c.arrange.ensures.arrays)
 
 pub returns : goal.returns
 returns c = record { by_index = batching_end c.loop-at.invariant.0 c.loop-at-test.false; arrays = c.loop-at.invariant.1 }

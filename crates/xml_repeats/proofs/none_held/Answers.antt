@@ -1,9 +1,6 @@
 use mathlib.Core.Path.{sym, ◌∙◌}
 use native.Mathlib.Omega.{arith}
-use Rattle.xml_attributes.specs.Next.{next_in_tag}
-use Rattle.xml_attributes.specs.declared.NextInTag.TheVariants as next
 use Rattle.xml_attributes.proofs.NextLaws.{next_order, next_name}
-use Rattle.xml_repeats.proofs.Chains.{stopped}
 use Rattle.xml_repeats.proofs.Passing.{passing_start, passing_held, passing_turn, passing_broken, passing_end}
 use Rattle.xml_repeats.proofs.none_held.Goals as goal
 
@@ -12,23 +9,29 @@ loop-at-init c = passing_start _ _ _ _ _
 
 pub returns-in_default : goal.returns-in_default
 returns-in_default c =
-    passing_broken c.loop-at.invariant c.loop-at-test.true (λ b n e q. stopped _ c.in_default.keys2 b n e (c.next_in_tag.ensures ∙ q))
+    passing_broken c.loop-at.invariant c.loop-at-test.true (λ b n e q. c.in_default.not-Attribute b n e (c.next_in_tag.ensures ∙ q))
 
 pub slice_bounds-has-count : goal.slice_bounds-has-count
-slice_bounds-has-count c = let o = (next_order _ _ _ _ _ (omega arith) (sym c.next_in_tag.ensures ∙ c.begins-1.given.1)) in omega arith
+slice_bounds-has-count c = let o = next_order _ _ _ _ _ (omega arith) (sym c.in-Attribute.ensures) in omega arith
+
+pub slice_bounds-has-start : goal.slice_bounds-has-start
+slice_bounds-has-start c = let o = next_order _ _ _ _ _ (omega arith) (sym c.in-Attribute.ensures) in omega arith
+
+pub slice_bounds-has-end : goal.slice_bounds-has-end
+slice_bounds-has-end c = let o = next_order _ _ _ _ _ (omega arith) (sym c.in-Attribute.ensures) in omega arith
 
 pub returns-then-has : goal.returns-then-has
 returns-then-has c =
-    passing_held c.loop-at.invariant (sym c.next_in_tag.ensures ∙ c.begins-1.given.1) c.loop-at-test.true ((rw (next_name _ _ _ _ _ (sym c.next_in_tag.ensures ∙ c.begins-1.given.1)) (c.has.ensures) c.if-has.true))
+    passing_held c.loop-at.invariant (sym c.in-Attribute.ensures) c.loop-at-test.true (λ names held. rw (next_name _ _ _ _ _ (sym c.in-Attribute.ensures)) (c.has.ensures names held)) c.if-has.true
 
 pub loop-at-smaller : goal.loop-at-smaller
 loop-at-smaller c =
-    let o = (next_order _ _ _ _ _ (omega arith) (sym c.next_in_tag.ensures ∙ c.begins-1.given.1)) in
+    let o = next_order _ _ _ _ _ (omega arith) (sym c.in-Attribute.ensures) in
     omega arith
 
 pub loop-at-preserved : goal.loop-at-preserved
 loop-at-preserved c =
-    passing_turn c.loop-at.invariant (sym c.next_in_tag.ensures ∙ c.begins-1.given.1) c.loop-at-test.true ((rw (next_name _ _ _ _ _ (sym c.next_in_tag.ensures ∙ c.begins-1.given.1)) (c.has.ensures) c.if-has.false))
+    passing_turn c.loop-at.invariant (sym c.in-Attribute.ensures) c.loop-at-test.true (λ names held. rw (next_name _ _ _ _ _ (sym c.in-Attribute.ensures)) (c.has.ensures names held)) c.if-has.false
 
 pub returns : goal.returns
 returns c = passing_end c.loop-at.invariant c.loop-at-test.false c.requires.to_in_bounds.0

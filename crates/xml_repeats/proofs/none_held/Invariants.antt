@@ -1,7 +1,6 @@
 -- `xml_repeats::none_held` meets its contract. The loop's invariant: what is left to pass by says what all of it does. The measure is
 -- what is left. Assumes nothing.
 use Prim.Native.Nat.{◌-◌}
-use Rattle.xml_attributes.specs.declared.NextInTag.TheVariants as next
 use Rattle.xml_repeats.proofs.Passing.{Passing}
 use Rattle.xml_repeats.proofs.none_held.Given as goal
 

@@ -6,24 +6,18 @@ use Prim.Native.Nat.{ℕ}
 use Rattle.file_walk.proofs.judge.+with_most.Goals as goal
 
 pub pass-told-requires : goal.pass-told-requires
-pass-told-requires t c = c.requires.1
-
-never : (t : ℕ) → with-most-lts.Then1 (given t) (with-most-at t) with-most.Post → ⊥
-never t c =
-    let from = c.before.before.before.before.before.before in
-    never_deep (passes_all from.args.bytes.now from.args.tables.now from.args.size.under from.args.size.n) most_open c.before.before.pass.ensures
-    from.requires.1.0.walk_fits.records.few (omega arith) c.if1.true
+pass-told-requires t c = c.requires
 
 pub with_most-again-requires : goal.with_most-again-requires
-with_most-again-requires t c = absurd (never t c)
+with_most-again-requires t c = absurd (never_deep (passes_all c.args.bytes.now c.args.tables.now c.args.size.under c.args.size.n) most_open c.pass-told.ensures c.requires.0.walk_fits.records.few (omega arith) c.if-told-eq-TOO_DEEP.true)
 
 pub returns-then-again-eq-TOO_DEEP : goal.returns-then-again-eq-TOO_DEEP
-returns-then-again-eq-TOO_DEEP t c = absurd (never t c)
+returns-then-again-eq-TOO_DEEP t c = absurd (never_deep (passes_all c.args.bytes.now c.args.tables.now c.args.size.under c.args.size.n) most_open c.pass-told.ensures c.requires.0.walk_fits.records.few (omega arith) c.if-told-eq-TOO_DEEP.true)
 
 pub returns-else-again-eq-TOO_DEEP : goal.returns-else-again-eq-TOO_DEEP
-returns-else-again-eq-TOO_DEEP t c = absurd (never t c)
+returns-else-again-eq-TOO_DEEP t c = absurd (never_deep (passes_all c.args.bytes.now c.args.tables.now c.args.size.under c.args.size.n) most_open c.pass-told.ensures c.requires.0.walk_fits.records.few (omega arith) c.if-told-eq-TOO_DEEP.true)
 
 pub returns : goal.returns
 returns t c =
     most_judged (passes_all c.args.bytes.now c.args.tables.now c.args.size.under c.args.size.n) most_open c.pass-told.ensures
-    c.requires.1.0.walk_fits.records.few (omega arith)
+    c.requires.0.walk_fits.records.few (omega arith)

@@ -1,13 +1,16 @@
 -- `xml_pieces::pieces::cdata` meets its contract, by what its body's end says. Assumes nothing.
-use mathlib.Core.Path.{sym, ◌∙◌}
 use native.Mathlib.Omega.{arith}
-use Rattle.xml_pieces.proofs.PieceLaws.{cdata_found, cdata_missing}
+use Rattle.xml_pieces.proofs.PieceLaws.{cdata_found, cdata_missing, text_within}
 use Rattle.xml_pieces.proofs.pieces.cdata.Goals as goal
 
 pub returns-in_default : goal.returns-in_default
 returns-in_default c =
-    cdata_missing c.args.text.now c.args.at (omega (arith, c.requires.cdata_opens_in_bounds.0)) c.requires.cdata_opens_in_bounds.1 (sym c.enum_told-1.given.1 ∙ c.body_end.ensures)
+    cdata_missing c.args.text.now c.args.at (omega (arith, c.requires.cdata_opens_in_bounds.0)) c.requires.cdata_opens_in_bounds.1 c.in_default.ensures
+
+pub overflow_add-result : goal.overflow_add-result
+overflow_add-result c =
+    omega (arith, text_within _ _ _ (cdata_found c.args.text.now c.args.at (omega (arith, c.requires.cdata_opens_in_bounds.0)) c.requires.cdata_opens_in_bounds.1 _ c.in-At.ensures))
 
 pub returns : goal.returns
 returns c =
-    cdata_found c.args.text.now c.args.at (omega (arith, c.requires.cdata_opens_in_bounds.0)) c.requires.cdata_opens_in_bounds.1 _ (sym c.e-1.given.1 ∙ c.body_end.ensures)
+    cdata_found c.args.text.now c.args.at (omega (arith, c.requires.cdata_opens_in_bounds.0)) c.requires.cdata_opens_in_bounds.1 _ c.in-At.ensures

@@ -1,5 +1,5 @@
 -- `xml_pieces::pieces::markup` meets its contract, opener by opener. Assumes nothing.
-use mathlib.Core.Path.{sym, ◌∙◌}
+use mathlib.Core.Path.{sym}
 use native.Mathlib.Omega.{arith}
 use Rattle.xml_laws.proofs.Bounds.{stands_within}
 use Rattle.xml_pieces.proofs.PieceLaws.{instruction_refused, doctype_refused, declaration_refused}
@@ -7,27 +7,27 @@ use Rattle.xml_pieces.proofs.pieces.markup.Goals as goal
 
 pub comment-requires : goal.comment-requires
 comment-requires c =
-    let stands = sym c.stands.ensures ∙ c.if-stands.true in
+    let stands = sym c.if-stands.ensures in
     record { comment_opens_in_bounds = (stands_within _ c.args.text.now c.args.at (omega (arith, c.requires.at_in_bounds.0)) stands, stands); classes = c.requires.classes }
 
 pub cdata-requires : goal.cdata-requires
 cdata-requires c =
-    let stands = sym c.stands-2.ensures ∙ c.if-stands-2.true in
+    let stands = sym c.if-stands-2.ensures in
     record { cdata_opens_in_bounds = (stands_within _ c.args.text.now c.args.at (omega (arith, c.requires.at_in_bounds.0)) stands, stands); classes = c.requires.classes }
 
 pub returns-then-stands-3 : goal.returns-then-stands-3
 returns-then-stands-3 c =
-    instruction_refused c.args.text.now c.args.at c.requires.at_in_bounds.0 c.requires.at_in_bounds.1 (sym c.stands.ensures ∙ c.if-stands.false)
-    (sym c.stands-2.ensures ∙ c.if-stands-2.false) (sym c.stands-3.ensures ∙ c.if-stands-3.true)
+    instruction_refused c.args.text.now c.args.at c.requires.at_in_bounds.0 c.requires.at_in_bounds.1 (sym c.if-stands.ensures)
+    (sym c.if-stands-2.ensures) (sym c.if-stands-3.ensures)
 
 pub returns-then-stands-4 : goal.returns-then-stands-4
 returns-then-stands-4 c =
-    doctype_refused c.args.text.now c.args.at c.requires.at_in_bounds.0 c.requires.at_in_bounds.1 (sym c.stands.ensures ∙ c.if-stands.false)
-    (sym c.stands-2.ensures ∙ c.if-stands-2.false) (sym c.stands-3.ensures ∙ c.if-stands-3.false)
-    (sym c.stands-4.ensures ∙ c.if-stands-4.true)
+    doctype_refused c.args.text.now c.args.at c.requires.at_in_bounds.0 c.requires.at_in_bounds.1 (sym c.if-stands.ensures)
+    (sym c.if-stands-2.ensures) (sym c.if-stands-3.ensures)
+    (sym c.if-stands-4.ensures)
 
 pub returns : goal.returns
 returns c =
-    declaration_refused c.args.text.now c.args.at c.requires.at_in_bounds.0 c.requires.at_in_bounds.1 (sym c.stands.ensures ∙ c.if-stands.false)
-    (sym c.stands-2.ensures ∙ c.if-stands-2.false) (sym c.stands-3.ensures ∙ c.if-stands-3.false)
-    (sym c.stands-4.ensures ∙ c.if-stands-4.false)
+    declaration_refused c.args.text.now c.args.at c.requires.at_in_bounds.0 c.requires.at_in_bounds.1 (sym c.if-stands.ensures)
+    (sym c.if-stands-2.ensures) (sym c.if-stands-3.ensures)
+    (sym c.if-stands-4.ensures)

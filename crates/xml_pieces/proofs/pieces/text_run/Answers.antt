@@ -18,8 +18,8 @@ returns-then-text-at-eq38 c =
 
 pub returns-in_default : goal.returns-in_default
 returns-in_default c =
-    data_missing c.args.text.now c.args.at c.requires.at_in_bounds.0 c.requires.at_in_bounds.1 c.if-text-at-eq38.false (sym c.enum_told-1.given.1 ∙ c.data_end.ensures)
+    data_missing c.args.text.now c.args.at c.requires.at_in_bounds.0 c.requires.at_in_bounds.1 c.if-text-at-eq38.false c.in_default.ensures
 
 pub returns : goal.returns
 returns c =
-    data_piece c.args.text.now c.args.at c.requires.at_in_bounds.0 c.requires.at_in_bounds.1 c.if-text-at-eq38.false _ (sym c.e-1.given.1 ∙ c.data_end.ensures)
+    data_piece c.args.text.now c.args.at c.requires.at_in_bounds.0 c.requires.at_in_bounds.1 c.if-text-at-eq38.false _ c.in-At.ensures

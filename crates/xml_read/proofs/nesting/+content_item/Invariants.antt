@@ -1,3 +1,5 @@
+-- The measures of `xml_read::nesting::content` and `item`: the depth left, and of one depth content comes above its items. The loop's
+-- invariant: content has been read on up to the cursor. The loop's measure is what is left of the text. Assumes nothing.
 use Prim.Native.Nat.{◌+◌, ◌*◌, ◌-◌}
 use lib.ListN.{length}
 use Rattle.name_index.specs.Index.{Arrays}
@@ -8,12 +10,12 @@ use Rattle.xml_read.proofs.nesting.+content_item.Given as goal
 abbrev pub decreases-content : goal.decreases-content
 decreases-content l = 2 * l.depth + 1
 
-abbrev pub decreases-content : goal.decreases-content
-decreases-content l = 2 * l.depth
+abbrev pub decreases-item : goal.decreases-item
+decreases-item l = 2 * l.depth
 
-abbrev pub invariant-loop-kinds : goal.invariant-loop-kinds
-invariant-loop-kinds l =
+abbrev pub invariant-content-loop-kinds : goal.invariant-content-loop-kinds
+invariant-content-loop-kinds l =
     InText l.text l.here × ReadsOn l.text l.depth l.initial.here l.initial.here.at l.initial.kinds l.kinds (On l.here) × Arrays l.hashes l.starts
 
-abbrev pub decreases-loop-kinds : goal.decreases-loop-kinds
-decreases-loop-kinds l = length l.text - l.here.at
+abbrev pub decreases-content-loop-kinds : goal.decreases-content-loop-kinds
+decreases-content-loop-kinds l = length l.text - l.here.at

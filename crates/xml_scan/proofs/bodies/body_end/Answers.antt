@@ -1,6 +1,5 @@
-use mathlib.Core.Path.{sym, ◌∙◌}
+use mathlib.Core.Path.{sym}
 use native.Mathlib.Omega.{arith}
-use borrow.Author.Tests.{not-true, not-false}
 use Rattle.xml_scan.proofs.Seeks.{seeking_start, seeking_at, seeking_none, seeking_on}
 use Rattle.xml_scan.proofs.BodySteps.{body_over, body_closed, body_broken, body_on}
 use Rattle.xml_scan.proofs.bodies.body_end.Goals as goal
@@ -13,7 +12,7 @@ stands-requires c = omega arith
 
 pub returns-then-stands : goal.returns-then-stands
 returns-then-stands c =
-    seeking_at c.loop-i.invariant (body_closed _ _ _ c.loop-i-test.true (sym c.stands.ensures ∙ c.if-stands.true))
+    seeking_at c.loop-i.invariant (body_closed _ _ _ c.loop-i-test.true (sym c.if-stands.ensures))
 
 pub bounds-text-i : goal.bounds-text-i
 bounds-text-i c = omega arith
@@ -21,7 +20,7 @@ bounds-text-i c = omega arith
 pub returns-then-not-is_char : goal.returns-then-not-is_char
 returns-then-not-is_char c =
     seeking_none c.loop-i.invariant
-    (body_broken _ _ _ c.loop-i-test.true (sym c.stands.ensures ∙ c.if-stands.false) (sym c.is_char.ensures ∙ not-true _ c.if-not-is_char.true-raw))
+    (body_broken _ _ _ c.loop-i-test.true (sym c.if-stands.ensures) (sym c.if-not-is_char.ensures))
 
 pub overflow_add-i : goal.overflow_add-i
 overflow_add-i c = omega arith
@@ -32,7 +31,7 @@ loop-i-smaller c = omega arith
 pub loop-i-preserved : goal.loop-i-preserved
 loop-i-preserved c =
     seeking_on c.loop-i.invariant c.loop-i-test.true
-    (body_on _ _ _ c.loop-i-test.true (sym c.stands.ensures ∙ c.if-stands.false) (sym c.is_char.ensures ∙ not-false _ c.if-not-is_char.false-raw))
+    (body_on _ _ _ c.loop-i-test.true (sym c.if-stands.ensures) (sym c.if-not-is_char.ensures))
 
 pub returns : goal.returns
 returns c = seeking_none c.loop-i.invariant (body_over _ _ _ c.loop-i-test.false)

@@ -1,6 +1,5 @@
 use mathlib.Core.Path.{refl, sym, ◌∙◌}
 use native.Mathlib.Omega.{arith}
-use borrow.Author.Tests.{not-true, not-false}
 use Rattle.xml_scan.proofs.Seeks.{seeking_start, seeking_at, seeking_none}
 use Rattle.xml_scan.proofs.ValueSteps.{value_over, value_closed, value_broken, value_within, seeking_past, part_reference, part_byte, part_none}
 use Rattle.xml_scan.proofs.bodies.value_end.Goals as goal
@@ -35,7 +34,7 @@ loop-i-preserved-then-c-eq38 c =
 pub returns-then-not-is_plain : goal.returns-then-not-is_plain
 returns-then-not-is_plain c =
     seeking_none c.loop-i.invariant
-    (value_broken _ _ _ c.loop-i-test.true 0 c.if-c-quote.false (part_none _ _ c.loop-i-test.true c.if-c-eq38.false (sym c.is_plain.ensures ∙ not-true _ c.if-not-is_plain.true-raw)) refl)
+    (value_broken _ _ _ c.loop-i-test.true 0 c.if-c-quote.false (part_none _ _ c.loop-i-test.true c.if-c-eq38.false (sym c.if-not-is_plain.ensures)) refl)
 
 pub overflow_add-i-else-c-eq38 : goal.overflow_add-i-else-c-eq38
 overflow_add-i-else-c-eq38 c = omega arith
@@ -45,7 +44,7 @@ loop-i-smaller c = omega arith
 
 pub loop-i-preserved : goal.loop-i-preserved
 loop-i-preserved c =
-    seeking_past 1 c.loop-i.invariant c.loop-i-test.true c.if-c-quote.false (part_byte _ _ c.loop-i-test.true c.if-c-eq38.false (sym c.is_plain.ensures ∙ not-false _ c.if-not-is_plain.false-raw)) (omega arith)
+    seeking_past 1 c.loop-i.invariant c.loop-i-test.true c.if-c-quote.false (part_byte _ _ c.loop-i-test.true c.if-c-eq38.false (sym c.if-not-is_plain.ensures)) (omega arith)
 
 pub returns : goal.returns
 returns c = seeking_none c.loop-i.invariant (value_over _ _ _ c.loop-i-test.false)

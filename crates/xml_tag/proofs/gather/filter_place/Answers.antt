@@ -7,19 +7,19 @@ use Rattle.xml_tag.specs.Filter.{filter_place}
 use Rattle.xml_tag.proofs.gather.filter_place.Goals as goal
 
 pub overflow_cast-first : goal.overflow_cast-first
-overflow_cast-first c = omega (arith, c.shared_slice_known-1.given 0)
+overflow_cast-first c = omega (arith, c.type_inv.name 0)
 
 pub overflow_cast-last : goal.overflow_cast-last
-overflow_cast-last c = omega (arith, c.shared_slice_known-2-1.given (length c.args.name.now - 1))
+overflow_cast-last c = omega (arith, c.type_inv.name (length c.args.name.now - 1))
 
 pub overflow_mul-result : goal.overflow_mul-result
-overflow_mul-result c = omega (arith, c.shared_slice_known-2-1.given (length c.args.name.now - 1))
+overflow_mul-result c = omega (arith, c.type_inv.name (length c.args.name.now - 1))
 
 pub overflow_add-result : goal.overflow_add-result
-overflow_add-result c = omega (arith, c.shared_slice_known-2-1.given (length c.args.name.now - 1))
+overflow_add-result c = omega (arith, c.type_inv.name (length c.args.name.now - 1))
 
 pub overflow_add-result-2 : goal.overflow_add-result-2
-overflow_add-result-2 c = omega (arith, c.shared_slice_known-1.given 0, c.shared_slice_known-2-1.given (length c.args.name.now - 1))
+overflow_add-result-2 c = omega (arith, c.type_inv.name 0, c.type_inv.name (length c.args.name.now - 1))
 
 pub returns : goal.returns
 unfolding filter_place

@@ -1,10 +1,6 @@
-use mathlib.Core.Path.{refl, sym, ◌∙◌}
-use Prim.Native.Nat.{◌<◌}
+use mathlib.Core.Path.{refl, sym}
 use native.Mathlib.Omega.{arith}
-use Rattle.xml_attributes.specs.Next.{next_in_tag}
-use Rattle.xml_attributes.specs.declared.NextInTag.TheVariants as next
 use Rattle.xml_attributes.proofs.NextLaws.{next_order, next_long}
-use Rattle.xml_tag.specs.Filter.{filter_places}
 use Rattle.xml_tag.proofs.FilterMarks.{place_within}
 use Rattle.xml_tag.proofs.GatherSteps.{gathering_start, gathering_count, gathering_turn, gathering_closes, gathering_broken, gathering_over}
 use Rattle.xml_tag.proofs.gather.gather.Goals as goal
@@ -17,23 +13,29 @@ next_in_tag-requires c = record { at_in_bounds = c.loop-at.invariant.met.within;
 
 pub returns-in-Closer : goal.returns-in-Closer
 returns-in-Closer c =
-    record { gathers = gathering_closes c.loop-at.invariant _ _ (sym c.next_in_tag.ensures ∙ c.end-1.given.1); starts = c.loop-at.invariant.long }
+    record { gathers = gathering_closes c.loop-at.invariant _ _ (sym c.in-Closer.ensures); starts = c.loop-at.invariant.long }
 
 pub returns-in-Broken : goal.returns-in-Broken
 returns-in-Broken c =
-    record { gathers = gathering_broken c.loop-at.invariant (sym c.next_in_tag.ensures ∙ c.enum_told-1.given.1); starts = c.loop-at.invariant.long }
+    record { gathers = gathering_broken c.loop-at.invariant (sym c.in-Broken.ensures); starts = c.loop-at.invariant.long }
 
 pub slice_bounds-filter_place-count : goal.slice_bounds-filter_place-count
-slice_bounds-filter_place-count c = let o = (next_order _ _ _ _ _ c.loop-at.invariant.met.within (sym c.next_in_tag.ensures ∙ c.begins-1.given.1)) in omega arith
+slice_bounds-filter_place-count c = let o = next_order _ _ _ _ _ c.loop-at.invariant.met.within (sym c.in-Attribute.ensures) in omega arith
+
+pub slice_bounds-filter_place-start : goal.slice_bounds-filter_place-start
+slice_bounds-filter_place-start c = let o = next_order _ _ _ _ _ c.loop-at.invariant.met.within (sym c.in-Attribute.ensures) in omega arith
+
+pub slice_bounds-filter_place-end : goal.slice_bounds-filter_place-end
+slice_bounds-filter_place-end c = let o = next_order _ _ _ _ _ c.loop-at.invariant.met.within (sym c.in-Attribute.ensures) in omega arith
 
 pub filter_place-place-requires : goal.filter_place-place-requires
-filter_place-place-requires c = next_long _ _ _ _ _ (sym c.next_in_tag.ensures ∙ c.begins-1.given.1)
+filter_place-place-requires c = next_long _ _ _ _ _ (sym c.in-Attribute.ensures)
 
 pub bounds-filter-place : goal.bounds-filter-place
-bounds-filter-place c = (let it : c.filter_place-place.result < filter_places = rw c.filter_place-place.ensures (place_within _) in it)
+bounds-filter-place c = rw c.filter_place-place.ensures (place_within _)
 
 pub bounds-filter-place-in-Attribute : goal.bounds-filter-place-in-Attribute
-bounds-filter-place-in-Attribute c = (let it : c.filter_place-place.result < filter_places = rw c.filter_place-place.ensures (place_within _) in it)
+bounds-filter-place-in-Attribute c = rw c.filter_place-place.ensures (place_within _)
 
 pub note-count-requires : goal.note-count-requires
 note-count-requires c =
@@ -41,12 +43,12 @@ note-count-requires c =
 
 pub loop-at-smaller : goal.loop-at-smaller
 loop-at-smaller c =
-    let o = (next_order _ _ _ _ _ c.loop-at.invariant.met.within (sym c.next_in_tag.ensures ∙ c.begins-1.given.1)) in
+    let o = next_order _ _ _ _ _ c.loop-at.invariant.met.within (sym c.in-Attribute.ensures) in
     omega arith
 
 pub loop-at-preserved : goal.loop-at-preserved
 loop-at-preserved c =
-    rw (c.note-count.ensures.count, c.note-count.ensures.starts) (gathering_turn c.loop-at.invariant _ _ _ (sym c.next_in_tag.ensures ∙ c.begins-1.given.1) _ _ c.filter_place-place.ensures c.either-shared.ensures)
+    rw (c.note-count.ensures.count, c.note-count.ensures.starts) (gathering_turn c.loop-at.invariant _ _ _ (sym c.in-Attribute.ensures) _ _ c.filter_place-place.ensures c.either-shared.ensures)
 
 pub returns : goal.returns
 returns c = record { gathers = gathering_over c.loop-at.invariant c.loop-at-test.false; starts = c.loop-at.invariant.long }

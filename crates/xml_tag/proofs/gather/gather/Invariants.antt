@@ -2,7 +2,6 @@
 -- names marked, and they differ where no two share one. The measure is what is left of the text. Assumes nothing.
 use Prim.Native.Nat.{◌-◌}
 use lib.ListN.{length}
-use Rattle.xml_attributes.specs.declared.NextInTag.TheVariants as next
 use Rattle.xml_tag.proofs.GatherSteps.{Gathering}
 use Rattle.xml_tag.proofs.gather.gather.Given as goal
 

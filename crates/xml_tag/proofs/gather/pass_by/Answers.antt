@@ -1,4 +1,5 @@
-use mathlib.Core.Path.{sym, ◌∙◌}
+use mathlib.Core.Path.{sym}
+use mathlib.Core.List.{[]}
 use native.Mathlib.Omega.{arith}
 use Rattle.xml_attributes.specs.Chain.{here}
 use Rattle.xml_attributes.proofs.NextLaws.{next_later}
@@ -14,19 +15,19 @@ next_in_tag-requires c = record { at_in_bounds = c.loop-at.invariant.within; cla
 
 pub returns-in-Closer : goal.returns-in-Closer
 returns-in-Closer c =
-    passing_closes c.loop-at.invariant _ _ (sym c.next_in_tag.ensures ∙ c.end-1.given.1) c.requires.from_in_bounds.1
+    passing_closes c.loop-at.invariant _ _ (sym c.in-Closer.ensures) c.requires.from_in_bounds.1
 
 pub returns-in-Broken : goal.returns-in-Broken
-returns-in-Broken c = chain_broken c.loop-at.invariant.chain [] (sym c.next_in_tag.ensures ∙ c.enum_told-1.given.1)
+returns-in-Broken c = chain_broken c.loop-at.invariant.chain [] (sym c.in-Broken.ensures)
 
 pub loop-at-smaller : goal.loop-at-smaller
 loop-at-smaller c =
-    let o = next_later _ _ _ _ _ (sym c.next_in_tag.ensures ∙ c.end-in-Attribute-1.given.1) in
+    let o = next_later _ _ _ _ _ (sym c.in-Attribute.ensures) in
     omega arith
 
 pub loop-at-preserved : goal.loop-at-preserved
 loop-at-preserved c =
-    passing_turn c.loop-at.invariant _ _ _ (sym c.next_in_tag.ensures ∙ c.end-in-Attribute-1.given.1)
+    passing_turn c.loop-at.invariant _ _ _ (sym c.in-Attribute.ensures)
 
 pub returns : goal.returns
 returns c = chain_over c.loop-at.invariant.chain [] c.loop-at-test.false
