@@ -1,5 +1,5 @@
-// The interpreter over a reader and a writer, as standard input and standard output are. What is printed of what was read is
-// crate interpreter's.
+// The interpreter over a reader and a writer. No contract can say which bytes standard input gives and standard output takes;
+// of a reader and a writer that know their bytes, as those over memory do, `run` says all that is printed of what was read.
 #![tactic(auto)]
 
 ghost use Rattle.std.specs.Prelude.{◌≡◌, ◌<◌, ◌≤◌, [], length, take, IfOk, IfSome, OnOk};
@@ -35,7 +35,7 @@ impl fmt::Display for Stopped {
     }
 }
 
-// The front of a buffer, written whole.
+// The front of a buffer, written whole; where that fails, some of it may have gone out.
 fn print<W: Write>(output: &mut W, out: &[u8], count: usize) -> Result<(), Stopped>
     requires { count ≤ length out.now }
     ensures { OnOk result (Appends (W.contents output.old) (W.contents output.new) (take count out.now)) }
@@ -46,8 +46,8 @@ fn print<W: Write>(output: &mut W, out: &[u8], count: usize) -> Result<(), Stopp
     }
 }
 
-// One piece of the input; none at its end. A read that a signal interrupts is made again: a proved loop has to end, so that
-// the tries are counted down from a number that no run uses up.
+// One piece of the input; none at its end. Where it cannot be read, nothing was. A read that a signal interrupts is made again:
+// a proved loop has to end, so that the tries are counted down from a number that no run uses up.
 fn read_piece<R: Read>(input: &mut R, buffer: &mut [u8]) -> Result<usize, Stopped>
     ensures bound { ReadsAtMost result buffer.new }
     ensures bytes { IfOk result (λ n. Consumes (R.remaining input.old) (R.remaining input.new) (take n buffer.new)) }
@@ -69,7 +69,7 @@ fn read_piece<R: Read>(input: &mut R, buffer: &mut [u8]) -> Result<usize, Stoppe
 }
 
 // Every line that ends in a piece is answered. How many bytes of a line are then in hand; what they and the store are is what
-// the session's steps leave.
+// the session's steps leave. Where a reply cannot be printed, no further line is answered.
 fn serve<W: Write>(
     piece: &[u8],
     line: &mut [u8; LINE_BUFFER],
@@ -93,7 +93,7 @@ fn serve<W: Write>(
 }
 
 // Piece by piece to the end of the input. How many bytes of a last line are in hand; some pieces have led from the words at
-// first to what is in hand and in the store.
+// first to what is in hand and in the store. Where a read fails, the lines that ended before it are answered.
 fn serve_all<R: Read, W: Write>(
     input: &mut R,
     line: &mut [u8; LINE_BUFFER],
@@ -139,7 +139,8 @@ fn first_words() -> [u32; BOOK_WORDS]
     [0u32; BOOK_WORDS]
 }
 
-// All of an input, over that store.
+// All of an input, over that store: what its lines print is written. A run that is stopped has written what the lines before
+// print, and nothing behind that but some front of one reply.
 pub fn run<R: Read, W: Write>(input: &mut R, output: &mut W) -> Result<(), Stopped>
     ensures { OnOk result (IfSome (R.remaining input.old)
         (λ xs. Appends (W.contents output.old) (W.contents output.new) (texts first_words (lines xs)))) }

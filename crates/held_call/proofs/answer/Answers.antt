@@ -29,6 +29,6 @@ returns-then-label-end c =
 pub returns : goal.returns
 returns c =
     (tells _ _ _ c.requires (sym c.is_current.ensures ∙ not-false _ c.if-not-is_current.false-raw) (rw c.kind_of.ensures at c.if-kind_of-ge-MARK.false) false (rw c.label_of-label.ensures at (let it : (ltb c.args.pair.start.0 c.label_of-label.result.0 && ltb c.label_of-label.result.0 c.args.pair.end.0) ≡ false = (elim c.else-start-label.branch [
-      else-start-label-via-then-start-label+else-label-end w ↦ rw (le-ltb _ _ w.if-label-end.false, and-false)
+      | else-start-label-via-then-start-label+else-label-end w ↦ rw (le-ltb _ _ w.if-label-end.false, and-false)
       | else-start-label-via-else-start-label w ↦ rw (le-ltb _ _ w.if-start-label.false)
     ]) in it)))

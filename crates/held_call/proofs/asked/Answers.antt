@@ -20,7 +20,7 @@ pub returns-then-n-section : goal.returns-then-n-section
 returns-then-n-section c =
     no_such_tag _ _ _ c.requires c.if-pair-book.false
     (elim c.then-n-section.branch [
-      then-n-section-via-then-n-section w ↦ inl (rw c.count_of-n.ensures at w.if-n-section.true)
+      | then-n-section-via-then-n-section w ↦ inl (rw c.count_of-n.ensures at w.if-n-section.true)
       | then-n-section-via-else-n-section+then-n-tag w ↦ inr (rw c.count_of-n.ensures at w.if-n-tag.true)
     ])
 

@@ -33,9 +33,12 @@ height_of-requires c = (header_room _ c.requires.0)
 
 pub returns-then-top-height_of : goal.returns-then-top-height_of
 returns-then-top-height_of c =
-    record { refusal = room_below _ c.requires.0 _ (let it : word_at c.args.words.now at_count + c.args.k ≤ most_tags = omega (arith, c.count_of-n.ensures, (ranges _ c.requires.0).few, c.if-n-k.false) in it) (let it : words_for header_words (word_at c.args.words.now at_count + c.args.k) ≤ length c.args.words.now = rw (c.words_for.ensures, c.count_of-n.ensures) at c.if-words-words_for.false in it) (let it : c.height_with-top.result ≡ height_after c.args.words.now c.args.k = let more : word_at c.args.words.now at_count + c.args.k - word_at c.args.words.now at_count ≡ c.args.k = omega arith in
-    rw (c.count_of-n.ensures, more) at c.height_with-top.ensures in it) (c.if-top-height_of.true ∙ c.height_of.ensures); top = (λ z. (let it : c.height_with-top.result ≡ height_after c.args.words.now c.args.k = let more : word_at c.args.words.now at_count + c.args.k - word_at c.args.words.now at_count ≡ c.args.k = omega arith in
-    rw (c.count_of-n.ensures, more) at c.height_with-top.ensures in it)) }
+    record {
+      refusal = room_below _ c.requires.0 _ (let it : word_at c.args.words.now at_count + c.args.k ≤ most_tags = omega (arith, c.count_of-n.ensures, (ranges _ c.requires.0).few, c.if-n-k.false) in it) (let it : words_for header_words (word_at c.args.words.now at_count + c.args.k) ≤ length c.args.words.now = rw (c.words_for.ensures, c.count_of-n.ensures) at c.if-words-words_for.false in it) (let it : c.height_with-top.result ≡ height_after c.args.words.now c.args.k = let more : word_at c.args.words.now at_count + c.args.k - word_at c.args.words.now at_count ≡ c.args.k = omega arith in
+          rw (c.count_of-n.ensures, more) at c.height_with-top.ensures in it) (c.if-top-height_of.true ∙ c.height_of.ensures);
+      top = (λ z. (let it : c.height_with-top.result ≡ height_after c.args.words.now c.args.k = let more : word_at c.args.words.now at_count + c.args.k - word_at c.args.words.now at_count ≡ c.args.k = omega arith in
+          rw (c.count_of-n.ensures, more) at c.height_with-top.ensures in it));
+    }
 
 pub bounds-words-1 : goal.bounds-words-1
 bounds-words-1 c = omega (arith, (header_room _ c.requires.0))
@@ -48,11 +51,17 @@ height_fits-requires c = (ranges _ c.requires.0).product
 
 pub returns-then-height_fits : goal.returns-then-height_fits
 returns-then-height_fits c =
-    record { refusal = room_fits _ c.requires.0 _ (let it : word_at c.args.words.now at_count + c.args.k ≤ most_tags = omega (arith, c.count_of-n.ensures, (ranges _ c.requires.0).few, c.if-n-k.false) in it) (let it : words_for header_words (word_at c.args.words.now at_count + c.args.k) ≤ length c.args.words.now = rw (c.words_for.ensures, c.count_of-n.ensures) at c.if-words-words_for.false in it) (let it : c.height_with-top.result ≡ height_after c.args.words.now c.args.k = let more : word_at c.args.words.now at_count + c.args.k - word_at c.args.words.now at_count ≡ c.args.k = omega arith in
-    rw (c.count_of-n.ensures, more) at c.height_with-top.ensures in it) (λ same. c.if-top-height_of.false (same ∙ sym c.height_of.ensures)) c.height_fits.ensures c.if-height_fits.true; top = (λ z. (let it : c.height_with-top.result ≡ height_after c.args.words.now c.args.k = let more : word_at c.args.words.now at_count + c.args.k - word_at c.args.words.now at_count ≡ c.args.k = omega arith in
-    rw (c.count_of-n.ensures, more) at c.height_with-top.ensures in it)) }
+    record {
+      refusal = room_fits _ c.requires.0 _ (let it : word_at c.args.words.now at_count + c.args.k ≤ most_tags = omega (arith, c.count_of-n.ensures, (ranges _ c.requires.0).few, c.if-n-k.false) in it) (let it : words_for header_words (word_at c.args.words.now at_count + c.args.k) ≤ length c.args.words.now = rw (c.words_for.ensures, c.count_of-n.ensures) at c.if-words-words_for.false in it) (let it : c.height_with-top.result ≡ height_after c.args.words.now c.args.k = let more : word_at c.args.words.now at_count + c.args.k - word_at c.args.words.now at_count ≡ c.args.k = omega arith in
+          rw (c.count_of-n.ensures, more) at c.height_with-top.ensures in it) (λ same. c.if-top-height_of.false (same ∙ sym c.height_of.ensures)) c.height_fits.ensures c.if-height_fits.true;
+      top = (λ z. (let it : c.height_with-top.result ≡ height_after c.args.words.now c.args.k = let more : word_at c.args.words.now at_count + c.args.k - word_at c.args.words.now at_count ≡ c.args.k = omega arith in
+          rw (c.count_of-n.ensures, more) at c.height_with-top.ensures in it));
+    }
 
 pub returns : goal.returns
 returns c =
-    record { refusal = room_none _ c.requires.0 _ (let it : word_at c.args.words.now at_count + c.args.k ≤ most_tags = omega (arith, c.count_of-n.ensures, (ranges _ c.requires.0).few, c.if-n-k.false) in it) (let it : words_for header_words (word_at c.args.words.now at_count + c.args.k) ≤ length c.args.words.now = rw (c.words_for.ensures, c.count_of-n.ensures) at c.if-words-words_for.false in it) (let it : c.height_with-top.result ≡ height_after c.args.words.now c.args.k = let more : word_at c.args.words.now at_count + c.args.k - word_at c.args.words.now at_count ≡ c.args.k = omega arith in
-    rw (c.count_of-n.ensures, more) at c.height_with-top.ensures in it) (λ same. c.if-top-height_of.false (same ∙ sym c.height_of.ensures)) c.height_fits.ensures c.if-height_fits.false; top = (λ z. absurd (omega arith)) }
+    record {
+      refusal = room_none _ c.requires.0 _ (let it : word_at c.args.words.now at_count + c.args.k ≤ most_tags = omega (arith, c.count_of-n.ensures, (ranges _ c.requires.0).few, c.if-n-k.false) in it) (let it : words_for header_words (word_at c.args.words.now at_count + c.args.k) ≤ length c.args.words.now = rw (c.words_for.ensures, c.count_of-n.ensures) at c.if-words-words_for.false in it) (let it : c.height_with-top.result ≡ height_after c.args.words.now c.args.k = let more : word_at c.args.words.now at_count + c.args.k - word_at c.args.words.now at_count ≡ c.args.k = omega arith in
+          rw (c.count_of-n.ensures, more) at c.height_with-top.ensures in it) (λ same. c.if-top-height_of.false (same ∙ sym c.height_of.ensures)) c.height_fits.ensures c.if-height_fits.false;
+      top = (λ z. absurd (omega arith));
+    }

@@ -9,7 +9,7 @@ use Rattle.list_call.proofs.inside_refused.Goals as goal
 pub returns-then-first-ne0 : goal.returns-then-first-ne0
 returns-then-first-ne0 c =
     elim c.then-first-ne0.branch [
-      then-first-ne0-via-then-first-ne0 w ↦ words_first _ _ _ c.words_refused-first.ensures w.if-first-ne0.true
+      | then-first-ne0-via-then-first-ne0 w ↦ words_first _ _ _ c.words_refused-first.ensures w.if-first-ne0.true
       | then-first-ne0-via-else-first-ne0+then-is_none w ↦ w.if-first-ne0.false ∙ sym (inside_front _ _ (accepted_says _ _ (sym c.words_refused-first.ensures ∙ w.if-first-ne0.false)) (sym w.is_none.ensures ∙ w.if-is_none.true))
     ]
 

@@ -16,6 +16,6 @@ pub returns : goal.returns
 returns c =
     up_picked _ _ _ _ _ c.requires.0 c.at_end.ensures
     (λ e. elim c.else-kind-eq-END.branch [
-      else-kind-eq-END-via-then-kind-eq-END+else-not-inside w ↦ c.requires.2 (not-false _ w.if-not-inside.false)
+      | else-kind-eq-END-via-then-kind-eq-END+else-not-inside w ↦ c.requires.2 (not-false _ w.if-not-inside.false)
       | else-kind-eq-END-via-else-kind-eq-END w ↦ absurd (w.if-kind-eq-END.false e)
     ])

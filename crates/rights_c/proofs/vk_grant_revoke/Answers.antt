@@ -13,7 +13,7 @@ revoke-requires c = kept_fits c.args.party c.args.section c.args.count.now c.arg
 pub returns : goal.returns
 returns c =
     let all =
-        revoked c.args.party c.args.section c.args.count.now c.args.grants.now c.revoke_refused-refusal.ensures c.looked_at-looked.ensures (c.close_gap-kept.ensures.kept, c.close_gap-kept.ensures.list)
-        (c.revoke.ensures.reply, c.revoke.ensures.count)
+    revoked c.args.party c.args.section c.args.count.now c.args.grants.now c.revoke_refused-refusal.ensures c.looked_at-looked.ensures (c.close_gap-kept.ensures.kept, c.close_gap-kept.ensures.list)
+    (c.revoke.ensures.reply, c.revoke.ensures.count)
     in
     record { reply = all.0; grants = all.1.0; count = all.1.1 }

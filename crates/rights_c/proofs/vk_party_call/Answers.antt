@@ -10,7 +10,7 @@ pub returns : goal.returns
 returns c =
     let a = act_of c.args.book c.args.tag c.args.start c.args.end c.args.d c.args.right c.args.kind in
     let all =
-        acted c.args.party a c.args.count c.args.grants.now c.args.words.now c.party_refused-refusal.ensures c.looked_at-looked.ensures c.search-granted.ensures
-        (rw c.act_of-act.ensures at c.party.ensures.reply, rw c.act_of-act.ensures at c.party.ensures.words)
+    acted c.args.party a c.args.count c.args.grants.now c.args.words.now c.party_refused-refusal.ensures c.looked_at-looked.ensures c.search-granted.ensures
+    (rw c.act_of-act.ensures at c.party.ensures.reply, rw c.act_of-act.ensures at c.party.ensures.words)
     in
     record { reply = all.0; words = all.1 }

@@ -2,7 +2,7 @@
 use Rattle.std.proofs.Common.{◌≡◌, [], drop, arith, rules}
 use lib.ListN.{drop_of_length-le}
 use Rattle.interpreter.proofs.Steps.{steps_forward}
-use Rattle.terminal.proofs.Turns.{going_first, going_on, going_over, passed_of}
+use Rattle.terminal.proofs.Turns.{going_on, going_over, passed_of}
 use Rattle.terminal.proofs.serve.Goals as goal
 
 pub loop-at-smaller : goal.loop-at-smaller

@@ -19,12 +19,12 @@ label_there-label-requires c = stands_there c.requires.tag.0
 
 pub returns : goal.returns
 returns c = record {
-      place = refl;
-      tag = c.get_at.ensures _ c.requires.tag.0.there;
-      there = c.of.ensures;
-      prior = refl;
-      parent = c.open_after-parent.ensures;
-      depth = c.depth_after-depth.ensures;
-      marks = c.count_mark-marks.ensures;
-      expect = rw (c.label_there-label.ensures _ c.requires.tag.0.there) at c.expected.ensures;
-    }
+  place = refl;
+  tag = c.get_at.ensures _ c.requires.tag.0.there;
+  there = c.of.ensures;
+  prior = refl;
+  parent = c.open_after-parent.ensures;
+  depth = c.depth_after-depth.ensures;
+  marks = c.count_mark-marks.ensures;
+  expect = rw (c.label_there-label.ensures _ c.requires.tag.0.there) at c.expected.ensures;
+}
