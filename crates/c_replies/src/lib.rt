@@ -2,18 +2,15 @@
 // made of the numbers that C passes or gets: a party's act, and the place of a grant. The crates of the C interface share this.
 #![tactic(auto)]
 
-ghost use Rattle.std.specs.Prelude.{◌≡◌};
+ghost use Rattle.std.specs.Prelude.{◌≡◌, IfOk, IfErr};
+ghost use Rattle.store_types.specs.Replies.{numbered, number_of};
 ghost use Rattle.calls.specs.Replies.{answer_number};
-ghost use Rattle.c_replies.specs.Flat.{c_loaded, c_inserted, c_marked, c_held, c_answered, c_listed, c_written, c_kinds, c_granted, c_revoked, c_party, act_of as asked-for, place_for as place-granted};
+ghost use Rattle.c_replies.specs.Flat.{c_loaded, c_inserted, c_held, c_answered, c_counted, c_places, c_party, act_of as act_asked, place_for as place_granted, pair_of as pair_shown};
 
-use store_types::{
-    Act, Answer, GrantReply, HeldPair, HoldReply, InsertReply, Label, ListReply, LoadReply,
-    MarkReply, PartyReply, QuestionReply, RevokeReply, TagId, WriteReply,
-};
-use xml::SheetReply;
+use store_types::{Act, Answer, HeldPair, Label, PartyAnswer, Refusal, TagId};
 
 #[repr(C)]
-#[derive(Clone, Copy)]
+#[derive(Clone, Copy, Default)]
 pub struct Loaded {
     pub refusal: u32,
     pub tags: u32,
@@ -21,7 +18,7 @@ pub struct Loaded {
 }
 
 #[repr(C)]
-#[derive(Clone, Copy)]
+#[derive(Clone, Copy, Default)]
 pub struct Inserted {
     pub refusal: u32,
     pub first: u32,
@@ -30,14 +27,7 @@ pub struct Inserted {
 }
 
 #[repr(C)]
-#[derive(Clone, Copy)]
-pub struct Marked {
-    pub refusal: u32,
-    pub marked: u32,
-}
-
-#[repr(C)]
-#[derive(Clone, Copy)]
+#[derive(Clone, Copy, Default)]
 pub struct Held {
     pub refusal: u32,
     pub book: u32,
@@ -47,49 +37,30 @@ pub struct Held {
 }
 
 #[repr(C)]
-#[derive(Clone, Copy)]
+#[derive(Clone, Copy, Default)]
 pub struct Answered {
     pub refusal: u32,
     pub answer: u32,
 }
 
+// A reply of one number: how many tags were marked or listed, or how many bytes were written.
 #[repr(C)]
 #[derive(Clone, Copy)]
-pub struct Listed {
+pub struct Counted {
     pub refusal: u32,
     pub count: u32,
 }
 
+// A reply of one number of places in a lent list: how many kinds a sheet has, how many grants there are, or how many were revoked.
 #[repr(C)]
 #[derive(Clone, Copy)]
-pub struct Written {
+pub struct CountedPlaces {
     pub refusal: u32,
-    pub bytes: u32,
+    pub places: usize,
 }
 
 #[repr(C)]
-#[derive(Clone, Copy)]
-pub struct Kinds {
-    pub refusal: u32,
-    pub count: usize,
-}
-
-#[repr(C)]
-#[derive(Clone, Copy)]
-pub struct Granted {
-    pub refusal: u32,
-    pub count: usize,
-}
-
-#[repr(C)]
-#[derive(Clone, Copy)]
-pub struct Revoked {
-    pub refusal: u32,
-    pub revoked: usize,
-}
-
-#[repr(C)]
-#[derive(Clone, Copy)]
+#[derive(Clone, Copy, Default)]
 pub struct Party {
     pub refusal: u32,
     pub answer: u32,
@@ -98,79 +69,68 @@ pub struct Party {
     pub split: u32,
 }
 
-pub fn of_load(reply: LoadReply) -> Loaded
-    ensures { result ≡ c_loaded reply }
-{
-    match reply {
-        LoadReply::Loaded { tags, height } => Loaded {
-            refusal: 0,
-            tags,
-            height,
-        },
-        LoadReply::Refused(k) => Loaded {
-            refusal: k,
-            tags: 0,
-            height: 0,
-        },
+impl From<Result<store_types::Loaded, Refusal>> for Loaded {
+    ghost from_gives = { λ q r. r ≡ c_loaded (numbered q) };
+
+    #[tactic(auto, unfolding(crate::specs::Flat::c_loaded, calls::specs::Replies::load_numbers, store_types::specs::Replies::numbered))]
+    fn from(reply: Result<store_types::Loaded, Refusal>) -> Loaded {
+        match reply {
+            Ok(loaded) => Loaded {
+                refusal: 0,
+                tags: loaded.tags,
+                height: loaded.height,
+            },
+            Err(refusal) => Loaded {
+                refusal: refusal.number(),
+                ..Loaded::default()
+            },
+        }
     }
 }
 
-pub fn of_insert(reply: InsertReply) -> Inserted
-    ensures { result ≡ c_inserted reply }
-{
-    match reply {
-        InsertReply::Inserted {
-            first,
-            moved,
-            split,
-        } => Inserted {
-            refusal: 0,
-            first: first.0,
-            moved,
-            split,
-        },
-        InsertReply::Refused(k) => Inserted {
-            refusal: k,
-            first: 0,
-            moved: 0,
-            split: 0,
-        },
+impl From<Result<store_types::Inserted, Refusal>> for Inserted {
+    ghost from_gives = { λ q r. r ≡ c_inserted (numbered q) };
+
+    #[tactic(auto, unfolding(crate::specs::Flat::c_inserted, calls::specs::Replies::insert_numbers, store_types::specs::Replies::numbered))]
+    fn from(reply: Result<store_types::Inserted, Refusal>) -> Inserted {
+        match reply {
+            Ok(inserted) => Inserted {
+                refusal: 0,
+                first: inserted.first.0,
+                moved: inserted.moved,
+                split: inserted.split,
+            },
+            Err(refusal) => Inserted {
+                refusal: refusal.number(),
+                ..Inserted::default()
+            },
+        }
     }
 }
 
-pub fn of_mark(reply: MarkReply) -> Marked
-    ensures { result ≡ c_marked reply }
-{
-    match reply {
-        MarkReply::Marked(marked) => Marked { refusal: 0, marked },
-        MarkReply::Refused(k) => Marked {
-            refusal: k,
-            marked: 0,
-        },
+impl From<Result<HeldPair, Refusal>> for Held {
+    ghost from_gives = { λ q r. r ≡ c_held (numbered q) };
+
+    #[tactic(auto, unfolding(crate::specs::Flat::c_held, calls::specs::Replies::hold_numbers, store_types::specs::Replies::numbered))]
+    fn from(reply: Result<HeldPair, Refusal>) -> Held {
+        match reply {
+            Ok(pair) => Held {
+                refusal: 0,
+                book: pair.book,
+                tag: pair.tag.0,
+                start: pair.start.0,
+                end: pair.end.0,
+            },
+            Err(refusal) => Held {
+                refusal: refusal.number(),
+                ..Held::default()
+            },
+        }
     }
 }
 
-pub fn of_hold(reply: HoldReply) -> Held
-    ensures { result ≡ c_held reply }
-{
-    match reply {
-        HoldReply::Held(p) => Held {
-            refusal: 0,
-            book: p.book,
-            tag: p.tag.0,
-            start: p.start.0,
-            end: p.end.0,
-        },
-        HoldReply::Refused(k) => Held {
-            refusal: k,
-            book: 0,
-            tag: 0,
-            start: 0,
-            end: 0,
-        },
-    }
-}
-
+// The number of an answer.
+#[tactic(auto, unfolding(calls::specs::Replies::answer_number))]
 fn of_answer(answer: Answer) -> u32
     ensures { result ≡ answer_number answer }
 {
@@ -181,145 +141,110 @@ fn of_answer(answer: Answer) -> u32
     }
 }
 
-pub fn of_question(reply: QuestionReply) -> Answered
-    ensures { result ≡ c_answered reply }
-{
-    match reply {
-        QuestionReply::Answered(a) => Answered {
-            refusal: 0,
-            answer: of_answer(a),
-        },
-        QuestionReply::Refused(k) => Answered {
-            refusal: k,
-            answer: 0,
-        },
+impl From<Result<Answer, Refusal>> for Answered {
+    ghost from_gives = { λ q r. r ≡ c_answered (numbered q) };
+
+    #[tactic(auto, unfolding(crate::specs::Flat::c_answered, calls::specs::Replies::question_numbers, store_types::specs::Replies::numbered))]
+    fn from(reply: Result<Answer, Refusal>) -> Answered {
+        match reply {
+            Ok(answer) => Answered {
+                refusal: 0,
+                answer: of_answer(answer),
+            },
+            Err(refusal) => Answered {
+                refusal: refusal.number(),
+                ..Answered::default()
+            },
+        }
     }
 }
 
-pub fn of_list(reply: ListReply) -> Listed
-    ensures { result ≡ c_listed reply }
+// The numbers of a reply of one number, with `zero` where it is refused.
+fn numbers<T: Copy>(reply: Result<T, Refusal>, zero: T) -> (u32, T)
+    ensures accepted { IfOk reply (λ n. result ≡ (0, n)) }
+    ensures refused { IfErr reply (λ k. result ≡ (number_of k, zero)) }
 {
     match reply {
-        ListReply::Listed(count) => Listed { refusal: 0, count },
-        ListReply::Refused(k) => Listed {
-            refusal: k,
-            count: 0,
-        },
+        Ok(count) => (0, count),
+        Err(refusal) => (refusal.number(), zero),
     }
 }
 
-pub fn of_write(reply: WriteReply) -> Written
-    ensures { result ≡ c_written reply }
-{
-    match reply {
-        WriteReply::Written(bytes) => Written { refusal: 0, bytes },
-        WriteReply::Refused(k) => Written {
-            refusal: k,
-            bytes: 0,
-        },
+impl From<Result<u32, Refusal>> for Counted {
+    ghost from_gives = { λ q r. r ≡ c_counted (numbered q) };
+
+    #[tactic(auto, unfolding(crate::specs::Flat::c_counted, store_types::specs::Replies::count_numbers, store_types::specs::Replies::numbered))]
+    fn from(reply: Result<u32, Refusal>) -> Counted {
+        let (refusal, count) = numbers(reply, 0);
+        Counted { refusal, count }
     }
 }
 
-pub fn of_sheet(reply: SheetReply) -> Kinds
-    ensures { result ≡ c_kinds reply }
-{
-    match reply {
-        SheetReply::Kinds(count) => Kinds { refusal: 0, count },
-        SheetReply::Refused(k) => Kinds {
-            refusal: k,
-            count: 0,
-        },
+impl From<Result<usize, Refusal>> for CountedPlaces {
+    ghost from_gives = { λ q r. r ≡ c_places (numbered q) };
+
+    #[tactic(auto, unfolding(crate::specs::Flat::c_places, store_types::specs::Replies::count_numbers, store_types::specs::Replies::numbered))]
+    fn from(reply: Result<usize, Refusal>) -> CountedPlaces {
+        let (refusal, places) = numbers(reply, 0);
+        CountedPlaces { refusal, places }
     }
 }
 
-pub fn of_grant(reply: GrantReply) -> Granted
-    ensures { result ≡ c_granted reply }
-{
-    match reply {
-        GrantReply::Granted(count) => Granted { refusal: 0, count },
-        GrantReply::Refused(k) => Granted {
-            refusal: k,
-            count: 0,
-        },
-    }
-}
+impl From<Result<PartyAnswer, Refusal>> for Party {
+    ghost from_gives = { λ q r. r ≡ c_party (numbered q) };
 
-pub fn of_revoke(reply: RevokeReply) -> Revoked
-    ensures { result ≡ c_revoked reply }
-{
-    match reply {
-        RevokeReply::Revoked(revoked) => Revoked {
-            refusal: 0,
-            revoked,
-        },
-        RevokeReply::Refused(k) => Revoked {
-            refusal: k,
-            revoked: 0,
-        },
-    }
-}
-
-pub fn of_party(reply: PartyReply) -> Party
-    ensures { result ≡ c_party reply }
-{
-    match reply {
-        PartyReply::Yes => Party {
-            refusal: 0,
-            answer: 1,
-            first: 0,
-            moved: 0,
-            split: 0,
-        },
-        PartyReply::Stale => Party {
-            refusal: 0,
-            answer: 2,
-            first: 0,
-            moved: 0,
-            split: 0,
-        },
-        PartyReply::Inserted {
-            first,
-            moved,
-            split,
-        } => Party {
-            refusal: 0,
-            answer: 3,
-            first: first.0,
-            moved,
-            split,
-        },
-        PartyReply::Refused(k) => Party {
-            refusal: k,
-            answer: 0,
-            first: 0,
-            moved: 0,
-            split: 0,
-        },
+    #[tactic(auto, unfolding(crate::specs::Flat::c_party, calls::specs::Rights::party_numbers, store_types::specs::Replies::numbered))]
+    fn from(reply: Result<PartyAnswer, Refusal>) -> Party {
+        match reply {
+            Ok(PartyAnswer::Yes) => Party {
+                answer: 1,
+                ..Party::default()
+            },
+            Ok(PartyAnswer::Stale) => Party {
+                answer: 2,
+                ..Party::default()
+            },
+            Ok(PartyAnswer::Inserted(inserted)) => Party {
+                refusal: 0,
+                answer: 3,
+                first: inserted.first.0,
+                moved: inserted.moved,
+                split: inserted.split,
+            },
+            Err(refusal) => Party {
+                refusal: refusal.number(),
+                ..Party::default()
+            },
+        }
     }
 }
 
 // Where a granted record goes: the place in front of the new count. Where the grant is refused, to no place of the list.
-pub fn place_for(reply: Granted, room: usize) -> usize
-    ensures { result ≡ place-granted reply room }
+#[tactic(auto, unfolding(crate::specs::Flat::place_for))]
+pub fn place_for(reply: CountedPlaces, room: usize) -> usize
+    ensures { result ≡ place_granted reply room }
 {
-    if reply.count == 0 {
-        return room;
-    }
-    reply.count - 1
+    reply.places.checked_sub(1).unwrap_or(room)
 }
 
-// What a party asks for, from the numbers that it passes.
-pub fn act_of(book: u32, tag: u32, start: u32, end: u32, d: u32, right: u32, kind: u8) -> Act
-    ensures { result ≡ asked-for book tag start end d right kind }
+// The pair that a caller shows, from the numbers that it passes.
+pub fn pair_of(book: u32, tag: u32, start: u32, end: u32) -> HeldPair
+    ensures { result ≡ pair_shown book tag start end }
 {
-    let pair = HeldPair {
+    HeldPair {
         book,
         tag: TagId(tag),
         start: Label(start),
         end: Label(end),
-    };
+    }
+}
+
+// What a party asks for, from the numbers that it passes.
+pub fn act_of(book: u32, tag: u32, start: u32, end: u32, d: u32, right: u32, kind: u8) -> Act
+    ensures { result ≡ act_asked book tag start end d right kind }
+{
     Act {
-        pair,
+        pair: pair_of(book, tag, start, end),
         tag: TagId(d),
         right,
         kind,

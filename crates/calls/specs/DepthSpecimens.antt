@@ -1,10 +1,11 @@
 -- Depths worked out by hand from document 02, CR 7: one table, which proofs/DepthSpecimens.antt shows to hold. Each is a list of
 -- calls over one lent slice of words, all 0 at first, with what each replies and what the words then hold.
+use Rattle.store_types.specs.Replies.{count_numbers}
 use Rattle.std.specs.Prelude.{Bool, true, ◌&&◌, ◌||◌, List, [], ◌∷◌, ◌++◌, ℕ, suc, ◌-◌, eqb, length, take, drop, replicate}
 use Rattle.lists.specs.Lists.{numbers, same, all_hold}
 use Rattle.store_types.specs.Limits.{no_tag}
 use Rattle.store_types.specs.Layout.{at_count, header_words, at_depth, word_at, field, with_field}
-use Rattle.calls.specs.Replies.{load_reply, load_words, insert_reply, insert_words, insert_sheet_reply, insert_sheet_words, mark_reply, mark_words, hold_reply, load_numbers, insert_numbers, mark_numbers, hold_numbers}
+use Rattle.calls.specs.Replies.{load_reply, load_words, insert_reply, insert_words, insert_sheet_reply, insert_sheet_words, mark_reply, mark_words, hold_reply, load_numbers, insert_numbers, hold_numbers}
 use Rattle.calls.specs.SheetSpecimens.{fields_hold}
 
 -- a call and the numbers that it replies, of loads with book number 7; so many words more are lent, all 0; what the words then hold
@@ -33,7 +34,7 @@ deeds_hold ws [] = true
 deeds_hold ws (load s r cs q ∷ ds) = same (load_numbers (load_reply s r 7 cs ws)) q && deeds_hold (load_words s r 7 cs ws) ds
 deeds_hold ws (insert c y q ∷ ds) = same (insert_numbers (insert_reply c y ws)) q && deeds_hold (insert_words c y ws) ds
 deeds_hold ws (sheet cs y q ∷ ds) = same (insert_numbers (insert_sheet_reply cs y ws)) q && deeds_hold (insert_sheet_words cs y ws) ds
-deeds_hold ws (mark x q ∷ ds) = same (mark_numbers (mark_reply x ws)) q && deeds_hold (mark_words x ws) ds
+deeds_hold ws (mark x q ∷ ds) = same (count_numbers (mark_reply x ws)) q && deeds_hold (mark_words x ws) ds
 deeds_hold ws (lend k ∷ ds) = deeds_hold (ws ++ replicate k 0) ds
 deeds_hold ws (records vs ∷ ds) = same (take (length vs) (drop header_words ws)) vs && deeds_hold ws ds
 deeds_hold ws (depths x vs ∷ ds) = fields_hold ws at_depth x vs && deeds_hold ws ds

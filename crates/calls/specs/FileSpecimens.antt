@@ -1,9 +1,10 @@
 -- Files worked out by hand from document 02, CR 3, and CR 7 for depth, which no file keeps: one table, which proofs/FileSpecimens.antt shows to hold. Each is a list of
 -- writings and readings over one lent slice of words, with the numbers that each replies.
+use Rattle.store_types.specs.Replies.{count_numbers}
 use Rattle.std.specs.Prelude.{Bool, true, ◌&&◌, List, [], ◌∷◌, ◌++◌, ℕ, set, take, replicate}
 use Rattle.lists.specs.Lists.{same}
 use Rattle.calls.specs.DepthSpecimens.{printed_records}
-use Rattle.calls.specs.Replies.{load_words, insert_words, load_numbers, write_reply, write_bytes, write_numbers, read_reply, read_words}
+use Rattle.calls.specs.Replies.{load_words, insert_words, load_numbers, write_reply, write_bytes, read_reply, read_words}
 
 -- one thing done over lent words, with the numbers replied. write: the book is written into so many bytes, all 0, which then
 -- hold these; read: these bytes are read, and the words then are these; lend: from here on these words are lent
@@ -15,7 +16,7 @@ pub data Filing : Type 0 where
 unfoldable pub filings_hold : (words : List ℕ) → List Filing → Bool
 filings_hold ws [] = true
 filings_hold ws (write lent q bs ∷ fs) =
-    (same (write_numbers (write_reply ws (replicate lent 0))) q && same (write_bytes ws (replicate lent 0)) bs) && filings_hold ws fs
+    (same (count_numbers (write_reply ws (replicate lent 0))) q && same (write_bytes ws (replicate lent 0)) bs) && filings_hold ws fs
 filings_hold ws (read bs q vs ∷ fs) = (same (load_numbers (read_reply bs ws)) q && same (read_words bs ws) vs) && filings_hold (read_words bs ws) fs
 filings_hold ws (lend vs ∷ fs) = filings_hold vs fs
 

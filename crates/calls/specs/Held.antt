@@ -1,12 +1,11 @@
 -- Held pairs and the question (document 01, "Calls and their replies"). Assumes nothing: these are definitions.
-use Rattle.std.specs.Prelude.{Bool, ◌&&◌, ◌||◌, not, cond, List, [], ◌∷◌, ℕ, leb, ltb, eqb}
+use Rattle.std.specs.Prelude.{Bool, ◌&&◌, ◌||◌, not, cond, List, [], ◌∷◌, ℕ, leb, ltb, eqb, Result, Ok, Err}
 use Rattle.lists.specs.Lists.{those, first}
 use Rattle.store_types.specs.declared.HeldPair.{HeldPair}
 use Rattle.store_types.specs.declared.Answer.TheVariants.{Yes, No, Stale}
-use Rattle.store_types.specs.declared.QuestionReply.{QuestionReply}
-use Rattle.store_types.specs.declared.QuestionReply.TheVariants as asked
 use Rattle.calls.specs.Kind.{is_begin}
 use Rattle.calls.specs.Store.{Store, fact, count, row, place_of, label}
+use Rattle.store_types.specs.declared.Answer.{Answer}
 
 -- book, tag, start label, end label; the two labels are equal for a text, which is its own mate
 unfoldable pub hold_pair : (section : ℕ) → Store → HeldPair
@@ -28,14 +27,14 @@ current st p =
 
 -- stale if the book number differs, 8 (pair, then d), 10, stale if a label differs or the section is marked, 9 for d,
 -- then yes or no (1 and 2 are the words')
-unfoldable pub question_tests : HeldPair → (d : ℕ) → Store → List (Bool × QuestionReply)
+unfoldable pub question_tests : HeldPair → (d : ℕ) → Store → List (Bool × Result Answer ℕ)
 question_tests p d st =
-    (not (eqb p.book st.number), asked.Answered Stale)
-    ∷ (leb (count st) p.tag.0 || leb (count st) d, asked.Refused 8)
-    ∷ (not (is_begin (fact st p.tag.0).kind), asked.Refused 10)
-    ∷ (not (current st p), asked.Answered Stale)
-    ∷ ((fact st d).marked, asked.Refused 9)
+    (not (eqb p.book st.number), Ok Stale)
+    ∷ (leb (count st) p.tag.0 || leb (count st) d, Err 8)
+    ∷ (not (is_begin (fact st p.tag.0).kind), Err 10)
+    ∷ (not (current st p), Ok Stale)
+    ∷ ((fact st d).marked, Err 9)
     ∷ []
 
-unfoldable pub question : HeldPair → (d : ℕ) → Store → QuestionReply
-question p d st = first (question_tests p d st) (asked.Answered (cond (encloses st p.tag.0 d) Yes No))
+unfoldable pub question : HeldPair → (d : ℕ) → Store → Result Answer ℕ
+question p d st = first (question_tests p d st) (Ok (cond (encloses st p.tag.0 d) Yes No))

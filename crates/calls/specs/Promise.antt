@@ -1,16 +1,12 @@
 -- What is promised of the store (demands 2 and 3), of its files (document 02, CR 3), of sheets that go in by one call (CR 5) and of
 -- depth (CR 7).
 -- Each statement is a type; docs/THEOREMS.md names its proof. Assumes nothing.
-use Rattle.std.specs.Prelude.{◌≡◌, Bool, true, false, ◌&&◌, not, ◌↔◌, ◌⊎◌, ℕ, suc, ◌+◌, ◌*◌, ◌-◌, ◌^◌, ◌≤◌, ◌<◌, ltb, eqb, length, take}
+use Rattle.std.specs.Prelude.{◌≡◌, Bool, true, false, ◌&&◌, not, ◌↔◌, ◌⊎◌, ℕ, suc, ◌+◌, ◌*◌, ◌-◌, ◌^◌, ◌≤◌, ◌<◌, ltb, eqb, length, take, Ok}
 use mathlib.Core.List.{List, [], ◌∷◌, ◌++◌, map, get_last_d}
 use Rattle.std.proofs.Math.Option.{some}
 use Rattle.store_types.specs.Limits.{no_tag, word_limit, most_levels}
 use Rattle.store_types.specs.declared.HeldPair.{HeldPair}
 use Rattle.store_types.specs.declared.Answer.TheVariants.{Yes, No, Stale}
-use Rattle.store_types.specs.declared.LoadReply.TheVariants.{Loaded}
-use Rattle.store_types.specs.declared.InsertReply.TheVariants.{Inserted}
-use Rattle.store_types.specs.declared.QuestionReply.TheVariants.{Answered}
-use Rattle.store_types.specs.declared.WriteReply.TheVariants.{Written}
 use Rattle.store_types.specs.Layout.{at_s, at_r, at_height, at_count, at_first, at_book, header_words, word_at, words_for, label_at}
 use Rattle.store_types.specs.FileLayout.{row_words}
 use Rattle.lists.specs.Lists.{first, all_hold}
@@ -32,6 +28,7 @@ use Rattle.calls.specs.File.{form, file_of, formed, read_file}
 use Rattle.calls.specs.Replies.{said, refusal_over, insert_reply, insert_words, insert_sheet_refused, insert_sheet_reply, insert_sheet_words, write_reply, write_bytes, read_reply, read_words}
 use Rattle.calls.specs.Changes.{Change, load, sheet, after, AllFit, judged, moved_after}
 use Rattle.calls.specs.Reference.{Reference, total, reference_load, reference_change, reference_after}
+use Rattle.store_types.specs.Replies.{load_made, insert_made}
 
 -- ONE STEP, on any sound store: an accepted load, an accepted insertion of any row of kinds that nests, of a sheet, an accepted mark
 unfoldable pub LoadSound : Type 0
@@ -76,7 +73,7 @@ SheetsRunOut =
 pub record EmptyDoes (y : ℕ) (ws : List ℕ) : Type 0 where
   pub refused : insert_sheet_refused [] y ws ≡ refusal_over ws (λ st. first (place_tests y st) 0)
   pub words : insert_sheet_words [] y ws ≡ ws
-  pub reply : insert_sheet_refused [] y ws ≡ 0 → insert_sheet_reply [] y ws ≡ Inserted (record { 0 = count (said ws) }) 0 0
+  pub reply : insert_sheet_refused [] y ws ≡ 0 → insert_sheet_reply [] y ws ≡ Ok (insert_made (record { 0 = count (said ws) }) 0 0)
 
 unfoldable pub EmptySheet : Type 0
 EmptySheet = (y : ℕ) (ws : List ℕ) → EmptyDoes y ws
@@ -142,10 +139,10 @@ pub record YesOrNo (p : HeldPair) (d : ℕ) (st : Store) (enclosure : Type 0) : 
 
 -- yes, no and stale, each if and only if, on any sound store: so for a pair held at any moment and asked after any calls
 pub record AnswersRight (p : HeldPair) (d : ℕ) (st : Store) : Type 0 where
-  pub if_yes : (question p d st ≡ Answered Yes) ↔ YesOrNo p d st (Encloses st p.tag.0 d)
-  pub if_no : (question p d st ≡ Answered No) ↔ YesOrNo p d st (Encloses st p.tag.0 d → ⊥)
+  pub if_yes : (question p d st ≡ Ok Yes) ↔ YesOrNo p d st (Encloses st p.tag.0 d)
+  pub if_no : (question p d st ≡ Ok No) ↔ YesOrNo p d st (Encloses st p.tag.0 d → ⊥)
   pub if_stale :
-      (question p d st ≡ Answered Stale) ↔ ((p.book ≡ st.number → ⊥) ⊎ ((p.book ≡ st.number) × Asked p d st × (Current p st → ⊥)))
+      (question p d st ≡ Ok Stale) ↔ ((p.book ≡ st.number → ⊥) ⊎ ((p.book ≡ st.number) × Asked p d st × (Current p st → ⊥)))
 
 unfoldable pub PairsRight : Type 0
 PairsRight = (p : HeldPair) (d : ℕ) (st : Store) → AnswersRight p d st
@@ -234,18 +231,18 @@ FileReaderRight = (bs : List ℕ) (st : Store) → (read_file bs ≡ some st) �
 -- those that were written
 unfoldable pub FilesReadBack : Type 0
 FilesReadBack =
-    (ws bs vs : List ℕ) (k : ℕ) → word_at ws at_book < word_limit → write_reply ws bs ≡ Written k → words_for header_words (word_at ws at_count) ≤ length vs →
-    (read_reply (take k (write_bytes ws bs)) vs ≡ Loaded (word_at ws at_count) (word_at ws at_height))
+    (ws bs vs : List ℕ) (k : ℕ) → word_at ws at_book < word_limit → write_reply ws bs ≡ Ok k → words_for header_words (word_at ws at_count) ≤ length vs →
+    (read_reply (take k (write_bytes ws bs)) vs ≡ Ok (load_made (word_at ws at_count) (word_at ws at_height)))
     × (read_words (take k (write_bytes ws bs)) vs ≡ in_front (take (words_for header_words (word_at ws at_count)) ws) vs)
 
 -- two files that are read as the same words are the same bytes
 unfoldable pub FilesDiffer : Type 0
 FilesDiffer =
-    (bs cs ws vs : List ℕ) (n h : ℕ) → read_reply bs ws ≡ Loaded n h → read_reply cs vs ≡ Loaded n h →
+    (bs cs ws vs : List ℕ) (n h : ℕ) → read_reply bs ws ≡ Ok (load_made n h) → read_reply cs vs ≡ Ok (load_made n h) →
     take (words_for header_words n) (read_words bs ws) ≡ take (words_for header_words n) (read_words cs vs) → bs ≡ cs
 
 -- what holds of the words before a shutdown holds of those that are read back from the file
 unfoldable pub ShutdownsKeep : Type 0
 ShutdownsKeep =
-    (ws bs vs : List ℕ) (k : ℕ) (st : Store) (a : Reference) → WordsKept ws st a → word_at ws at_book < word_limit → write_reply ws bs ≡ Written k →
+    (ws bs vs : List ℕ) (k : ℕ) (st : Store) (a : Reference) → WordsKept ws st a → word_at ws at_book < word_limit → write_reply ws bs ≡ Ok k →
     words_for header_words (word_at ws at_count) ≤ length vs → WordsKept (read_words (take k (write_bytes ws bs)) vs) st a

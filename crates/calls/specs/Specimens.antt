@@ -1,12 +1,13 @@
 -- Specimens A to L of document 01, and others that tell the calls from wrong ones: one table, which proofs/Specimens.antt
 -- shows to hold. Each is a list of calls over one lent slice of words, all 0 at first, with the numbers that each
 -- replies. Expected values are worked out by hand from document 01.
+use Rattle.store_types.specs.Replies.{count_numbers}
 use Rattle.std.specs.Prelude.{Bool, true, ◌&&◌, List, [], ◌∷◌, ℕ, length, replicate}
 use Rattle.store_types.specs.Limits.{no_tag}
 use Rattle.store_types.specs.declared.HeldPair.{HeldPair}
 use Rattle.lists.specs.Lists.{same}
 use Rattle.store_types.specs.Layout.{header_words, words_for}
-use Rattle.calls.specs.Replies.{load_reply, load_words, insert_reply, insert_words, mark_reply, mark_words, hold_reply, question_reply, list_reply, list_tags, list_labels, load_numbers, insert_numbers, mark_numbers, hold_numbers, question_numbers, list_numbers}
+use Rattle.calls.specs.Replies.{load_reply, load_words, insert_reply, insert_words, mark_reply, mark_words, hold_reply, question_reply, list_reply, list_tags, list_labels, load_numbers, insert_numbers, hold_numbers, question_numbers}
 
 -- a call and the numbers it replies; a list also says the tags and labels that it writes; `sizes` is a load of which only
 -- the reply is looked at
@@ -27,11 +28,11 @@ replies_hold ws [] = true
 replies_hold ws (sizes s r cs q ∷ es) = same (load_numbers (load_reply s r 0 cs ws)) q && replies_hold ws es
 replies_hold ws (load s r b cs q ∷ es) = same (load_numbers (load_reply s r b cs ws)) q && replies_hold (load_words s r b cs ws) es
 replies_hold ws (insert c y q ∷ es) = same (insert_numbers (insert_reply c y ws)) q && replies_hold (insert_words c y ws) es
-replies_hold ws (mark x q ∷ es) = same (mark_numbers (mark_reply x ws)) q && replies_hold (mark_words x ws) es
+replies_hold ws (mark x q ∷ es) = same (count_numbers (mark_reply x ws)) q && replies_hold (mark_words x ws) es
 replies_hold ws (hold x q ∷ es) = same (hold_numbers (hold_reply x ws)) q && replies_hold ws es
 replies_hold ws (ask b x l k d q ∷ es) = same (question_numbers (question_reply (pair b x l k) d ws)) q && replies_hold ws es
 replies_hold ws (list x q ts ls ∷ es) =
-    (same (list_numbers (list_reply x ws ts ls)) q && (same (list_tags x ws (replicate (length ts) 0) ls) ts && same (list_labels x ws ts (replicate (length ls) 0)) ls))
+    (same (count_numbers (list_reply x ws ts ls)) q && (same (list_tags x ws (replicate (length ts) 0) ls) ts && same (list_labels x ws ts (replicate (length ls) 0)) ls))
     && replies_hold ws es
 
 -- so many tags fit the lent words

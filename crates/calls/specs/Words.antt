@@ -1,6 +1,6 @@
 -- A store as words, and the reader from words to a store (document 01, "The book in words", "Sound means").
 -- Assumes nothing: these are definitions.
-use Rattle.std.specs.Prelude.{◌≡◌, Bool, true, false, ◌&&◌, cond, ℕ, zero, suc, pred, ◌+◌, ◌-◌, leb, length, get_or}
+use Rattle.std.specs.Prelude.{◌≡◌, Bool, true, false, ◌&&◌, cond, ℕ, zero, suc, pred, leb, length, get_or}
 use mathlib.Core.List.{List, [], ◌∷◌, ◌++◌, map, flat_map}
 use Rattle.std.proofs.Math.Option.{Option, none, some}
 use Rattle.store_types.specs.Limits.{no_tag, most_levels, most_tags}

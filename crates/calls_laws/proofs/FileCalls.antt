@@ -10,14 +10,12 @@ use borrow.Author.Tests.{le-ltb, ltb-false}
 use lib.Dec.{ltb}
 use lib.ListN.{length, take, drop}
 use lib.Seq.{take_at}
+use Rattle.lists.proofs.Replied.{replied_answer}
 use Rattle.store_types.specs.Limits.{word_limit}
 use Rattle.store_types.specs.Layout.{header_words, words_for}
 use Rattle.store_types.specs.FileLayout.{file_bytes}
-use Rattle.store_types.specs.declared.LoadReply.TheVariants as loading
-use Rattle.store_types.specs.declared.WriteReply.TheVariants as writing
 use Rattle.lists.specs.Lists.{first}
 use Rattle.lists.specs.Fronts.{in_front, replied, written}
-use Rattle.lists.proofs.Replied.{replied_accepted}
 use Rattle.tree.specs.Book.{height}
 use Rattle.calls.specs.Store.{Store, count, row}
 use Rattle.calls.specs.Sound.{sound}
@@ -31,6 +29,9 @@ use Rattle.calls_laws.proofs.Fields.{length_words}
 use Rattle.calls_laws.proofs.Reader.{reads_back}
 use Rattle.calls_laws.proofs.WordSteps.{said_store, header_said, row_said, labels_said, refusal_passed, says_in_front}
 use Rattle.calls_laws.proofs.Files.{length_file, file_formed, count_file, file_read, file_reader_right}
+use Rattle.std.specs.Prelude.{Ok, Err}
+use Rattle.store_types.proofs.Replies.{same_load}
+use Rattle.store_types.specs.Replies.{load_made}
 
 -- the words of a store in front of others
 front_words : (st : Store) (rest : List ℕ) → take (words_for header_words (count st)) (words_of st ++ rest) ≡ words_of st
@@ -50,12 +51,11 @@ file_fits ws bs z =
     let (says, room) = refusal_passed ws (write_refusal (length bs)) z in
     (says, ltb-false (length bs) (file_bytes (count (said ws))) (passes (ltb (length bs) (file_bytes (count (said ws)))) 15 0 room).0)
 
-pub write_accepted : (ws bs : List ℕ) (k : ℕ) → write_reply ws bs ≡ writing.Written k → Filed ws bs k
+pub write_accepted : (ws bs : List ℕ) (k : ℕ) → write_reply ws bs ≡ Ok k → Filed ws bs k
 unfolding write_reply write_bytes written replied
 write_accepted ws bs k e =
     let many = file_bytes (count (said ws)) in
-    let (zero, same) = replied_accepted writing.Refused (write_refused ws bs) (writing.Written many) (writing.Written k)
-    (λ i q. let z : ◌≡◌ {A = ℕ} 0 1 = cc in omega arith) e in
+    let (zero, same) = replied_answer (write_refused ws bs) many k e in
     let (says, fits) = file_fits ws bs zero in
     record { says = says; many = cc; fits = fits; bytes = rw zero }
 
@@ -72,7 +72,7 @@ module _ (st : Store) (vs : List ℕ) (e : sound st ≡ true) (own : st.number <
   unfolding file_refusal first on_store
   accepted = rw (file_formed st e own, count_file st e own, le-ltb (length vs) (words_for header_words (count st)) room, file_read st e own)
 
-  pub reads_reply : read_reply (file_of st) vs ≡ loading.Loaded (count st) (height st.book)
+  pub reads_reply : read_reply (file_of st) vs ≡ Ok (load_made (count st) (height st.book))
   unfolding read_reply replied store_or
   reads_reply = rw (accepted, file_read st e own)
 
@@ -90,12 +90,12 @@ pub record WasRead (bs ws : List ℕ) (n h : ℕ) : Type 0 where
   pub room : words_for header_words (count store) ≤ length ws
   pub words : read_words bs ws ≡ in_front (words_of store) ws
 
-read_zero : (bs ws : List ℕ) (n h : ℕ) → read_reply bs ws ≡ loading.Loaded n h →
+read_zero : (bs ws : List ℕ) (n h : ℕ) → read_reply bs ws ≡ Ok (load_made n h) →
     (file_refusal (length ws) bs ≡ 0)
-    × (loading.Loaded (count (store_or (read_file bs))) (height (store_or (read_file bs)).book) ≡ loading.Loaded n h)
+    × ((count (store_or (read_file bs)) ≡ n) × (height (store_or (read_file bs)).book ≡ h))
 unfolding read_reply
 read_zero bs ws n h e =
-    replied_accepted loading.Refused (file_refusal (length ws) bs) _ (loading.Loaded n h) (λ i q. let z : ◌≡◌ {A = ℕ} 0 1 = cc in omega arith) e
+    let (z, same) = replied_answer (file_refusal (length ws) bs) _ (load_made n h) e in (z, same_load same)
 
 -- a store was read where no test refuses
 store_read : (o : Option Store) (lent : ℕ) (bs : List ℕ) → read_file bs ≡ o → file_refusal lent bs ≡ 0 → o ≡ some (store_or o)
@@ -112,7 +112,7 @@ words_enough lent bs zero =
     ltb-false lent (words_for header_words (count_in bs))
     (passes (ltb lent (words_for header_words (count_in bs))) 0 _ (passes (not (formed bs)) 14 _ zero).1).0
 
-pub read_accepted : (bs ws : List ℕ) (n h : ℕ) → read_reply bs ws ≡ loading.Loaded n h → WasRead bs ws n h
+pub read_accepted : (bs ws : List ℕ) (n h : ℕ) → read_reply bs ws ≡ Ok (load_made n h) → WasRead bs ws n h
 unfolding FileReaderRight read_words written replied
 read_accepted bs ws n h e =
     let (zero, same) = read_zero bs ws n h e in
@@ -122,8 +122,8 @@ read_accepted bs ws n h e =
       store = store_or (read_file bs);
       good = right.0;
       bytes = right.2;
-      issued = cc;
-      levels = cc;
+      issued = same.0;
+      levels = same.1;
       room = rw (← many) (words_enough (length ws) bs zero);
       words = rw zero;
     }

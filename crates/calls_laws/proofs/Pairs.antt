@@ -12,8 +12,6 @@ use Rattle.lists.specs.Lists.{first}
 use Rattle.store_types.specs.declared.HeldPair.{HeldPair}
 use Rattle.store_types.specs.declared.Answer.{Answer}
 use Rattle.store_types.specs.declared.Answer.TheVariants.{Yes, No, Stale}
-use Rattle.store_types.specs.declared.QuestionReply.{QuestionReply}
-use Rattle.store_types.specs.declared.QuestionReply.TheVariants.{Answered, Refused}
 use Rattle.lists.proofs.Tests.{and_left, and_right, and_both, by_test, fails, or_left_false, or_right_false}
 use Rattle.tree.specs.Book.{label_of, labels_of}
 use Rattle.tree.specs.Promise.{LabelsRise}
@@ -27,6 +25,7 @@ use Rattle.calls.specs.Promise.{LabelsTell, Encloses, Current, Asked, PairsRight
 use Rattle.calls_laws.proofs.Widths.{store_widths}
 use Rattle.calls_laws.proofs.Sections.{mate_fits}
 use Rattle.calls_laws.proofs.Tests.{Sound, sane, facts_of}
+use Rattle.std.specs.Prelude.{Result, Ok, Err}
 
 -- LABELS TELL
 
@@ -37,12 +36,12 @@ placed {st} x h l = place_of_member x (row st) (member_all_below (count st) x (r
 -- in a sound store comparing labels is comparing places
 pub labels_tell : LabelsTell
 unfolding LabelsTell LabelsRise label_of
-labels_tell st x y e x_Fits y_fits =
+labels_tell st x y e x_fits y_fits =
     let h = facts_of st e in
     let rising = rising_of _ (labels_of (width st) st.book) (labels_rise (width st) st.book (store_widths st) (sane h)) in
     let many = length_labels st.book.root (width st) st.book.under 0 in
     rising_compare 0 _ (labels_of (width st) st.book) rising (place_of st x) (place_of st y)
-    (omega (arith, placed x h x_Fits)) (omega (arith, placed y h y_fits))
+    (omega (arith, placed x h x_fits)) (omega (arith, placed y h y_fits))
 
 -- THE QUESTION
 
@@ -51,7 +50,11 @@ passed : {A : Type 0} (t : Bool) (u v w : A) → (u ≡ w → ⊥) → cond t u 
 passed true u v w other e = absurd (other e)
 passed false u v w other e = (refl, e)
 
-refused_not : (k : ℕ) (a : Answer) → Refused k ≡ Answered a → ⊥
+-- an answer, as a reply to the question
+abbrev replies : Answer → Result Answer ℕ
+replies a = Ok a
+
+refused_not : (k : ℕ) (a : Answer) → Err k ≡ replies a → ⊥
 refused_not k a e = let z : ◌≡◌ {A = ℕ} 0 1 = cc in omega arith
 
 -- the tests as facts
@@ -94,66 +97,66 @@ unfolding encloses Encloses
 encloses_test st x d h = and_both (lt-ltb _ _ h.0) (lt-ltb _ _ h.1)
 
 -- what is left of the question where the pair is of this book and may be asked
-abbrev if_current : (p : HeldPair) (d : ℕ) (st : Store) → QuestionReply
-if_current p d st = cond (fact st d).marked (Refused 9) (Answered (cond (encloses st p.tag.0 d) Yes No))
+abbrev if_current : (p : HeldPair) (d : ℕ) (st : Store) → Result Answer ℕ
+if_current p d st = cond (fact st d).marked (Err 9) (Ok (cond (encloses st p.tag.0 d) Yes No))
 
 asked_question : (p : HeldPair) (d : ℕ) (st : Store) → p.book ≡ st.number → Asked p d st →
-    question p d st ≡ cond (not (current st p)) (Answered Stale) (if_current p d st)
+    question p d st ≡ cond (not (current st p)) (Ok Stale) (if_current p d st)
 unfolding question question_tests first
 asked_question p d st b h =
     rw (eq-eqb p.book st.number b, lt-leb (count st) p.tag.0 h.tag, lt-leb (count st) d h.other, h.begin)
 
 -- and back: the pair may be asked where the question is answered, and it is of this book
-question_asked : (p : HeldPair) (d : ℕ) (st : Store) (a : Answer) → eqb p.book st.number ≡ true → question p d st ≡ Answered a →
-    Asked p d st × (cond (not (current st p)) (Answered Stale) (if_current p d st) ≡ Answered a)
+question_asked : (p : HeldPair) (d : ℕ) (st : Store) (a : Answer) → eqb p.book st.number ≡ true → question p d st ≡ Ok a →
+    Asked p d st × (cond (not (current st p)) (Ok Stale) (if_current p d st) ≡ Ok a)
 unfolding question question_tests first
 question_asked p d st a b e =
-    let tags = passed (leb (count st) p.tag.0 || leb (count st) d) (Refused 8) _ (Answered a) (refused_not 8 a) (rw b at e) in
-    let kind = passed (not (is_begin (fact st p.tag.0).kind)) (Refused 10) _ (Answered a) (refused_not 10 a) tags.1 in
+    let tags = passed (leb (count st) p.tag.0 || leb (count st) d) (Err 8) _ (Ok a) (refused_not 8 a) (rw b at e) in
+    let kind = passed (not (is_begin (fact st p.tag.0).kind)) (Err 10) _ (Ok a) (refused_not 10 a) tags.1 in
     (asked_of p d st tags.0 kind.0, kind.1)
 
 -- yes and no speak of a current pair and a tag that is not marked
 answers : (p : HeldPair) (d : ℕ) (st : Store) → Asked p d st → Current p st → (fact st d).marked ≡ false →
-    question p d st ≡ Answered (cond (encloses st p.tag.0 d) Yes No)
+    question p d st ≡ Ok (cond (encloses st p.tag.0 d) Yes No)
 answers p d st h c m = asked_question p d st c.book h ∙ rw (current_test p st c, m)
 
-answered : (p : HeldPair) (d : ℕ) (st : Store) (a : Answer) → (Answered Stale ≡ Answered a → ⊥) → question p d st ≡ Answered a →
-    YesOrNo p d st (Answered (cond (encloses st p.tag.0 d) Yes No) ≡ Answered a)
+answered : (p : HeldPair) (d : ℕ) (st : Store) (a : Answer) → (replies Stale ≡ Ok a → ⊥) → question p d st ≡ Ok a →
+    YesOrNo p d st (replies (cond (encloses st p.tag.0 d) Yes No) ≡ Ok a)
 unfolding question question_tests first
 answered p d st a fresh e =
-    let book = not-false _ (passed (not (eqb p.book st.number)) (Answered Stale) _ (Answered a) fresh e).0 in
+    let book = not-false _ (passed (not (eqb p.book st.number)) (Ok Stale) _ (Ok a) fresh e).0 in
     let asked = question_asked p d st a book e in
-    let now = passed (not (current st p)) (Answered Stale) (if_current p d st) (Answered a) fresh asked.1 in
-    let tag = passed (fact st d).marked (Refused 9) _ (Answered a) (refused_not 9 a) now.1 in
+    let now = passed (not (current st p)) (Ok Stale) (if_current p d st) (Ok a) fresh asked.1 in
+    let tag = passed (fact st d).marked (Err 9) _ (Ok a) (refused_not 9 a) now.1 in
     record { asked = asked.0; current = current_of p st book (not-false _ now.0); unmarked = tag.0; tells = tag.1 }
 
-said_yes : (t : Bool) → Answered (cond t Yes No) ≡ Answered Yes → t ≡ true
+said_yes : (t : Bool) → replies (cond t Yes No) ≡ Ok Yes → t ≡ true
 said_yes true e = refl
 said_yes false e = cc
 
-said_no : (t : Bool) → Answered (cond t Yes No) ≡ Answered No → t ≡ false
+said_no : (t : Bool) → replies (cond t Yes No) ≡ Ok No → t ≡ false
 said_no true e = cc
 said_no false e = refl
 
-not_stale : (t : Bool) → Answered (cond t Yes No) ≡ Answered Stale → ⊥
+not_stale : (t : Bool) → replies (cond t Yes No) ≡ Ok Stale → ⊥
 not_stale true e = let z : ◌≡◌ {A = ℕ} 0 1 = cc in omega arith
 not_stale false e = let z : ◌≡◌ {A = ℕ} 0 1 = cc in omega arith
 
 -- stale: another book, or a pair of this book whose labels or mark are not the section's now
-stale_of : (p : HeldPair) (d : ℕ) (st : Store) → question p d st ≡ Answered Stale →
+stale_of : (p : HeldPair) (d : ℕ) (st : Store) → question p d st ≡ Ok Stale →
     (p.book ≡ st.number → ⊥) ⊎ ((p.book ≡ st.number) × Asked p d st × (Current p st → ⊥))
 stale_of p d st e =
     by_test (eqb p.book st.number)
     (λ b. let asked = question_asked p d st Stale b e in inr (eqb-true _ _ b, asked.0, λ c. outdated (rw (current_test p st c) at asked.1)))
     (λ b. inl (eqb-false _ _ b))
   where
-    outdated : if_current p d st ≡ Answered Stale → ⊥
+    outdated : if_current p d st ≡ Ok Stale → ⊥
     outdated q =
         not_stale (encloses st p.tag.0 d)
-        (passed (fact st d).marked (Refused 9) (Answered (cond (encloses st p.tag.0 d) Yes No)) (Answered Stale) (refused_not 9 Stale) q).1
+        (passed (fact st d).marked (Err 9) (Ok (cond (encloses st p.tag.0 d) Yes No)) (Ok Stale) (refused_not 9 Stale) q).1
 
 stale_test : (p : HeldPair) (d : ℕ) (st : Store) →
-    (p.book ≡ st.number → ⊥) ⊎ ((p.book ≡ st.number) × Asked p d st × (Current p st → ⊥)) → question p d st ≡ Answered Stale
+    (p.book ≡ st.number → ⊥) ⊎ ((p.book ≡ st.number) × Asked p d st × (Current p st → ⊥)) → question p d st ≡ Ok Stale
 unfolding question question_tests first
 stale_test p d st (inl other) = rw (ne_eqb p.book st.number other)
 stale_test p d st (inr h) =
@@ -185,8 +188,8 @@ pairs_right p d st =
 -- in a sound store a label is below another just where the place is
 label_before : (st : Store) (x y : ℕ) → sound st ≡ true → x < count st → y < count st → (label st x < label st y) ↔ (place_of st x < place_of st y)
 unfolding LabelsTell
-label_before st x y e x_Fits y_fits =
-    let tell = labels_tell st x y e x_Fits y_fits in
+label_before st x y e x_fits y_fits =
+    let tell = labels_tell st x y e x_fits y_fits in
     (λ h. ltb-true _ _ (sym tell ∙ lt-ltb _ _ h), λ h. ltb-true _ _ (tell ∙ lt-ltb _ _ h))
 
 -- enclosure is what the labels of a current pair tell

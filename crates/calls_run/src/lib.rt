@@ -3,15 +3,13 @@
 #![tactic(auto)]
 
 ghost use Rattle.std.specs.Prelude.{[], ◌∷◌};
-ghost use Rattle.calls.specs.Changes.{load as load-call, insert as insert-call, sheet as sheet-call, mark as mark-call};
-ghost use Rattle.system.specs.System.{hold as hold-call, ask, list as list-call, write as write-call, changes, reads, loaded, inserted, marked, found, held, answered, listed, filed, reply, step};
+ghost use Rattle.store_types.specs.Replies.{numbered};
+ghost use Rattle.calls.specs.Changes.{load as load_call, insert as insert_call, sheet as sheet_call, mark as mark_call};
+ghost use Rattle.system.specs.System.{hold as hold_call, ask, list as list_call, write as write_call, changes, reads, loaded, inserted, marked, found, held, answered, listed, filed, reply, step};
 ghost use Rattle.system.specs.Histories.{Ran};
 ghost use Rattle.calls_run.specs.Over.{over};
 
-use store_types::{
-    HeldPair, HoldReply, InsertReply, ListReply, LoadReply, MarkReply, QuestionReply, TagId,
-    WriteReply,
-};
+use store_types::{Answer, HeldPair, Inserted, Loaded, Refusal, TagId};
 
 // What is asked: the load's numbers, the place of an insertion and of a sheet of the load's kinds, the section that is marked, held
 // and listed, a pair and a tag.
@@ -30,14 +28,14 @@ pub struct Requests {
 // What each call replied.
 #[derive(Clone, Copy)]
 pub struct Replies {
-    pub load: LoadReply,
-    pub insert: InsertReply,
-    pub sheet: InsertReply,
-    pub mark: MarkReply,
-    pub hold: HoldReply,
-    pub question: QuestionReply,
-    pub list: ListReply,
-    pub write: WriteReply,
+    pub load: Result<Loaded, Refusal>,
+    pub insert: Result<Inserted, Refusal>,
+    pub sheet: Result<Inserted, Refusal>,
+    pub mark: Result<u32, Refusal>,
+    pub hold: Result<HeldPair, Refusal>,
+    pub question: Result<Answer, Refusal>,
+    pub list: Result<u32, Refusal>,
+    pub write: Result<u32, Refusal>,
 }
 
 pub fn calls_run(
@@ -48,7 +46,7 @@ pub fn calls_run(
     labels: &mut [u32],
     bytes: &mut [u8],
 ) -> Replies
-    ensures { Ran step reply (changes (load-call asked.s asked.r asked.book kinds.now) ∷ changes (insert-call asked.kind asked.place.0) ∷ changes (sheet-call kinds.now asked.place.0) ∷ changes (mark-call asked.section.0) ∷ reads (hold-call asked.section.0) ∷ reads (ask asked.pair asked.tag.0) ∷ reads (list-call asked.section.0 tags.old labels.old) ∷ reads (write-call bytes.old) ∷ []) (over words.old) (loaded result.load ∷ inserted result.insert ∷ inserted result.sheet ∷ marked result.mark ∷ found (held result.hold) [] ∷ found (answered result.question) [] ∷ found (listed result.list) (tags.new ∷ labels.new ∷ []) ∷ found (filed result.write) (bytes.new ∷ []) ∷ []) (over words.new) }
+    ensures { Ran step reply (changes (load_call asked.s asked.r asked.book kinds.now) ∷ changes (insert_call asked.kind asked.place.0) ∷ changes (sheet_call kinds.now asked.place.0) ∷ changes (mark_call asked.section.0) ∷ reads (hold_call asked.section.0) ∷ reads (ask asked.pair asked.tag.0) ∷ reads (list_call asked.section.0 tags.old labels.old) ∷ reads (write_call bytes.old) ∷ []) (over words.old) (loaded (numbered result.load) ∷ inserted (numbered result.insert) ∷ inserted (numbered result.sheet) ∷ marked (numbered result.mark) ∷ found (held (numbered result.hold)) [] ∷ found (answered (numbered result.question)) [] ∷ found (listed (numbered result.list)) (tags.new ∷ labels.new ∷ []) ∷ found (filed (numbered result.write)) (bytes.new ∷ []) ∷ []) (over words.new) }
 {
     let load = store::load(asked.s, asked.r, asked.book, kinds, words);
     let insert = store::insert(asked.kind, asked.place, words);
@@ -59,13 +57,13 @@ pub fn calls_run(
     let list = store::list(asked.section, words, tags, labels);
     let write = store::write_file(words, bytes);
     Replies {
-        load: load,
-        insert: insert,
-        sheet: sheet,
-        mark: mark,
-        hold: hold,
-        question: question,
-        list: list,
-        write: write,
+        load,
+        insert,
+        sheet,
+        mark,
+        hold,
+        question,
+        list,
+        write,
     }
 }

@@ -2,21 +2,23 @@
 use mathlib.Core.Path.{◌≡◌, refl, ap, sym, ◌∙◌}
 use mathlib.Core.Bool.{Bool, true, false, ◌&&◌, ◌||◌, cond}
 use mathlib.Core.List.{List, [], ◌∷◌, map}
-use mathlib.Core.Option.{some}
-use Prim.Native.Nat.{ℕ, suc, ◌+◌, ◌-◌, ◌≤◌, ◌<◌}
+use Prim.Native.Nat.{ℕ, suc, ◌≤◌, ◌<◌}
 use native.Mathlib.Omega.{arith}
 use borrow.Author.Tests.{eqb-true, eqb-false}
 use lib.Dec.{eqb}
-use lib.ListN.{length, take, drop, length-map}
+use lib.ListN.{length, take, drop, length-drop, length-map}
+use Rattle.std.specs.Prelude.{Option, Some, None, unwrap_or, option_map}
+use denote.Ref.{Bor}
 use Rattle.lists.specs.Lists.{same}
 use Rattle.console_fields.specs.Field.{number_of, is_letter, all_letters, letter_kind}
-use Rattle.console.specs.Line.{fields, load_of, command_of, unknown, plain, load_word}
 use Rattle.console_fields.specs.Scan.{first_space}
-use Rattle.console_fields.specs.Post.{Lettered}
+use Rattle.console_fields.specs.Post.{Lettered, Split}
+use Rattle.console_fields.proofs.Scans.{first_space_within}
+use Rattle.console.specs.Line.{fields, load_of, command_of, unknown, load_word}
 use Rattle.console.specs.Post.{Gives}
 use Rattle.console.specs.declared.Command.TheVariants.{Load}
-use Rattle.console.proofs.Splits.{first_space_within, fields_one, fields_more, behind_first, field_within, field_last, field_next, field_first, rest_of}
-use Rattle.console.proofs.Words.{gives_kinds}
+use Rattle.console.proofs.Splits.{fields_one, fields_more, fields_some, fields_after, fields_split}
+use Rattle.console.proofs.Words.{gives_kinds, gives_plain}
 
 -- letters hold no space
 letter_no_space : (c : ℕ) → is_letter c ≡ true → eqb c 32 ≡ false
@@ -39,101 +41,101 @@ letters_one (c ∷ cs) e = go (is_letter c) refl e (λ z. letters_one cs z)
     go true q z rest = rw (letter_no_space c q) (ap suc (rest z))
     go false q z rest = absurd (let k : ◌≡◌ {A = ℕ} 0 1 = cc in omega arith)
 
--- NUMBERS
--- where no letters make a load of three numbers, no fields behind them do
-refused : (a b c : List ℕ) (ds : List (List ℕ)) → ((cs : List ℕ) → load_of (number_of a) (number_of b) (number_of c) cs ≡ unknown) → command_of (load_word ∷ a ∷ b ∷ c ∷ ds) ≡ unknown
-unfolding command_of same
-refused a b c [] n = n []
-refused a b c (d ∷ []) n = n d
-refused a b c (d ∷ e ∷ fs) n = refl
+-- letters that are absent are none
+pub letters_or_none : (o : Option (Bor (List ℕ))) (default : Bor (List ℕ)) → default.now ≡ [] → (unwrap_or o default).now ≡ unwrap_or (option_map (λ r. r.now) o) []
+letters_or_none None default e = e
+letters_or_none (Some r) default e = refl
 
--- two fields behind them refuse
-many : (a b c d e : List ℕ) (es : List (List ℕ)) → es ≡ e ∷ behind_first es → command_of (load_word ∷ a ∷ b ∷ c ∷ d ∷ es) ≡ unknown
-unfolding command_of
-many a b c d e es q = rw q
+-- FEWER THAN THREE NUMBERS
+pub load_one : {cs a : List ℕ} (ks : List ℕ) → Split cs a None → Gives (command_of (load_word ∷ fields cs)) None ks
+unfolding command_of same fields_after
+load_one ks s = gives_plain (rw (fields_split s))
 
--- so do bytes that are no letters, whether a space is among them or not
-not_letters : (a b c d : List ℕ) (s r k : ℕ) → number_of a ≡ some s → number_of b ≡ some r → number_of c ≡ some k → all_letters d ≡ false → command_of (load_word ∷ a ∷ b ∷ c ∷ fields d) ≡ unknown
-unfolding command_of same load_of
-not_letters a b c d s r k is_s is_r is_k t = by_space (eqb (first_space d) (length d)) refl
-  where
-    next : List ℕ
-    next = drop (suc (first_space d)) d
-
-    by_space : (u : Bool) → eqb (first_space d) (length d) ≡ u → command_of (load_word ∷ a ∷ b ∷ c ∷ fields d) ≡ unknown
-    by_space true z = rw (fields_one d (eqb-true _ _ z), is_s, is_r, is_k, t)
-    by_space false z =
-        let space : first_space d < length d = omega (arith, eqb-false (first_space d) (length d) z, first_space_within d) in
-        rw (fields_more d space) (many a b c _ _ (fields next) (field_first next 0 (first_space next) (omega arith) (omega arith)))
-
--- the three numbers' ends, as the code finds them, and that fields follow the first two
-pub record Ends (cs : List ℕ) (e f g : ℕ) : Type 0 where
-  pub first : e ≡ 0 + first_space (drop 0 cs)
-  pub goes_on : e ≡ length cs → ⊥
-  pub second : f ≡ e + 1 + first_space (drop (e + 1) cs)
-  pub goes_further : f ≡ length cs → ⊥
-  pub third : g ≡ f + 1 + first_space (drop (f + 1) cs)
-
-pub ends : {cs : List ℕ} {e f g : ℕ} → e ≡ 0 + first_space (drop 0 cs) → (e ≡ length cs → ⊥) → f ≡ e + 1 + first_space (drop (e + 1) cs) → (f ≡ length cs → ⊥) → g ≡ f + 1 + first_space (drop (f + 1) cs) → Ends cs e f g
-ends p m q n r = record { first = p; goes_on = m; second = q; goes_further = n; third = r }
-
--- so more stands behind the first, and the second
-pub one_within : (cs : List ℕ) (e : ℕ) → e ≡ 0 + first_space (drop 0 cs) → (e ≡ length cs → ⊥) → e + 1 ≤ length cs
-one_within cs e q n = omega (arith, field_within cs 0 e (omega arith) q, n)
-
-pub two_within : (cs : List ℕ) (e f : ℕ) → e ≡ 0 + first_space (drop 0 cs) → (e ≡ length cs → ⊥) → f ≡ e + 1 + first_space (drop (e + 1) cs) → (f ≡ length cs → ⊥) → f + 1 ≤ length cs
-two_within cs e f q n p m = omega (arith, field_within cs (e + 1) f (one_within cs e q n) p, m)
-
-abbrev pub part : List ℕ → ℕ → ℕ → List ℕ
-part cs i e = take (e - i) (drop i cs)
-
--- FEWER THAN THREE
-pub load_one : (cs : List ℕ) (e : ℕ) → e ≡ 0 + first_space (drop 0 cs) → e ≡ length cs → command_of (load_word ∷ fields cs) ≡ unknown
-unfolding command_of same
-load_one cs e q l = rw (field_last cs 0 e (omega arith) q l)
-
-pub load_two : (cs : List ℕ) (e f : ℕ) → e ≡ 0 + first_space (drop 0 cs) → (e ≡ length cs → ⊥) → f ≡ e + 1 + first_space (drop (e + 1) cs) → f ≡ length cs → command_of (load_word ∷ fields cs) ≡ unknown
-unfolding command_of
-load_two cs e f q n p l = rw (field_next cs 0 e (omega arith) q n, field_last cs (e + 1) f (omega (arith, field_within cs 0 e (omega arith) q)) p l)
+pub load_two : {cs a r b : List ℕ} (ks : List ℕ) → Split cs a (Some r) → Split r b None → Gives (command_of (load_word ∷ fields cs)) None ks
+unfolding command_of fields_after
+load_two ks s t = gives_plain (rw (fields_split s, fields_split t))
 
 -- THREE, and what follows
-module _ (cs : List ℕ) (e f g : ℕ) (at : Ends cs e f g) where
-  pub first_within : e + 1 ≤ length cs
-  first_within = one_within cs e at.first at.goes_on
+module _ {cs a r b q c : List ℕ} {o : Option (List ℕ)} (s : Split cs a (Some r)) (t : Split r b (Some q)) (u : Split q c o) where
+  three : fields cs ≡ a ∷ b ∷ c ∷ fields_after o
+  unfolding fields_after
+  three = fields_split s ∙ ap (λ fs. a ∷ fs) (fields_split t) ∙ ap (λ fs. a ∷ b ∷ fs) (fields_split u)
 
-  pub second_within : f + 1 ≤ length cs
-  second_within = two_within cs e f at.first at.goes_on at.second at.goes_further
+  -- where no letters make a load of three numbers, no fields after them do
+  refused : (ds : List (List ℕ)) → ((ls : List ℕ) → load_of (number_of a) (number_of b) (number_of c) ls ≡ unknown) → command_of (load_word ∷ a ∷ b ∷ c ∷ ds) ≡ unknown
+  unfolding command_of same
+  refused [] n = n []
+  refused (d ∷ []) n = n d
+  refused (d ∷ e ∷ fs) n = refl
 
-  pub third_within : g ≤ length cs
-  third_within = field_within cs (f + 1) g second_within at.third
+  load_refused : ((ls : List ℕ) → load_of (number_of a) (number_of b) (number_of c) ls ≡ unknown) → command_of (load_word ∷ fields cs) ≡ unknown
+  load_refused n = rw three (refused (fields_after o) n)
 
-  two_fields : fields cs ≡ part cs 0 e ∷ part cs (e + 1) f ∷ fields (drop (f + 1) cs)
-  two_fields = rw (field_next cs 0 e (omega arith) at.first at.goes_on, field_next cs (e + 1) f first_within at.second at.goes_further)
+  pub load_no_s : (ks : List ℕ) → None ≡ number_of a → Gives (command_of (load_word ∷ fields cs)) None ks
+  unfolding load_of
+  load_no_s ks e = gives_plain (load_refused (λ ls. rw (sym e)))
 
-  pub load_refused : ((ls : List ℕ) → load_of (number_of (part cs 0 e)) (number_of (part cs (e + 1) f)) (number_of (part cs (f + 1) g)) ls ≡ unknown) → command_of (load_word ∷ fields cs) ≡ unknown
-  load_refused n = rw (two_fields, field_first cs (f + 1) g second_within at.third) (refused _ _ _ _ n)
+  -- letters are no longer than the line
+  pub letters_within : (ls : List ℕ) → ls ≡ unwrap_or o [] → length ls ≤ length cs
+  letters_within ls is = rw is (omega (arith, within o u, shorter t, shorter s))
+    where
+      shorter : {xs f ys : List ℕ} → Split xs f (Some ys) → length ys ≤ length xs
+      shorter {xs} w = omega (arith, ap length w.rest_is.bytes, length-drop (suc (first_space xs)) xs)
 
-  module _ (s r k : ℕ) (is_s : number_of (part cs 0 e) ≡ some s) (is_r : number_of (part cs (e + 1) f) ≡ some r) (is_k : number_of (part cs (f + 1) g) ≡ some k) where
-    pub load_bare : g ≡ length cs → command_of (load_word ∷ fields cs) ≡ plain (Load s r k 0)
-    unfolding command_of same load_of all_letters
-    load_bare l = rw (two_fields, field_last cs (f + 1) g second_within at.third l, is_s, is_r, is_k)
+      within : (p : Option (List ℕ)) → Split q c p → length (unwrap_or p []) ≤ length q
+      within None w = omega arith
+      within (Some d) w = shorter w
 
-    -- letters behind the fourth space: what `letters` says of them
-    module _ (ks : List ℕ) (t : Bool) (n : g ≡ length cs → ⊥) (said : Lettered (part cs (g + 1) (length cs)) ks t) where
-      letters_said : t ≡ all_letters (drop (g + 1) cs)
-      letters_said = said.whether ∙ ap all_letters (rest_of cs (g + 1))
+  module _ (x : ℕ) (is_s : Some x ≡ number_of a) where
+    pub load_no_r : (ks : List ℕ) → None ≡ number_of b → Gives (command_of (load_word ∷ fields cs)) None ks
+    unfolding load_of
+    load_no_r ks e = gives_plain (load_refused (λ ls. rw (sym is_s, sym e)))
 
-      four_fields : fields cs ≡ part cs 0 e ∷ part cs (e + 1) f ∷ part cs (f + 1) g ∷ fields (drop (g + 1) cs)
-      four_fields = rw (two_fields, field_next cs (f + 1) g second_within at.third n)
+    module _ (y : ℕ) (is_r : Some y ≡ number_of b) where
+      pub load_no_book : (ks : List ℕ) → None ≡ number_of c → Gives (command_of (load_word ∷ fields cs)) None ks
+      unfolding load_of
+      load_no_book ks e = gives_plain (load_refused (λ ls. rw (sym is_s, sym is_r, sym e)))
 
-      pub load_letters : t ≡ true → Gives (command_of (load_word ∷ fields cs)) (Load s r k (length (part cs (g + 1) (length cs)))) ks
-      unfolding command_of same load_of
-      load_letters y =
-          let ls : List ℕ = drop (g + 1) cs in
-          let all : all_letters ls ≡ true = sym letters_said ∙ y in
-          gives_kinds {xs = map letter_kind ls}
-          (rw (four_fields, fields_one ls (letters_one ls all), is_s, is_r, is_k, all, rest_of cs (g + 1)))
-          (rw (length-map ls letter_kind) (rw (rest_of cs (g + 1)) at (said.written (sym said.whether ∙ y))))
+      module _ (z : ℕ) (is_book : Some z ≡ number_of c) where
+        -- a fourth field, with two after it that refuse
+        many : (d e : List ℕ) (es : List (List ℕ)) → command_of (load_word ∷ a ∷ b ∷ c ∷ d ∷ e ∷ es) ≡ unknown
+        unfolding command_of
+        many d e es = refl
 
-      pub load_not_letters : t ≡ false → command_of (load_word ∷ fields cs) ≡ unknown
-      load_not_letters y = rw four_fields (not_letters _ _ _ (drop (g + 1) cs) s r k is_s is_r is_k (sym letters_said ∙ y))
+        -- bytes that are no letters refuse, whether a space is among them or not
+        not_letters : (d : List ℕ) → all_letters d ≡ false → command_of (load_word ∷ a ∷ b ∷ c ∷ fields d) ≡ unknown
+        unfolding command_of same load_of
+        not_letters d l = by_space (eqb (first_space d) (length d)) refl
+          where
+            next : List ℕ
+            next = drop (suc (first_space d)) d
+
+            by_space : (t : Bool) → eqb (first_space d) (length d) ≡ t → command_of (load_word ∷ a ∷ b ∷ c ∷ fields d) ≡ unknown
+            by_space true n = rw (fields_one d (eqb-true (first_space d) (length d) n), sym is_s, sym is_r, sym is_book, l)
+            by_space false n =
+                let space : first_space d < length d = omega (arith, eqb-false (first_space d) (length d) n, first_space_within d) in
+                let (e, es, two) = fields_some next in
+                rw (fields_more d space, two) (many (take (first_space d) d) e es)
+
+        with_letters : (p : Option (List ℕ)) → all_letters (unwrap_or p []) ≡ true →
+            command_of (load_word ∷ a ∷ b ∷ c ∷ fields_after p) ≡ record { command = Some (Load x y z (length (unwrap_or p []))); kinds = map letter_kind (unwrap_or p []) }
+        unfolding command_of same load_of all_letters fields_after
+        with_letters None l = rw (sym is_s, sym is_r, sym is_book)
+        with_letters (Some d) l = rw (fields_one d (letters_one d l), sym is_s, sym is_r, sym is_book, l)
+
+        no_letters : (p : Option (List ℕ)) → all_letters (unwrap_or p []) ≡ false → command_of (load_word ∷ a ∷ b ∷ c ∷ fields_after p) ≡ unknown
+        unfolding all_letters fields_after
+        no_letters None l = absurd (let k : ◌≡◌ {A = ℕ} 0 1 = cc in omega arith)
+        no_letters (Some d) l = not_letters d l
+
+        -- what `letters` says of the letters
+        module _ (ls ks : List ℕ) (said_so : Bool) (is : ls ≡ unwrap_or o []) (said : Lettered ls ks said_so) where
+          pub load_letters : said_so ≡ true → Gives (command_of (load_word ∷ fields cs)) (Some (Load x y z (length ls))) ks
+          load_letters e =
+              let all : all_letters ls ≡ true = sym said.whether ∙ e in
+              gives_kinds {xs = map letter_kind ls}
+              (rw (three, is) (with_letters o (rw is at all)))
+              (rw (length-map ls letter_kind) (said.written all))
+
+          pub load_no_letters : said_so ≡ false → Gives (command_of (load_word ∷ fields cs)) None ks
+          load_no_letters e = gives_plain (rw three (no_letters o (rw is at (sym said.whether ∙ e))))

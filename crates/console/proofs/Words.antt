@@ -1,57 +1,57 @@
 -- What a line's words say, by the tests that the code makes. Assumes nothing.
-use mathlib.Core.Path.{◌≡◌, refl, ap, sym}
+use mathlib.Core.Path.{◌≡◌, refl, ap, sym, ◌∙◌}
 use mathlib.Core.Bool.{Bool, true, false, cond}
 use mathlib.Core.List.{List, [], ◌∷◌}
-use mathlib.Core.Option.{Option, none, some}
+use Rattle.std.specs.Prelude.{Option, Some, None}
 use Prim.Native.Nat.{ℕ, ◌≤◌, ◌<◌}
-use native.Mathlib.Omega.{arith}
 use borrow.Author.Tests.{lt-ltb, le-ltb}
+use lib.Dec.{eqb}
+use lib.Pointwise.{pointwise}
 use lib.ListN.{length, take}
 use Rattle.store_types.specs.Limits.{no_tag}
 use Rattle.lists.specs.Lists.{same}
 use Rattle.console_fields.specs.Field.{number_of}
+use Rattle.console_fields.proofs.Scans.{pointwise_same}
 use Rattle.console.specs.Line.{Parsed, fields, parsed, line_limit, load_word, number_or_front, insert_of, mark_of, command_of, unknown, plain, list_word, element_word, text_word, mark_word, front_word}
-use Rattle.console_fields.specs.Scan.{number_reply}
 use Rattle.console.specs.Post.{Gives}
 use Rattle.console.specs.declared.Command.{Command}
-use Rattle.console.specs.declared.Command.TheVariants.{Insert, Mark, List as ListAll, Unknown}
-use Rattle.console_fields.specs.declared.numbers.Number.TheVariants.{Value, Not}
+use Rattle.console.specs.declared.Command.TheVariants.{Insert, Mark, List as ListAll}
 
 -- A COMMAND with its kinds, and one that has none
-pub gives_kinds : {p : Parsed} {c : Command} {xs ks : List ℕ} → p ≡ record { command = c; kinds = xs } → take (length xs) ks ≡ xs → Gives p c ks
+pub gives_kinds : {p : Parsed} {c : Option Command} {xs ks : List ℕ} → p ≡ record { command = c; kinds = xs } → take (length xs) ks ≡ xs → Gives p c ks
 gives_kinds e w = record { command = sym (ap (λ q. q.command) e); written = rw e w }
 
-pub gives_plain : {p : Parsed} {c : Command} {ks : List ℕ} → p ≡ plain c → Gives p c ks
+pub gives_plain : {p : Parsed} {c : Option Command} {ks : List ℕ} → p ≡ record { command = c; kinds = [] } → Gives p c ks
 gives_plain e = gives_kinds e refl
 
--- what a reply's number was
-pub reply_some : (o : Option ℕ) (v : ℕ) → Value v ≡ number_reply o → o ≡ some v
-unfolding number_reply
-reply_some none v e = absurd (let z : ◌≡◌ {A = ℕ} 0 1 = cc in omega arith)
-reply_some (some w) v e = cc
+-- WORDS as the code compares them
+pub word_told : (w v : List ℕ) → pointwise eqb w v ≡ same w v
+word_told w v = pointwise_same w v
 
-pub reply_none : (o : Option ℕ) → Not ≡ number_reply o → o ≡ none
-unfolding number_reply
-reply_none none e = refl
-reply_none (some w) e = absurd (let z : ◌≡◌ {A = ℕ} 0 1 = cc in omega arith)
+pub word_is : (w : List ℕ) {t : Bool} {v word : List ℕ} → t ≡ pointwise eqb w v → v ≡ word → same w word ≡ t
+word_is w {v = v} e f = rw (← f) (sym (e ∙ pointwise_same w v))
 
 -- PLACES
-pub place_front : (cs : List ℕ) → same cs front_word ≡ true → Value no_tag ≡ number_reply (number_or_front cs)
-unfolding number_or_front number_reply
+pub place_front : (cs : List ℕ) → same cs front_word ≡ true → number_or_front cs ≡ Some no_tag
+unfolding number_or_front
 place_front cs e = rw e
 
-pub place_number : (cs : List ℕ) → same cs front_word ≡ false → number_reply (number_of cs) ≡ number_reply (number_or_front cs)
+pub place_number : (cs : List ℕ) → same cs front_word ≡ false → number_or_front cs ≡ number_of cs
 unfolding number_or_front
 place_number cs e = rw e
 
+pub ruleset place_cases = (word_told, place_front, place_number)
+
 -- ONE FIELD
-pub one_list : (w : List ℕ) → same w list_word ≡ true → ListAll ≡ (command_of (w ∷ [])).command
+pub one_list : (w : List ℕ) → same w list_word ≡ true → command_of (w ∷ []) ≡ plain ListAll
 unfolding command_of
 one_list w e = rw e
 
-pub one_other : (w : List ℕ) → same w list_word ≡ false → Unknown ≡ (command_of (w ∷ [])).command
+pub one_other : (w : List ℕ) → same w list_word ≡ false → command_of (w ∷ []) ≡ unknown
 unfolding command_of
 one_other w e = rw e
+
+pub ruleset one_cases = (word_told, one_list, one_other)
 
 pub one_kinds : (w : List ℕ) → (command_of (w ∷ [])).kinds ≡ []
 unfolding command_of
@@ -62,42 +62,44 @@ one_kinds w = go (same w list_word)
     go false = refl
 
 -- TWO FIELDS
-pub two_none : (w a : List ℕ) → number_or_front a ≡ none → Unknown ≡ (command_of (w ∷ a ∷ [])).command
+pub two_none : (w a : List ℕ) → number_or_front a ≡ None → command_of (w ∷ a ∷ []) ≡ unknown
 unfolding command_of insert_of mark_of
 two_none w a e = rw e (go (same w element_word) (same w text_word) (same w mark_word))
   where
-    go : (t u v : Bool) → Unknown ≡ (cond t unknown (cond u unknown (cond v unknown unknown))).command
+    go : (t u v : Bool) → cond t unknown (cond u unknown (cond v unknown unknown)) ≡ unknown
     go true u v = refl
     go false true v = refl
     go false false true = refl
     go false false false = refl
 
-module _ (w a : List ℕ) (y : ℕ) (p : number_or_front a ≡ some y) where
-  pub two_element : same w element_word ≡ true → Insert 1 (record { 0 = y }) ≡ (command_of (w ∷ a ∷ [])).command
+module _ (w a : List ℕ) (y : ℕ) (p : number_or_front a ≡ Some y) where
+  pub two_element : same w element_word ≡ true → command_of (w ∷ a ∷ []) ≡ plain (Insert 1 (record { 0 = y }))
   unfolding command_of insert_of
   two_element e = rw (p, e)
 
-  pub two_text : same w element_word ≡ false → same w text_word ≡ true → Insert 3 (record { 0 = y }) ≡ (command_of (w ∷ a ∷ [])).command
+  pub two_text : same w element_word ≡ false → same w text_word ≡ true → command_of (w ∷ a ∷ []) ≡ plain (Insert 3 (record { 0 = y }))
   unfolding command_of insert_of
   two_text e f = rw (p, e, f)
 
-  pub two_mark : same w element_word ≡ false → same w text_word ≡ false → same w mark_word ≡ true → Mark (record { 0 = y }) ≡ (command_of (w ∷ a ∷ [])).command
+  pub two_mark : same w element_word ≡ false → same w text_word ≡ false → same w mark_word ≡ true → command_of (w ∷ a ∷ []) ≡ plain (Mark (record { 0 = y }))
   unfolding command_of mark_of
   two_mark e f g = rw (p, e, f, g)
 
-pub two_other : (w a : List ℕ) → same w element_word ≡ false → same w text_word ≡ false → same w mark_word ≡ false → Unknown ≡ (command_of (w ∷ a ∷ [])).command
+pub two_other : (w a : List ℕ) → same w element_word ≡ false → same w text_word ≡ false → same w mark_word ≡ false → command_of (w ∷ a ∷ []) ≡ unknown
 unfolding command_of
 two_other w a e f g = rw (e, f, g)
 
+pub ruleset two_cases = (word_told, two_none, two_element, two_text, two_mark, two_other)
+
 insert_kinds : (k : ℕ) (o : Option ℕ) → (insert_of k o).kinds ≡ []
 unfolding insert_of
-insert_kinds k none = refl
-insert_kinds k (some y) = refl
+insert_kinds k None = refl
+insert_kinds k (Some y) = refl
 
 mark_kinds : (o : Option ℕ) → (mark_of o).kinds ≡ []
 unfolding mark_of
-mark_kinds none = refl
-mark_kinds (some y) = refl
+mark_kinds None = refl
+mark_kinds (Some y) = refl
 
 pub two_kinds : (w a : List ℕ) → (command_of (w ∷ a ∷ [])).kinds ≡ []
 unfolding command_of

@@ -1,12 +1,11 @@
 -- The lines of the book program (document 01, "The book program"). Bytes are numbers below 256.
 -- Assumes nothing: these are definitions.
-use Rattle.std.specs.Prelude.{cond, List, [], ◌∷◌, map, ℕ, ltb, eqb, length}
-use Rattle.std.proofs.Math.Option.{Option, none, some}
+use Rattle.std.specs.Prelude.{cond, List, [], ◌∷◌, map, ℕ, ltb, eqb, length, Option, Some, None}
 use Rattle.store_types.specs.Limits.{no_tag}
 use Rattle.lists.specs.Lists.{same, with_first}
 use Rattle.console_fields.specs.Field.{number_of, all_letters, letter_kind}
 use Rattle.console.specs.declared.Command.{Command}
-use Rattle.console.specs.declared.Command.TheVariants.{Load, Insert, Mark, List as ListAll, Unknown}
+use Rattle.console.specs.declared.Command.TheVariants.{Load, Insert, Mark, List as ListAll}
 
 -- FIELDS are parted by one space: a line of m spaces has m + 1 fields, of which some may be empty
 unfoldable pub fields : (line : List ℕ) → List (List ℕ)
@@ -34,33 +33,33 @@ front_word = 102 ∷ 114 ∷ 111 ∷ 110 ∷ 116 ∷ []
 
 -- A PLACE is a number or `front`, which is no tag
 unfoldable pub number_or_front : List ℕ → Option ℕ
-number_or_front cs = cond (same cs front_word) (some no_tag) (number_of cs)
+number_or_front cs = cond (same cs front_word) (Some no_tag) (number_of cs)
 
--- A LINE'S COMMAND, and the kinds of a load
+-- A LINE'S COMMAND, none where it asks for nothing, and the kinds of a load
 pub record Parsed : Type 0 where
-  pub command : Command
+  pub command : Option Command
   pub kinds : List ℕ
 
 abbrev pub unknown : Parsed
-unknown = record { command = Unknown; kinds = [] }
+unknown = record { command = None; kinds = [] }
 
 abbrev pub plain : Command → Parsed
-plain c = record { command = c; kinds = [] }
+plain c = record { command = Some c; kinds = [] }
 
 unfoldable pub load_of : (s r book : Option ℕ) → (letters : List ℕ) → Parsed
-load_of none r b cs = unknown
-load_of (some s) none b cs = unknown
-load_of (some s) (some r) none cs = unknown
-load_of (some s) (some r) (some b) cs =
-    cond (all_letters cs) (record { command = Load s r b (length cs); kinds = map letter_kind cs }) unknown
+load_of None r b cs = unknown
+load_of (Some s) None b cs = unknown
+load_of (Some s) (Some r) None cs = unknown
+load_of (Some s) (Some r) (Some b) cs =
+    cond (all_letters cs) (record { command = Some (Load s r b (length cs)); kinds = map letter_kind cs }) unknown
 
 unfoldable pub insert_of : (kind : ℕ) → (place : Option ℕ) → Parsed
-insert_of k none = unknown
-insert_of k (some y) = plain (Insert k (record { 0 = y }))
+insert_of k None = unknown
+insert_of k (Some y) = plain (Insert k (record { 0 = y }))
 
 unfoldable pub mark_of : (place : Option ℕ) → Parsed
-mark_of none = unknown
-mark_of (some y) = plain (Mark (record { 0 = y }))
+mark_of None = unknown
+mark_of (Some y) = plain (Mark (record { 0 = y }))
 
 -- by the first field and how many follow: `list`; `element y`, `text y`, `mark y`; `load s r book`, `load s r book kinds`
 unfoldable pub command_of : (fields : List (List ℕ)) → Parsed

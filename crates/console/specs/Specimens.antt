@@ -1,7 +1,7 @@
 -- Specimens of lines (document 01, "The book program", and others that tell them from wrong ones): a table,
 -- which proofs/Specimens.antt shows to hold. Expected values are worked out by hand from document 01. Assumes nothing:
 -- these are definitions.
-use Rattle.std.specs.Prelude.{List, [], ◌∷◌, ◌++◌, ℕ, replicate}
+use Rattle.std.specs.Prelude.{List, [], ◌∷◌, ◌++◌, ℕ, replicate, Some}
 use Prim.Native.String.{String}
 use Rattle.store_types.specs.Limits.{no_tag}
 use Rattle.console.specs.Line.{Parsed, unknown, plain}
@@ -14,7 +14,7 @@ pub record Reading : Type 0 where
   pub says : Parsed
 
 abbrev says_load : String → (s r book : ℕ) → (count : ℕ) → (kinds : List ℕ) → Reading
-says_load t s r b n ks = record { line = bytes t; says = record { command = Load s r b n; kinds = ks } }
+says_load t s r b n ks = record { line = bytes t; says = record { command = Some (Load s r b n); kinds = ks } }
 
 abbrev says_insert : String → (kind place : ℕ) → Reading
 says_insert t k y = record { line = bytes t; says = plain (Insert k (record { 0 = y })) }
@@ -48,7 +48,7 @@ readings =
     -- 2,100 bytes are a line, 2,101 are none
     record {
       line = bytes "load 2 2 7 " ++ replicate 2089 84;
-      says = record { command = Load 2 2 7 2089; kinds = replicate 2089 3 };
+      says = record { command = Some (Load 2 2 7 2089); kinds = replicate 2089 3 };
     } ∷
     record { line = bytes "load 2 2 7 " ++ replicate 2090 84; says = unknown } ∷
     []

@@ -24,5 +24,4 @@ pub enum Command {
     },
     Mark(TagId),
     List,
-    Unknown,
 }

@@ -1,116 +1,95 @@
 // Lines: the fields of one, and the command that they say.
 ghost use Rattle.std.specs.Prelude.{◌≡◌, [], ◌∷◌, ◌≤◌, length};
 ghost use Rattle.console.specs.Line.{parsed, fields, command_of, number_or_front, load_word};
-ghost use Rattle.console_fields.specs.Scan.{number_reply};
 ghost use Rattle.console.specs.Post.{Gives};
 
 use crate::{Command, LINE_LIMIT};
 use console_fields::letters::letters;
-use console_fields::{Number, field_end, read_number, same_bytes};
+use console_fields::{read_number, split_field};
 use store_types::{BEGIN, TEXT, TagId};
 
-// A number, or `front`, which is no tag.
-fn read_place(field: &[u8]) -> Number
-    ensures { result ≡ number_reply (number_or_front field.now) }
+// A number, or `front`, which is no tag; none for any other field.
+#[tactic(auto, using(crate::proofs::Words::place_cases))]
+fn read_place(field: &[u8]) -> Option<u32>
+    ensures { result ≡ number_or_front field.now }
 {
-    if same_bytes(field, b"front") {
+    if field == b"front".as_slice() {
         let none = TagId::NONE;
-        return Number::Value(none.0);
+        return Some(none.0);
     }
     read_number(field)
 }
 
-fn one_field(word: &[u8]) -> Command
+// The command of a line of one field.
+#[tactic(auto, using(crate::proofs::Words::one_cases))]
+fn one_field(word: &[u8]) -> Option<Command>
     ensures { result ≡ (command_of (word.now ∷ [])).command }
 {
-    if same_bytes(word, b"list") {
-        return Command::List;
+    if word == b"list".as_slice() {
+        return Some(Command::List);
     }
-    Command::Unknown
+    None
 }
 
-fn two_fields(word: &[u8], field: &[u8]) -> Command
+// The command of a line of two fields.
+#[tactic(auto, using(crate::proofs::Words::two_cases))]
+fn two_fields(word: &[u8], field: &[u8]) -> Option<Command>
     ensures { result ≡ (command_of (word.now ∷ field.now ∷ [])).command }
 {
-    let Number::Value(y) = read_place(field) else {
-        return Command::Unknown;
-    };
-    if same_bytes(word, b"element") {
-        return Command::Insert {
-            kind: BEGIN,
-            place: TagId(y),
-        };
+    let place = TagId(read_place(field)?);
+    if word == b"element".as_slice() {
+        return Some(Command::Insert { kind: BEGIN, place });
     }
-    if same_bytes(word, b"text") {
-        return Command::Insert {
-            kind: TEXT,
-            place: TagId(y),
-        };
+    if word == b"text".as_slice() {
+        return Some(Command::Insert { kind: TEXT, place });
     }
-    if same_bytes(word, b"mark") {
-        return Command::Mark(TagId(y));
+    if word == b"mark".as_slice() {
+        return Some(Command::Mark(place));
     }
-    Command::Unknown
+    None
 }
 
-fn loaded(s: u32, r: u32, book: u32, kinds: usize) -> Command
-    ensures { result ≡ Command.Load s r book kinds }
-{
-    Command::Load { s, r, book, kinds }
-}
-
-// What stands behind `load` and its space: three numbers, and letters that may be absent, their space too. Letters
-// hold no space, so that a further field is refused as no letter is.
-fn load(rest: &[u8], kinds: &mut [u8]) -> Command
+// What stands after `load` and its space: three numbers, and letters that may be absent, their space too. Letters hold no
+// space, so that a further field is refused as no letter is.
+fn load(rest: &[u8], kinds: &mut [u8]) -> Option<Command>
     requires { length rest.now ≤ length kinds.old }
     ensures { Gives (command_of (load_word ∷ fields rest.now)) result kinds.new }
 {
-    let e = field_end(rest, 0);
-    if e == rest.len() {
-        return Command::Unknown;
+    let (s, rest) = split_field(rest);
+    let (r, rest) = split_field(rest?);
+    let (book, rest) = split_field(rest?);
+    let s = read_number(s)?;
+    let r = read_number(r)?;
+    let book = read_number(book)?;
+    let field = rest.unwrap_or(&[]);
+    if !letters(field, kinds) {
+        return None;
     }
-    let f = field_end(rest, e + 1);
-    if f == rest.len() {
-        return Command::Unknown;
-    }
-    let g = field_end(rest, f + 1);
-    let Number::Value(s) = read_number(&rest[0..e]) else {
-        return Command::Unknown;
-    };
-    let Number::Value(r) = read_number(&rest[e + 1..f]) else {
-        return Command::Unknown;
-    };
-    let Number::Value(book) = read_number(&rest[f + 1..g]) else {
-        return Command::Unknown;
-    };
-    if g == rest.len() {
-        return loaded(s, r, book, 0);
-    }
-    let field = &rest[g + 1..];
-    if letters(field, kinds) {
-        return loaded(s, r, book, field.len());
-    }
-    Command::Unknown
+    Some(Command::Load {
+        s,
+        r,
+        book,
+        kinds: field.len(),
+    })
 }
 
-// The command of a line without its line feed; a load's kinds go to the front of `kinds`.
-pub fn parse(line: &[u8], kinds: &mut [u8; LINE_LIMIT]) -> Command
+// The command of a line without its line feed; none where it asks for nothing. A load's kinds go to the front of `kinds`.
+pub fn parse(line: &[u8], kinds: &mut [u8; LINE_LIMIT]) -> Option<Command>
     ensures { Gives (parsed line.now) result kinds.new }
 {
     if LINE_LIMIT < line.len() {
-        return Command::Unknown;
+        return None;
     }
-    let e = field_end(line, 0);
-    if e == line.len() {
-        return one_field(line);
-    }
-    let word = &line[0..e];
-    let rest = &line[e + 1..];
-    if same_bytes(word, b"load") {
+    let (word, rest) = split_field(line);
+    let Some(rest) = rest else {
+        return one_field(word);
+    };
+    if word == b"load".as_slice() {
         return load(rest, kinds);
     }
-    if field_end(rest, 0) != rest.len() {
-        return Command::Unknown;
+    let (field, more) = split_field(rest);
+    match more {
+        None => two_fields(word, field),
+        Some(_) => None,
     }
-    two_fields(word, rest)
 }

@@ -1,7 +1,6 @@
 -- Numbers and kinds as a line of the book program has them (document 01, "The book program"). Bytes are numbers below 256.
 -- Assumes nothing: these are definitions.
-use Rattle.std.specs.Prelude.{Bool, true, false, ◌&&◌, ◌||◌, not, cond, List, [], ◌∷◌, ℕ, ◌+◌, ◌*◌, ◌-◌, ltb, leb, eqb}
-use Rattle.std.proofs.Math.Option.{Option, none, some}
+use Rattle.std.specs.Prelude.{Bool, true, false, ◌&&◌, ◌||◌, not, cond, List, [], ◌∷◌, ℕ, ◌+◌, ◌*◌, ◌-◌, ltb, leb, eqb, Option, Some, None}
 use Rattle.store_types.specs.Limits.{word_limit}
 
 -- NUMBERS have no leading zeros and fit a word
@@ -24,7 +23,7 @@ well_begun (c ∷ d ∷ cs) = not (eqb c 48)
 
 unfoldable pub number_of : List ℕ → Option ℕ
 number_of cs =
-    cond (well_begun cs && (all_digits cs && ltb (value_from 0 cs) word_limit)) (some (value_from 0 cs)) none
+    cond (well_begun cs && (all_digits cs && ltb (value_from 0 cs) word_limit)) (Some (value_from 0 cs)) None
 
 -- KINDS are letters B, E, T
 unfoldable pub is_letter : (byte : ℕ) → Bool

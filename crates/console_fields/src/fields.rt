@@ -1,23 +1,13 @@
-// Fields of a line: where one ends, and whether it is a given word.
-ghost use Rattle.std.specs.Prelude.{◌≡◌, ◌+◌, ◌≤◌, length, drop};
-ghost use Rattle.lists.specs.Lists.{same};
-ghost use Rattle.console_fields.specs.Scan.{first_space};
+// Fields of a line: where the first ends.
+ghost use Rattle.std.specs.Prelude.{option_map};
+ghost use Rattle.console_fields.specs.Post.{Split};
 
-// The end of the field that begins at `from`: the next space, or the line's end.
-pub fn field_end(line: &[u8], from: usize) -> usize
-    requires { from ≤ length line.now }
-    ensures { result ≡ from + first_space (drop from line.now) }
+// A line's first field, and what stands after its space; none where the line has no space.
+pub fn split_field(line: &[u8]) -> (&[u8], Option<&[u8]>)
+    ensures { Split line.now result.0.now (option_map (λ r. r.now) result.1) }
 {
-    for i in from..line.len() {
-        if line[i] == b' ' {
-            return i;
-        }
+    match line.iter().position(|c| *c == b' ') {
+        Some(end) => (&line[..end], Some(&line[end + 1..])),
+        None => (line, None),
     }
-    line.len()
-}
-
-pub fn same_bytes(a: &[u8], b: &[u8]) -> bool
-    ensures { result ≡ same a.now b.now }
-{
-    a == b
 }

@@ -5,5 +5,5 @@ mod fields;
 pub mod letters;
 mod numbers;
 
-pub use fields::{field_end, same_bytes};
-pub use numbers::{Number, read_number};
+pub use fields::split_field;
+pub use numbers::read_number;

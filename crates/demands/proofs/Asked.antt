@@ -8,11 +8,10 @@ use Prim.Native.Nat.{ℕ, ◌%◌, ◌<◌}
 use native.Mathlib.Omega.{arith}
 use borrow.Author.Tests.{eqb-true, eq-eqb}
 use lib.Dec.{eqb}
+use Rattle.lists.proofs.Replied.{replied_answer}
 use Rattle.store_types.specs.declared.HeldPair.{HeldPair}
 use Rattle.store_types.specs.declared.Answer.{Answer}
 use Rattle.store_types.specs.declared.Answer.TheVariants.{Yes, No, Stale}
-use Rattle.store_types.specs.declared.QuestionReply.TheVariants.{Answered, Refused}
-use Rattle.store_types.specs.declared.HoldReply.TheVariants as held
 use Rattle.store_types.specs.Layout.{at_book, at_mate, word_at, field, label_at}
 use Rattle.lists.specs.Fronts.{replied}
 use Rattle.lists.proofs.Replied.{replied_accepted}
@@ -32,6 +31,7 @@ use Rattle.demands.specs.Words.{is_marked}
 use Rattle.demands.specs.Promise.{AskedWords, CurrentWords, Enclosed, QuestionRight, HoldRight, YesOrNoWords}
 use Rattle.demands.proofs.Said.{sound_said, tag_said, book_row}
 use Rattle.demands.proofs.Places.{stand_of, places_of}
+use Rattle.std.specs.Prelude.{Ok, Err}
 
 -- A BEGIN by its word
 pub begin_code : (k : Kind) (m : Bool) → eqb (kind_word k m % 16) 1 ≡ is_begin k
@@ -109,10 +109,10 @@ module _ (ws : List ℕ) (st : Store) (h : Says ws st) where
           )
 
 -- AN ANSWER is over words that say a store, and the store's
-answered_said : (p : HeldPair) (d : ℕ) (ws : List ℕ) (a : Answer) → question_reply p d ws ≡ Answered a → Says ws (said ws) × (question p d (said ws) ≡ Answered a)
+answered_said : (p : HeldPair) (d : ℕ) (ws : List ℕ) (a : Answer) → question_reply p d ws ≡ Ok a → Says ws (said ws) × (question p d (said ws) ≡ Ok a)
 unfolding question_reply
 answered_said p d ws a e =
-    let (z, q) = replied_accepted Refused (refusal_over ws (λ st. 0)) (question p d (said ws)) (Answered a) (λ i e. let z : ◌≡◌ {A = ℕ} 0 1 = cc in omega arith) e in ((refusal_passed ws (λ st. 0) z).0, q)
+    let (z, q) = replied_accepted Err (refusal_over ws (λ st. 0)) (question p d (said ws)) (Ok a) (λ i e. let z : ◌≡◌ {A = ℕ} 0 1 = cc in omega arith) e in ((refusal_passed ws (λ st. 0) z).0, q)
 
 said_answered : (p : HeldPair) (d : ℕ) (ws : List ℕ) (st : Store) → Says ws st → question_reply p d ws ≡ question p d st
 unfolding question_reply replied
@@ -187,14 +187,10 @@ question_right p d ws =
         let b = said_asked ws st h p d a in inr (e ∙ (header_said ws st h).number, b, λ c. n (current_said ws st h p b.tag c))
 
 -- HOLD
-held_said : (k : ℕ) (p q : HeldPair) → replied held.Refused k (held.Held p) ≡ held.Held q → (k ≡ 0) × (p ≡ q)
-held_said k p q e =
-    let (z, same) = replied_accepted held.Refused k (held.Held p) (held.Held q) (λ i f. let n : ◌≡◌ {A = ℕ} 0 1 = cc in omega arith) e in (z, cc)
-
 pub hold_right : HoldRight
 unfolding HoldRight hold_reply hold_pair
 hold_right x p ws e =
-    let (z, same) = held_said (refusal_over ws (section_refusal x)) (hold_pair x (said ws)) p e in
+    let (z, same) = replied_answer (refusal_over ws (section_refusal x)) (hold_pair x (said ws)) p e in
     let (h, fine) = refusal_passed ws (section_refusal x) z in
     let l = (accepted_section x (said ws) fine).tag in
     rw (← same) (record {

@@ -12,8 +12,6 @@ use lib.Seq.{get_or_at}
 use Rattle.store_types.specs.Layout.{at_count, at_depth, word_at, field}
 use Rattle.store_types.specs.declared.TagId.{TagId}
 use Rattle.store_types.specs.declared.Act.{Act}
-use Rattle.store_types.specs.declared.PartyReply.{PartyReply}
-use Rattle.store_types.specs.declared.PartyReply.TheVariants as acting
 use Rattle.lists.proofs.Tests.{by_test}
 use Rattle.calls.specs.Kind.{Kind, begin, end, text, kind_of, is_end, own_depth}
 use Rattle.calls.specs.Store.{Store, Fact, no_fact, fact_in, fact, count}
@@ -32,6 +30,10 @@ use Rattle.demands.specs.Promise.{loads_book, DepthsStay, NewDepths}
 use Rattle.demands.proofs.Refusals.{change_refused, change_writes, written_stays}
 use Rattle.demands.proofs.Said.{tag_said}
 use Rattle.demands.proofs.Differences.{inserted_said, says_before, says_then, says_same, insert_is_sheet}
+use Rattle.store_types.specs.declared.PartyAnswer.TheVariants as heard
+use Rattle.std.specs.Prelude.{Result, Ok, Err}
+use Rattle.store_types.specs.Replies.{insert_made}
+use Rattle.store_types.specs.declared.PartyAnswer.{PartyAnswer}
 
 -- A TAG THAT STAYS from one store to another, as deep as it was
 record Stays (before after : Store) (x : ℕ) : Type 0 where
@@ -73,12 +75,12 @@ unfolding change_refused insert_refused refusal changed
 insert_keeps c y ws x = change_keeps (insert c y) ws x refl (λ st. insert_stays (insert_kinds c) y st x)
 
 -- a party's call inserts or leaves the words
-act_keeps : (a : Act) (ws us : List ℕ) (x : ℕ) (q : PartyReply) → Acted q a ws us → x < word_at ws at_count → field us x at_depth ≡ field ws x at_depth
+act_keeps : (a : Act) (ws us : List ℕ) (x : ℕ) (q : Result PartyAnswer ℕ) → Acted q a ws us → x < word_at ws at_count → field us x at_depth ≡ field ws x at_depth
 unfolding Acted change_words
-act_keeps a ws us x (acting.Inserted t m h) (made, new) l = rw new (insert_keeps a.kind a.tag.0 ws x l)
-act_keeps a ws us x (acting.Refused k) same l = rw same
-act_keeps a ws us x acting.Yes same l = rw same
-act_keeps a ws us x acting.Stale same l = rw same
+act_keeps a ws us x (Ok (heard.Inserted i)) (made, new) l = rw new (insert_keeps a.kind a.tag.0 ws x l)
+act_keeps a ws us x (Err k) same l = rw same
+act_keeps a ws us x (Ok heard.Yes) same l = rw same
+act_keeps a ws us x (Ok heard.Stale) same l = rw same
 
 pub depths_stay : DepthsStay
 unfolding DepthsStay loads_book step with_words change_refused insert_sheet_refused refusal changed

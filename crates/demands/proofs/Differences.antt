@@ -8,14 +8,12 @@ use native.Mathlib.Nat.{zero-add}
 use native.Mathlib.Omega.{arith}
 use lib.Dec.{eqb}
 use lib.ListN.{length, get_or, length-append}
-use Rattle.store_types.specs.declared.InsertReply.TheVariants as inserting
-use Rattle.store_types.specs.declared.MarkReply.TheVariants as marking
+use Rattle.lists.proofs.Replied.{replied_answer}
 use Rattle.store_types.specs.declared.TagId.{TagId}
 use Rattle.lists.proofs.Tests.{by_test}
 use Rattle.lists.specs.Lists.{numbers, how_many}
 use Rattle.lists.proofs.Numbers.{length_numbers}
 use Rattle.lists.specs.Fronts.{replied, written}
-use Rattle.lists.proofs.Replied.{replied_accepted}
 use Rattle.tree.specs.Book.{Book, label_of, inserted_row, moved_among}
 use Rattle.tree_laws.proofs.Rows.{member_numbers}
 use Rattle.calls.specs.Kind.{Kind, kind_of}
@@ -39,6 +37,9 @@ use Rattle.walk_model.proofs.Counts.{total_same}
 use Rattle.demands.specs.Words.{is_marked, count_below, unmarked_changed, became_marked}
 use Rattle.demands.specs.Promise.{MovedRight, SheetMovedRight, MarkedRight}
 use Rattle.demands.proofs.Said.{sound_said, tag_said}
+use Rattle.std.specs.Prelude.{Ok, Err}
+use Rattle.store_types.proofs.Replies.{same_insert}
+use Rattle.store_types.specs.Replies.{insert_made}
 
 -- COUNTING: numbers added up along a row of numbers are a count
 total_count : (g : ℕ → ℕ) (p : ℕ → Bool) (x n : ℕ) → ((i : ℕ) → i < n → g (x + i) ≡ cond (p (x + i)) 1 0) → total g (numbers x n) ≡ how_many p (numbers x n)
@@ -67,9 +68,10 @@ unfolding is_marked
 mark_said ws st says x l = rw (tag_said ws st says x l).kind_is (kind_back (fact st x).kind (fact st x).marked).1
 
 -- a reply that says so is that of an accepted insertion
-pub inserted_said : (k : ℕ) (x y : TagId) (m h m' h' : ℕ) → replied inserting.Refused k (inserting.Inserted x m h) ≡ inserting.Inserted y m' h' → (k ≡ 0) × (m ≡ m') × (x ≡ y)
+pub inserted_said : (k : ℕ) (x y : TagId) (m h m' h' : ℕ) → replied Err k (Ok (insert_made x m h)) ≡ Ok (insert_made y m' h') → (k ≡ 0) × (m ≡ m') × (x ≡ y)
 inserted_said k x y m h m' h' e =
-    let (z, same) = replied_accepted inserting.Refused k (inserting.Inserted x m h) (inserting.Inserted y m' h') (λ i f. let n : ◌≡◌ {A = ℕ} 0 1 = cc in omega arith) e in (z, cc, cc)
+    let (z, same) = replied_answer k (insert_made x m h) (insert_made y m' h') e in
+    let parts = same_insert same in (z, parts.1, parts.0)
 
 -- A ROW OF KINDS at a place: the store afterwards has the tags of the one before, marked or not as they were, and the book with
 -- the new tags. The empty row leaves the store
@@ -148,10 +150,6 @@ sheet_moved_right cs y x m h ws e =
     sym same ∙ moved_words (map kind_of cs) y ws (insert_sheet_words cs y ws) (said ws) (says_before (sheet cs y) ws z) (says_then (sheet cs y) ws z)
 
 -- MARKED
-marked_said : (k n n' : ℕ) → replied marking.Refused k (marking.Marked n) ≡ marking.Marked n' → (k ≡ 0) × (n ≡ n')
-marked_said k n n' e =
-    let (z, same) = replied_accepted marking.Refused k (marking.Marked n) (marking.Marked n') (λ i f. let n : ◌≡◌ {A = ℕ} 0 1 = cc in omega arith) e in (z, cc)
-
 new_total : (st : Store) (x d : ℕ) (ts : List Fact) (g : ℕ → ℕ) →
     ((i : ℕ) → i < length ts → g (d + i) ≡ cond (not (get_or ts i no_fact).marked && within st x (d + i)) 1 0) → new_marks st x d ts ≡ total g (numbers d (length ts))
 unfolding new_marks numbers
@@ -199,4 +197,4 @@ module _ (x : ℕ) (ws : List ℕ) (z : refusal_over ws (section_refusal x) ≡ 
 
 pub marked_right : MarkedRight
 unfolding MarkedRight mark_reply
-marked_right x n ws e = let (z, same) = marked_said (refusal_over ws (section_refusal x)) _ n e in sym same ∙ marked_words x ws z
+marked_right x n ws e = let (z, same) = replied_answer (refusal_over ws (section_refusal x)) _ n e in sym same ∙ marked_words x ws z

@@ -15,13 +15,6 @@ use Rattle.lists.proofs.Fronts.{length_in_front}
 use Rattle.lists.proofs.Replied.{first_number, read_replied}
 use Rattle.store_types.specs.Limits.{no_tag}
 use Rattle.store_types.specs.declared.Act.{Act}
-use Rattle.store_types.specs.declared.GrantReply.TheVariants as granting
-use Rattle.store_types.specs.declared.ListReply.TheVariants as listing
-use Rattle.store_types.specs.declared.LoadReply.TheVariants as loading
-use Rattle.store_types.specs.declared.PartyReply.{PartyReply}
-use Rattle.store_types.specs.declared.PartyReply.TheVariants as acting
-use Rattle.store_types.specs.declared.RevokeReply.TheVariants as revoking
-use Rattle.store_types.specs.declared.WriteReply.TheVariants as writing
 use Rattle.tree.specs.Book.{height}
 use Rattle.calls.specs.Kind.{is_begin}
 use Rattle.calls.specs.Store.{Store, fact, count, label}
@@ -30,8 +23,8 @@ use Rattle.calls.specs.Load.{load_refusal, load_store}
 use Rattle.calls.specs.Listing.{listed_tags, listed_labels, inside_tests, list_refusal}
 use Rattle.calls.specs.Words.{words_of, Says}
 use Rattle.calls.specs.File.{file_of, read_file}
-use Rattle.calls.specs.Replies.{said, refusal_over, insert_refused, insert_sheet_refused, load_reply, list_refused, list_reply, list_tags, list_labels, write_refused, write_reply, write_bytes, store_or, file_refusal, read_reply, read_words, load_numbers, insert_numbers, list_numbers, write_numbers}
-use Rattle.calls.specs.Rights.{grant_refused, grant_reply, grant_list, grant_count, revoke_refused, revoke_reply, revoke_list, revoke_count, grant_numbers, revoke_numbers, party_reply, party_numbers, emptied_by}
+use Rattle.calls.specs.Replies.{said, refusal_over, insert_refused, insert_sheet_refused, load_reply, list_refused, list_reply, list_tags, list_labels, write_refused, write_reply, write_bytes, store_or, file_refusal, read_reply, read_words, load_numbers, insert_numbers}
+use Rattle.calls.specs.Rights.{grant_refused, grant_reply, grant_list, grant_count, revoke_refused, revoke_reply, revoke_list, revoke_count, party_reply, party_numbers, emptied_by}
 use Rattle.calls.specs.Changes.{Change, load, insert, sheet, mark, refusal, changed}
 use Rattle.calls.specs.Promise.{LoadSound}
 use Rattle.calls_laws.proofs.Tests.{passes}
@@ -47,6 +40,10 @@ use Rattle.system.specs.Feed.{party_inserted, acted_in}
 use Rattle.demands.specs.Words.{Fronted}
 use Rattle.demands.specs.Promise.{writes_words, Filling, fillings, AllFronted, ListsRight, CallRight, EveryCall, EveryReading}
 use Rattle.demands.proofs.Refusals.{change_refused, change_tells, change_writes, restore_tells, written_stays}
+use Rattle.store_types.specs.declared.PartyAnswer.TheVariants as heard
+use Rattle.std.specs.Prelude.{Result, Ok, Err}
+use Rattle.store_types.specs.Replies.{load_made, insert_made, count_numbers}
+use Rattle.store_types.specs.declared.PartyAnswer.{PartyAnswer}
 
 -- A RESULT IN FRONT, where it fits
 fronted : (new old : List ℕ) → length new ≤ length old → Fronted new old (in_front new old)
@@ -149,27 +146,27 @@ unfolding Says
 write_room ws bs z = let (says, room) = file_fits ws bs z in omega (arith, length_file (said ws) says.0)
 
 lists_right : (r : Reading) (ws : List ℕ) → ListsRight r ws
-unfolding finding finding_numbers refusal_in reading_lists fillings AllRoom list_reply list_tags list_labels list_numbers write_reply write_bytes write_numbers head_d
+unfolding finding finding_numbers refusal_in reading_lists fillings AllRoom list_reply list_tags list_labels count_numbers write_reply write_bytes head_d
 lists_right (hold x) ws = lists_by (hold x) ws _ refl refl (λ z. tt)
 lists_right (ask p d) ws = lists_by (ask p d) ws _ refl refl (λ z. tt)
 lists_right (list x ts ls) ws =
-    lists_by (list x ts ls) ws (list_refused x ws ts ls) (first_number listing.Refused list_numbers (list_refused x ws ts ls) _ (λ i. refl) refl) refl
+    lists_by (list x ts ls) ws (list_refused x ws ts ls) (first_number Err count_numbers (list_refused x ws ts ls) _ (λ i. refl) refl) refl
     (λ z. let room = list_room x ws ts ls z in (room.0, (room.1, tt)))
 lists_right (write bs) ws =
-    lists_by (write bs) ws (write_refused ws bs) (first_number writing.Refused write_numbers (write_refused ws bs) _ (λ i. refl) refl) refl
+    lists_by (write bs) ws (write_refused ws bs) (first_number Err count_numbers (write_refused ws bs) _ (λ i. refl) refl) refl
     (λ z. (write_room ws bs z, tt))
 
 -- GRANTS: a refused call leaves the list and the count
 grants_stay : (k : Keeping) (y : System) → eqb (refusal_in (keeping_numbers (keeping k y))) 0 ≡ false →
     (kept_grants k y ≡ y.grants) × (kept_count k y ≡ y.count)
-unfolding keeping keeping_numbers kept_grants kept_count refusal_in grant_reply grant_list grant_count revoke_reply revoke_list revoke_count grant_numbers revoke_numbers head_d
+unfolding keeping keeping_numbers kept_grants kept_count refusal_in grant_reply grant_list grant_count revoke_reply revoke_list revoke_count count_numbers head_d
 grants_stay (grant p x q) y e =
     let k = grant_refused p x q y.count (length y.grants) y.words in
-    let told = rw (first_number granting.Refused grant_numbers k (granting.Granted (suc y.count)) (λ i. refl) refl) at e in
+    let told = rw (first_number Err count_numbers k (Ok (suc y.count)) (λ i. refl) refl) at e in
     (read_replied (λ _. y.grants) (λ g. g) k _ ∙ rw told, read_replied (λ _. y.count) (λ c. c) k _ ∙ rw told)
 grants_stay (revoke p x) y e =
     let k = revoke_refused p y.count (length y.grants) in
-    let told = rw (first_number revoking.Refused revoke_numbers k _ (λ i. refl) refl) at e in
+    let told = rw (first_number Err count_numbers k _ (λ i. refl) refl) at e in
     (read_replied (λ _. y.grants) (λ g. g) k _ ∙ rw told, read_replied (λ _. y.count) (λ c. c) k _ ∙ rw told)
 grants_stay (lend gs c) y e = absurd (true≢false e)
 
@@ -200,9 +197,9 @@ unfolding EveryReading accepted numbers_of
 restore_front bs ws e = let (st, good, same, front) = (every_reading bs ws).restored e in (st, good, front)
 
 -- a refused load or reading leaves the count
-count_stays : (k n h c : ℕ) → eqb k 0 ≡ false → emptied_by (replied loading.Refused k (loading.Loaded n h)) c ≡ c
+count_stays : (k n h c : ℕ) → eqb k 0 ≡ false → emptied_by (replied Err k (Ok (load_made n h))) c ≡ c
 unfolding emptied_by
-count_stays k n h c e = read_replied loading.Refused (λ q. emptied_by q c) k (loading.Loaded n h) ∙ rw e
+count_stays k n h c e = read_replied Err (λ q. emptied_by q c) k (Ok (load_made n h)) ∙ rw e
 
 -- EVERY CALL. One that may write the words; and one that leaves them
 writing_right : (c : Call) (y : System) → writes_words c (reply c y) ≡ true → (accepted (reply c y) ≡ false → step c y ≡ y) →
@@ -225,15 +222,15 @@ quiet_right c y quiet stays same =
     }
 
 -- a party's, by its reply
-act_right : (p : ℕ) (a : Act) (y : System) (q : PartyReply) → party_reply p a y.count y.grants y.words ≡ q →
+act_right : (p : ℕ) (a : Act) (y : System) (q : Result PartyAnswer ℕ) → party_reply p a y.count y.grants y.words ≡ q →
     Acted q a y.words (step (acts p a) y).words → CallRight (acts p a) y
 unfolding reply writes_words acted_in party_inserted accepted numbers_of party_numbers refusal_in insert_numbers Acted step with_words change_reply change_words head_d
-act_right p a y (acting.Inserted x m h) e (made, new) =
+act_right p a y (Ok (heard.Inserted i)) e (made, new) =
     let front = change_front (insert a.kind a.tag.0) y.words (rw (← made)) in
     writing_right (acts p a) y (rw e) (λ f. absurd (true≢false (rw e at f))) (λ _. rw new front)
-act_right p a y (acting.Refused k) e same = quiet_right (acts p a) y (rw e) (λ _. rw same) same
-act_right p a y acting.Yes e same = quiet_right (acts p a) y (rw e) (λ _. rw same) same
-act_right p a y acting.Stale e same = quiet_right (acts p a) y (rw e) (λ _. rw same) same
+act_right p a y (Err k) e same = quiet_right (acts p a) y (rw e) (λ _. rw same) same
+act_right p a y (Ok heard.Yes) e same = quiet_right (acts p a) y (rw e) (λ _. rw same) same
+act_right p a y (Ok heard.Stale) e same = quiet_right (acts p a) y (rw e) (λ _. rw same) same
 
 pub every_call : EveryCall
 unfolding EveryCall EveryReading reply step with_words ended_by writes_words accepted numbers_of change_reply change_words change_refused load_reply read_reply refusal_in load_numbers

@@ -9,13 +9,12 @@ use native.Mathlib.Omega.{arith}
 use borrow.Author.Tests.{lt-ltb, le-ltb, leb-false, not-false, eqb-true, eqb-false}
 use lib.Dec.{leb, eqb}
 use lib.ListN.{length, take, drop, length-append}
+use Rattle.lists.proofs.Replied.{replied_answer}
 use Rattle.lists.specs.Lists.{first, those}
 use Rattle.store_types.specs.Limits.{no_tag}
-use Rattle.store_types.specs.declared.ListReply.TheVariants.{Listed, Refused}
 use Rattle.lists.proofs.Tests.{by_test}
 use Rattle.lists.proofs.Those.{those_append}
 use Rattle.lists.specs.Fronts.{replied}
-use Rattle.lists.proofs.Replied.{replied_accepted}
 use Rattle.store_types.specs.Layout.{label_at}
 use Rattle.tree.specs.Row.{member, place}
 use Rattle.tree_laws.proofs.Rows.{member_first, member_later, member_append, member_of_drop}
@@ -35,6 +34,7 @@ use Rattle.demands.specs.Promise.{ListRight}
 use Rattle.demands.proofs.Said.{sound_said, tag_said, book_row}
 use Rattle.demands.proofs.EveryCall.{list_fronted}
 use Rattle.demands.proofs.Asked.{marked_said, label_said}
+use Rattle.std.specs.Prelude.{Ok, Err}
 
 -- THE LISTED TAGS of a row, part by part
 listed_unmarked : (st : Store) (ws : List ℕ) (x : ℕ) (xs : List ℕ) → ((d : ℕ) → member d xs ≡ true → is_listed st x d ≡ not (is_marked ws d)) →
@@ -170,17 +170,13 @@ module _ (ws : List ℕ) (st : Store) (h : Says ws st) where
       let at = pass_at own x l in
       section_found x l e (closes x l (not-false _ g.0) at at.step))
 
-listed_said : (k m n : ℕ) → replied Refused k (Listed m) ≡ Listed n → (k ≡ 0) × (m ≡ n)
-listed_said k m n e =
-    let (z, same) = replied_accepted Refused k (Listed m) (Listed n) (λ i f. let n : ◌≡◌ {A = ℕ} 0 1 = cc in omega arith) e in (z, cc)
-
 -- what an accepted list writes
 pub list_right : ListRight
 unfolding ListRight list_reply list_refused listed_labels
 list_right x n ws ts ls e =
     let st = said ws in
     let refusal = list_refusal (length ts) (length ls) x in
-    let (z, many) = listed_said (refusal_over ws refusal) _ n e in
+    let (z, many) = replied_answer (refusal_over ws refusal) _ n e in
     let (h, fine) = refusal_passed ws refusal z in
     let f = found ws st h (length ts) (length ls) x fine in
     let wrote = list_fronted x ws ts ls z in

@@ -7,15 +7,12 @@ use Prim.Native.Nat.{ℕ, zero, suc, ◌+◌}
 use native.Mathlib.Omega.{arith}
 use lib.Dec.{eqb}
 use lib.ListN.{length}
+use Rattle.lists.proofs.Replied.{replied_answer}
 use Rattle.lists.proofs.Tests.{either_way}
 use Rattle.lists.specs.Fronts.{in_front, written, replied}
 use Rattle.lists.proofs.Fronts.{length_in_front}
-use Rattle.lists.proofs.Replied.{length_written, replied_accepted, read_replied}
+use Rattle.lists.proofs.Replied.{length_written, read_replied}
 use Rattle.store_types.specs.declared.Act.{Act}
-use Rattle.store_types.specs.declared.LoadReply.TheVariants as loading
-use Rattle.store_types.specs.declared.InsertReply.TheVariants as inserting
-use Rattle.store_types.specs.declared.PartyReply.{PartyReply}
-use Rattle.store_types.specs.declared.PartyReply.TheVariants as acting
 use Rattle.calls.specs.Store.{Store}
 use Rattle.calls.specs.Load.{load_refusal, load_store}
 use Rattle.calls.specs.Words.{words_of, Says}
@@ -35,6 +32,10 @@ use Rattle.system.specs.Histories.{afterwards, replies}
 use Rattle.system.specs.Feed.{party_inserted, acted_in, told_of, told, total_after_insert, total_after_act, total_after, total_moved, is_restored, NoneRestored}
 use Rattle.demands.specs.Promise.{RunsKeep}
 use Rattle.demands.proofs.Refusals.{change_refused, change_tells, change_writes, change_said, restore_tells, written_stays}
+use Rattle.store_types.specs.declared.PartyAnswer.TheVariants as heard
+use Rattle.std.specs.Prelude.{Result, Ok, Err}
+use Rattle.store_types.specs.Replies.{load_made, insert_made}
+use Rattle.store_types.specs.declared.PartyAnswer.{PartyAnswer}
 
 -- ONE CHANGE over words: its reply tells whether it was accepted and, with t moved before, the total u; and what is written
 record Replied (w : ℕ) (c : Change) (st : Store) (yes : Bool) (t u : ℕ) (ws us : List ℕ) : Type 0 where
@@ -45,9 +46,9 @@ record Replied (w : ℕ) (c : Change) (st : Store) (yes : Bool) (t u : ℕ) (ws 
 -- the total that a reply leaves, by its refusal
 change_total : (c : Change) (ws : List ℕ) (t : ℕ) → total_after (change_reply c ws) t ≡ cond (eqb (change_refused c ws) 0) (moved_by c (said ws) t) t
 unfolding total_after change_reply change_refused moved_by refusal load_reply insert_reply insert_sheet_reply mark_reply emptied_by total_after_insert
-change_total (load s r b cs) ws t = read_replied loading.Refused (λ q. emptied_by q t) (load_refusal (length ws) s r cs) _
-change_total (insert c y) ws t = read_replied inserting.Refused (λ q. total_after_insert q t) (insert_refused c y ws) _
-change_total (sheet cs y) ws t = read_replied inserting.Refused (λ q. total_after_insert q t) (insert_sheet_refused cs y ws) _
+change_total (load s r b cs) ws t = read_replied Err (λ q. emptied_by q t) (load_refusal (length ws) s r cs) _
+change_total (insert c y) ws t = read_replied Err (λ q. total_after_insert q t) (insert_refused c y ws) _
+change_total (sheet cs y) ws t = read_replied Err (λ q. total_after_insert q t) (insert_sheet_refused cs y ws) _
 change_total (mark x) ws t = sym (either_way (eqb (change_refused (mark x) ws) 0) t)
 
 change_replied : (c : Change) (ws : List ℕ) (st : Store) (t : ℕ) → Says ws st →
@@ -95,16 +96,16 @@ ran_on {w} {c} {st} {ts} l h one onward =
     }
 
 -- A PARTY'S CALL is the insertion that it replies, or leaves all; U is the total in the end by the total after the call
-act_on : {w : ℕ} {st : Store} {t : ℕ} {ts : List Told} {end : List ℕ} (p : ℕ) (a : Act) (ws us : List ℕ) (q : PartyReply) (U : ℕ → ℕ) → length ws ≡ w → Says ws st →
+act_on : {w : ℕ} {st : Store} {t : ℕ} {ts : List Told} {end : List ℕ} (p : ℕ) (a : Act) (ws us : List ℕ) (q : Result PartyAnswer ℕ) (U : ℕ → ℕ) → length ws ≡ w → Says ws st →
     Acted q a ws us → ((su : Store) (v : ℕ) → length us ≡ w → Says us su → Ran w su v ts (U v) end) →
     Ran w st t (told_of (acts p a) (acted q) ++ ts) (U (total_after (acted q) t)) end
 unfolding Acted told_of acted_in party_inserted total_after total_after_act total_after_insert change_reply change_words accepted numbers_of refusal_in insert_numbers head_d
-act_on {st} {t} p a ws us (acting.Inserted x m h) U l says (made, new) onward =
+act_on {st} {t} p a ws us (Ok (heard.Inserted i)) U l says (made, new) onward =
     let one = rw (← made) at (change_replied (insert a.kind a.tag.0) ws st t says) in
     ran_on l says one (λ m g. onward _ _ (rw new m) (rw new g))
-act_on {st} {t} p a ws us (acting.Refused k) U l says same onward = onward st t (rw same l) (rw same says)
-act_on {st} {t} p a ws us acting.Yes U l says same onward = onward st t (rw same l) (rw same says)
-act_on {st} {t} p a ws us acting.Stale U l says same onward = onward st t (rw same l) (rw same says)
+act_on {st} {t} p a ws us (Err k) U l says same onward = onward st t (rw same l) (rw same says)
+act_on {st} {t} p a ws us (Ok heard.Yes) U l says same onward = onward st t (rw same l) (rw same says)
+act_on {st} {t} p a ws us (Ok heard.Stale) U l says same onward = onward st t (rw same l) (rw same says)
 
 -- THE READING OF A FILE that is refused leaves the words and the total
 restore_stays : (bs ws : List ℕ) → eqb (refusal_in (load_numbers (read_reply bs ws))) 0 ≡ false → read_words bs ws ≡ ws
@@ -114,7 +115,7 @@ restore_stays bs ws e = written_stays (file_refusal (length ws) bs) _ ws (rw (re
 restore_total : (bs ws : List ℕ) (t : ℕ) → eqb (refusal_in (load_numbers (read_reply bs ws))) 0 ≡ false → emptied_by (read_reply bs ws) t ≡ t
 unfolding read_reply emptied_by
 restore_total bs ws t e =
-    read_replied loading.Refused (λ q. emptied_by q t) (file_refusal (length ws) bs) _ ∙ rw (rw (restore_tells bs ws) at e)
+    read_replied Err (λ q. emptied_by q t) (file_refusal (length ws) bs) _ ∙ rw (rw (restore_tells bs ws) at e)
 
 total_as : {w : ℕ} {st : Store} {t v : ℕ} {ts : List Told} {end : List ℕ} (U : ℕ → ℕ) → v ≡ t → Ran w st t ts (U t) end → Ran w st t ts (U v) end
 total_as U e run = rw e run
@@ -159,12 +160,12 @@ words_kept {ws} {st} h k =
     }
 
 -- the words after an accepted load, whatever they held before
-load_says : (s r b n h : ℕ) (ks old : List ℕ) → load_reply s r b ks old ≡ loading.Loaded n h →
+load_says : (s r b n h : ℕ) (ks old : List ℕ) → load_reply s r b ks old ≡ Ok (load_made n h) →
     (load_refusal (length old) s r ks ≡ 0) × Says (load_words s r b ks old) (load_store s r b ks) × (length (load_words s r b ks old) ≡ length old)
 unfolding LoadSound load_reply load_words written replied
 load_says s r b n h ks old reply =
     let k = load_refusal (length old) s r ks in
-    let passed = (replied_accepted loading.Refused k _ (loading.Loaded n h) (λ i q. let z : ◌≡◌ {A = ℕ} 0 1 = cc in omega arith) reply).0 in
+    let passed = (replied_answer k _ (load_made n h) reply).0 in
     let st = load_store s r b ks in
     let good = load_sound (length old) s r b ks passed in
     let front : load_words s r b ks old ≡ in_front (words_of st) old = rw passed in (

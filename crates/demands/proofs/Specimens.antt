@@ -2,6 +2,7 @@
 use mathlib.Core.Path.{◌≡◌, refl}
 use mathlib.Core.Bool.{true}
 use mathlib.Core.List.{head_d, flat_map}
+use Rattle.store_types.specs.Replies.{count_numbers}
 use Rattle.lists.specs.Lists.{those, first, same, how_many, numbers}
 use Rattle.lists.specs.Fronts.{starts_with, in_front, written, replied}
 use Rattle.store_types.specs.Layout.{records_at, words_for, field, label_at}
@@ -19,10 +20,10 @@ use Rattle.calls.specs.Mark.{within, mark_facts, mark_store, new_marks, mark_cou
 use Rattle.calls.specs.Held.{hold_pair, encloses, current, question_tests, question}
 use Rattle.calls.specs.Listing.{is_listed, listed_tags, listed_labels, inside_tests, list_refusal}
 use Rattle.calls.specs.Words.{header, tag_record, words_of, follow, read_fact, header_width, read_book, read_store, header_in_range, read_in_range, read}
-use Rattle.calls.specs.Replies.{on_store, refusal_over, store_or, said, load_reply, load_words, insert_refused, insert_reply, insert_words, mark_reply, mark_words, hold_reply, question_reply, list_refused, list_reply, list_tags, list_labels, load_numbers, insert_numbers, mark_numbers, hold_numbers, answer_number, question_numbers, list_numbers}
+use Rattle.calls.specs.Replies.{on_store, refusal_over, store_or, said, load_reply, load_words, insert_refused, insert_reply, insert_words, mark_reply, mark_words, hold_reply, question_reply, list_refused, list_reply, list_tags, list_labels, load_numbers, insert_numbers, hold_numbers, answer_number, question_numbers}
 use Rattle.calls.specs.Reference.{reference_load, reference_position, raised_by, reference_insert, reference_change, reference_told, reference_after}
 use Rattle.demands.specs.Specimens.{wide_book, labels_end_there, whole_words, all_refused, damage_refused, rest_stays, reference_rises, specimens_hold}
 
 pub specimens : specimens_hold ≡ true
-unfolding head_d numbers member place insert_at all_below leaves labels joined leaf_row parts spread put split_height within_limits label_of base power_width under_from load_under loaded root_full root_split put_inside inserted split_of inserted_row split_of_row moved_among root_within book_within front_below spelled_nodes spelled first same how_many code is_kind kind_of kind_word word_kind own_depth opens_after depth_after is_begin is_end next_in prior_in labels_fit nests closing new_facts fits opened nested depths_right degrees_fit tree_sound row_sound stamp_sound sound words_for all_kinds kinds_tests early_tests load_refusal load_store insert_kinds position up_at depth_at book_after insert_store insert_moved insert_split labels_end place_tests room_tests insert_refusal within mark_facts mark_store new_marks mark_count section_tests section_refusal hold_pair encloses current question_tests question is_listed those listed_tags listed_labels inside_tests list_refusal header tag_record flat_map words_of records_at field follow read_fact label_at header_width read_book read_store starts_with header_in_range read_in_range read in_front on_store refusal_over store_or said written replied load_reply load_words insert_refused insert_reply insert_words mark_reply mark_words hold_reply question_reply list_refused list_reply list_tags list_labels load_numbers insert_numbers mark_numbers hold_numbers answer_number question_numbers list_numbers raised wide_book labels_end_there whole_words all_refused damage_refused rest_stays reference_load reference_position raised_by reference_insert reference_change reference_told reference_after reference_rises specimens_hold
+unfolding head_d numbers member place insert_at all_below leaves labels joined leaf_row parts spread put split_height within_limits label_of base power_width under_from load_under loaded root_full root_split put_inside inserted split_of inserted_row split_of_row moved_among root_within book_within front_below spelled_nodes spelled first same how_many code is_kind kind_of kind_word word_kind own_depth opens_after depth_after is_begin is_end next_in prior_in labels_fit nests closing new_facts fits opened nested depths_right degrees_fit tree_sound row_sound stamp_sound sound words_for all_kinds kinds_tests early_tests load_refusal load_store insert_kinds position up_at depth_at book_after insert_store insert_moved insert_split labels_end place_tests room_tests insert_refusal within mark_facts mark_store new_marks mark_count section_tests section_refusal hold_pair encloses current question_tests question is_listed those listed_tags listed_labels inside_tests list_refusal header tag_record flat_map words_of records_at field follow read_fact label_at header_width read_book read_store starts_with header_in_range read_in_range read in_front on_store refusal_over store_or said written replied load_reply load_words insert_refused insert_reply insert_words mark_reply mark_words hold_reply question_reply list_refused list_reply list_tags list_labels load_numbers insert_numbers count_numbers hold_numbers answer_number question_numbers raised wide_book labels_end_there whole_words all_refused damage_refused rest_stays reference_load reference_position raised_by reference_insert reference_change reference_told reference_after reference_rises specimens_hold
 specimens = refl

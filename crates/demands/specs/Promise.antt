@@ -1,13 +1,7 @@
 -- The demands over any words, and what the words hold. Each statement is a type, proved in proofs/. Assumes nothing.
-use Rattle.std.specs.Prelude.{◌≡◌, Bool, true, false, List, [], ◌∷◌, map, ◌↔◌, ◌⊎◌, ℕ, ◌%◌, ◌≤◌, ◌<◌, length}
+use Rattle.std.specs.Prelude.{◌≡◌, Bool, true, false, List, [], ◌∷◌, map, ◌↔◌, ◌⊎◌, ℕ, ◌%◌, ◌≤◌, ◌<◌, length, Ok}
 use Rattle.store_types.specs.declared.HeldPair.{HeldPair}
 use Rattle.store_types.specs.declared.Answer.TheVariants.{Yes, No, Stale}
-use Rattle.store_types.specs.declared.LoadReply.TheVariants.{Loaded}
-use Rattle.store_types.specs.declared.InsertReply.TheVariants.{Inserted}
-use Rattle.store_types.specs.declared.MarkReply.TheVariants.{Marked}
-use Rattle.store_types.specs.declared.HoldReply.TheVariants as hold_said
-use Rattle.store_types.specs.declared.QuestionReply.TheVariants as question_said
-use Rattle.store_types.specs.declared.ListReply.TheVariants as list_said
 use Rattle.store_types.specs.Layout.{at_count, at_book, header_words, at_mate, at_kind, at_depth, word_at, field, label_at}
 use Rattle.calls.specs.Store.{Store}
 use Rattle.calls.specs.Sound.{sound}
@@ -25,6 +19,7 @@ use Rattle.system.specs.Histories.{afterwards, replies}
 use Rattle.system.specs.Feed.{acted_in, told, total_moved, NoneRestored}
 use Rattle.demands.specs.Sound.{SoundWords}
 use Rattle.demands.specs.Words.{BookRow, Stand, is_marked, unmarked_of, Inside, Fronted, unmarked_changed, became_marked}
+use Rattle.store_types.specs.Replies.{load_made, insert_made}
 
 -- DEMAND 1, of any system and every call on it. Whether a call is one that writes words of the store; a party's is where it inserts
 unfoldable pub writes_words : Call → Reply → Bool
@@ -78,15 +73,15 @@ EveryReading = (bs ws : List ℕ) → ReadRight bs ws
 -- MOVED AND MARKED are differences between the words before and after
 unfoldable pub MovedRight : Type 0
 MovedRight =
-    (c y x m h : ℕ) (ws : List ℕ) → insert_reply c y ws ≡ Inserted (record { 0 = x }) m h → m ≡ unmarked_changed ws (insert_words c y ws)
+    (c y x m h : ℕ) (ws : List ℕ) → insert_reply c y ws ≡ Ok (insert_made (record { 0 = x }) m h) → m ≡ unmarked_changed ws (insert_words c y ws)
 
 -- of a sheet (document 02, CR 5): between the words before and after the whole call
 unfoldable pub SheetMovedRight : Type 0
 SheetMovedRight =
-    (cs : List ℕ) (y x m h : ℕ) (ws : List ℕ) → insert_sheet_reply cs y ws ≡ Inserted (record { 0 = x }) m h → m ≡ unmarked_changed ws (insert_sheet_words cs y ws)
+    (cs : List ℕ) (y x m h : ℕ) (ws : List ℕ) → insert_sheet_reply cs y ws ≡ Ok (insert_made (record { 0 = x }) m h) → m ≡ unmarked_changed ws (insert_sheet_words cs y ws)
 
 unfoldable pub MarkedRight : Type 0
-MarkedRight = (x n : ℕ) (ws : List ℕ) → mark_reply x ws ≡ Marked n → n ≡ became_marked ws (mark_words x ws)
+MarkedRight = (x n : ℕ) (ws : List ℕ) → mark_reply x ws ≡ Ok n → n ≡ became_marked ws (mark_words x ws)
 
 -- DEPTHS over words (document 02, CR 7). Whether a call puts another book in place
 unfoldable pub loads_book : Call → Bool
@@ -110,9 +105,9 @@ DepthsStay =
 -- the depth word of an insertion's first tag is the depth at its place; of a sheet's too, where it has one
 pub record NewDepths : Type 0 where
   pub of_one :
-      (c y x m h : ℕ) (ws : List ℕ) → insert_reply c y ws ≡ Inserted (record { 0 = x }) m h → field (insert_words c y ws) x at_depth ≡ depth_at y (said ws)
+      (c y x m h : ℕ) (ws : List ℕ) → insert_reply c y ws ≡ Ok (insert_made (record { 0 = x }) m h) → field (insert_words c y ws) x at_depth ≡ depth_at y (said ws)
   pub of_sheet :
-      (cs : List ℕ) (y x m h : ℕ) (ws : List ℕ) → 1 ≤ length cs → insert_sheet_reply cs y ws ≡ Inserted (record { 0 = x }) m h →
+      (cs : List ℕ) (y x m h : ℕ) (ws : List ℕ) → 1 ≤ length cs → insert_sheet_reply cs y ws ≡ Ok (insert_made (record { 0 = x }) m h) →
       field (insert_sheet_words cs y ws) x at_depth ≡ depth_at y (said ws)
 
 -- DEMAND 3, of every list of calls after an accepted load in which no file read is accepted, over the words and the replies: exactly
@@ -126,7 +121,7 @@ pub record WholeRun (lent : ℕ) (st : Store) (a : Reference) (cs : List Call) (
 -- whatever grants and count stand beside the words, and whatever the words held before the load
 unfoldable pub RunsKeep : Type 0
 RunsKeep =
-    (s r b n h : ℕ) (ks old : List ℕ) (cs : List Call) (y : System) → load_reply s r b ks old ≡ Loaded n h → y.words ≡ load_words s r b ks old →
+    (s r b n h : ℕ) (ks old : List ℕ) (cs : List Call) (y : System) → load_reply s r b ks old ≡ Ok (load_made n h) → y.words ≡ load_words s r b ks old →
     NoneRestored cs y → WholeRun (length old) (load_store s r b ks) (reference_load s r (length ks)) cs y
 
 -- along next, until no tag, and along prior; and N = n0 + m is word 4
@@ -136,7 +131,7 @@ pub record RowKept (ws : List ℕ) (a : Reference) : Type 0 where
 
 unfoldable pub RunsAlong : Type 0
 RunsAlong =
-    (s r b n h : ℕ) (ks old : List ℕ) (cs : List Call) (y : System) → load_reply s r b ks old ≡ Loaded n h → y.words ≡ load_words s r b ks old →
+    (s r b n h : ℕ) (ks old : List ℕ) (cs : List Call) (y : System) → load_reply s r b ks old ≡ Ok (load_made n h) → y.words ≡ load_words s r b ks old →
     NoneRestored cs y → RowKept (afterwards step cs y).words (reference_after (told cs y) (reference_load s r (length ks)))
 
 -- DEMAND 2, of the entries' replies on any words. Words that say a store
@@ -170,10 +165,10 @@ pub record YesOrNoWords (p : HeldPair) (d : ℕ) (ws : List ℕ) (enclosure : Ty
   pub tells : enclosure
 
 pub record ReplyRight (p : HeldPair) (d : ℕ) (ws : List ℕ) : Type 0 where
-  pub if_yes : (question_reply p d ws ≡ question_said.Answered Yes) ↔ YesOrNoWords p d ws (Enclosed p d ws)
-  pub if_no : (question_reply p d ws ≡ question_said.Answered No) ↔ YesOrNoWords p d ws (Enclosed p d ws → ⊥)
+  pub if_yes : (question_reply p d ws ≡ Ok Yes) ↔ YesOrNoWords p d ws (Enclosed p d ws)
+  pub if_no : (question_reply p d ws ≡ Ok No) ↔ YesOrNoWords p d ws (Enclosed p d ws → ⊥)
   pub if_stale :
-      (question_reply p d ws ≡ question_said.Answered Stale)
+      (question_reply p d ws ≡ Ok Stale)
       ↔ (SaysSome ws × ((p.book ≡ word_at ws at_book → ⊥) ⊎ ((p.book ≡ word_at ws at_book) × AskedWords p d ws × (CurrentWords p ws → ⊥))))
 
 unfoldable pub QuestionRight : Type 0
@@ -187,7 +182,7 @@ pub record HeldWords (p : HeldPair) (x : ℕ) (ws : List ℕ) : Type 0 where
   pub end : p.end.0 ≡ label_at ws (field ws x at_mate)
 
 unfoldable pub HoldRight : Type 0
-HoldRight = (x : ℕ) (p : HeldPair) (ws : List ℕ) → hold_reply x ws ≡ hold_said.Held p → HeldWords p x ws
+HoldRight = (x : ℕ) (p : HeldPair) (ws : List ℕ) → hold_reply x ws ≡ Ok p → HeldWords p x ws
 
 -- LIST: in front of the two lists stand exactly the unmarked tags that next meets inside the section, in order, and their
 -- label words
@@ -199,7 +194,7 @@ pub record ListedWords (x n : ℕ) (ws ts ls : List ℕ) : Type 0 where
   pub labels : Fronted (map (label_at ws) (unmarked_of ws inside)) ls (list_labels x ws ts ls)
 
 unfoldable pub ListRight : Type 0
-ListRight = (x n : ℕ) (ws ts ls : List ℕ) → list_reply x ws ts ls ≡ list_said.Listed n → ListedWords x n ws ts ls
+ListRight = (x n : ℕ) (ws ts ls : List ℕ) → list_reply x ws ts ls ≡ Ok n → ListedWords x n ws ts ls
 
 -- SOUNDNESS as document 01 writes it is that of a store: words are sound if and only if they say one. So 2 is refused
 -- exactly where document 01's sentences fail.

@@ -1,6 +1,7 @@
 -- Specimens beside those of calls/specs/Specimens.antt: labels that do not suffice (7), damaged words (2), lists longer than
 -- what is listed, and the reference list beside a history in which H rises. proofs/Specimens.antt shows them to hold.
 -- Expected values are worked out by hand from document 01. Assumes nothing: these are definitions.
+use Rattle.store_types.specs.Replies.{count_numbers}
 use Rattle.std.specs.Prelude.{Bool, true, false, ◌&&◌, List, [], ◌∷◌, ℕ, ◌-◌, ◌+◌, ◌*◌, eqb, set, replicate}
 use Rattle.store_types.specs.Limits.{no_tag}
 use Rattle.lists.specs.Lists.{same, numbers}
@@ -12,7 +13,7 @@ use Rattle.calls.specs.Nesting.{new_facts}
 use Rattle.calls.specs.Sound.{tree_sound}
 use Rattle.calls.specs.Insert.{insert_refusal}
 use Rattle.calls.specs.Words.{follow}
-use Rattle.calls.specs.Replies.{load_words, insert_words, mark_reply, mark_words, mark_numbers, list_tags, list_labels}
+use Rattle.calls.specs.Replies.{load_words, insert_words, mark_reply, mark_words, list_tags, list_labels}
 use Rattle.calls.specs.Changes.{insert, mark, Told}
 use Rattle.calls.specs.Reference.{reference_load, reference_after}
 
@@ -65,11 +66,11 @@ damages =
 
 unfoldable pub all_refused : List Damage → Bool
 all_refused [] = true
-all_refused (d ∷ ds) = same (mark_numbers (mark_reply 0 (set whole_words d.place d.value))) (2 ∷ []) && all_refused ds
+all_refused (d ∷ ds) = same (count_numbers (mark_reply 0 (set whole_words d.place d.value))) (2 ∷ []) && all_refused ds
 
 -- while the whole words are accepted
 unfoldable pub damage_refused : Bool
-damage_refused = same (mark_numbers (mark_reply 0 whole_words)) (0 ∷ 6 ∷ []) && all_refused damages
+damage_refused = same (count_numbers (mark_reply 0 whole_words)) (0 ∷ 6 ∷ []) && all_refused damages
 
 -- LONGER LISTS: three texts are listed, and the rest of both lists stays
 unfoldable pub rest_stays : Bool

@@ -23,8 +23,10 @@ use Rattle.walk_model.specs.Walk.{kind_fits, depth_fits, depth_after as word_aft
 use Rattle.walk_model.proofs.Found.{word_back}
 use Rattle.walk_model.proofs.Depths.{own_test, depth_by}
 use Rattle.walk_tags.proofs.TagLaws.{kind_fitting}
-use Rattle.powers.specs.Tables.{table_length}
 use Rattle.shape.specs.Packed.{widths_in, lows_in, highs_in}
+use Rattle.shape.specs.declared.Tables as by_height
+use Rattle.walk_levels.specs.declared.Levels as kept
+use Rattle.walk_levels.specs.Needs.{first_levels}
 use Rattle.walk.specs.Needs.{Standing, Behind, shape_with, shape_in, first_state, state_with, ends_from}
 use Rattle.walk.proofs.PassLaws.{walk_at, walk_whole, walk_start, standing_start}
 use Rattle.walk.specs.declared.State as code
@@ -34,7 +36,11 @@ use Rattle.file_model.specs.Judge.{row_word, met_before, opens_before, in_order}
 use Rattle.file_model.proofs.Rows.{length_header_in, fresh_field, fresh_label, fresh_depth}
 use Rattle.file_model.proofs.RowKinds.{word_tests, opens_few}
 use Rattle.file_tags.specs.Needs.{number_at, RowRead, number_passes}
-use Rattle.file_pass.specs.Needs.{Opened, order_left, MetSoFar, FileFits, too_deep, JudgedSo}
+use Rattle.file_pass.specs.Needs.{Opened, order_left, MetSoFar, FileFits, judgement, JudgedSo}
+use Rattle.file_pass.specs.declared.Fault.{Fault}
+use Rattle.file_pass.specs.declared.Fault.TheVariants.{TooDeep, Unsound}
+use Rattle.std.specs.declared.result.Result.{Result}
+use Rattle.std.specs.Prelude.{Err}
 use Rattle.file_pass.proofs.OpenLaws.{end_deep, opened_more, too_many_open}
 
 -- THE ORDER: a is whether the row's number passes
@@ -162,16 +168,16 @@ order_end bs i x all inv = rw (drop_of_length-le (rows_in bs) {i = i} (omega (ar
 
 -- THE JUDGEMENT of both tests, from either
 module _ (order walk : Bool) (room n : ℕ) where
-  pub out_of_order : false ≡ order → JudgedSo 2 (order && walk) room n
+  pub out_of_order : false ≡ order → JudgedSo (Err Unsound) (order && walk) room n
   out_of_order e = inl (rw (← e))
 
-  pub not_passed : false ≡ walk → JudgedSo 2 (order && walk) room n
+  pub not_passed : false ≡ walk → JudgedSo (Err Unsound) (order && walk) room n
   not_passed e = inl (rw (← e, and-false order))
 
-  pub deep_judged : {depth i : ℕ} → room ≤ depth → depth ≤ i → depth ≤ n - i → JudgedSo too_deep (order && walk) room n
+  pub deep_judged : {depth i : ℕ} → room ≤ depth → depth ≤ i → depth ≤ n - i → JudgedSo (Err TooDeep) (order && walk) room n
   deep_judged a b c = inr (refl, omega arith)
 
-  pub last_judged : {a : Bool} → true ≡ order → a ≡ walk → {q : ℕ} → q ≡ cond a 0 2 → JudgedSo q (order && walk) room n
+  pub last_judged : {a : Bool} → true ≡ order → a ≡ walk → {q : Result (Unit {0}) Fault} → q ≡ judgement a → JudgedSo q (order && walk) room n
   last_judged o w e = inl (rw (← o, ← w) e)
 
 -- THE HEADER of the words that a file says is the file's
@@ -179,61 +185,59 @@ pub header_said : (bs : List ℕ) (k : ℕ) → k < header_words → word_at (fi
 unfolding file_words
 header_said bs k l = get_or-append (header_in bs) _ 0 k (omega (arith, length_header_in bs))
 
-module _ {bs header tables : List ℕ} {n u : ℕ} (fits : FileFits bs header n u tables) where
+module _ {bs header : List ℕ} {tables : by_height.Tables} {n u : ℕ} (fits : FileFits bs header n u tables) where
   pub header_there : header_words ≤ length header
   header_there = rw fits.header_is (omega (arith, length_header_in bs))
 
   pub few_tags : count_in bs ≤ most_tags
   few_tags = omega (arith, fits.counted, fits.walk_fits.records.few)
 
+  -- a place of a row, and a number below what the file says
+  pub row_below : {i : ℕ} → i < n → i < count_in bs
+  row_below l = omega (arith, fits.counted)
+
+  pub tag_below : {x : ℕ} → x < count_in bs → x < n
+  tag_below l = omega (arith, fits.counted)
+
   -- so the walk begins at its first tag
-  pub pass_start : {w : List ℕ} {v : code.State} {first p : ℕ} (opens : List ℕ) → w ≡ widths_in tables → first ≡ word_at header at_first → p ≡ offset_of first → v ≡ first_state first p →
-      (v.place ≤ n) × Standing (file_words bs) n w v
-      × (walk_at (file_words bs) tables n u v w (replicate table_length 0) ≡ walk_whole (file_words bs) tables n u)
+  pub pass_start : {lv : kept.Levels} {v : code.State} {first p : ℕ} (opens : List ℕ) → lv ≡ first_levels (widths_in tables) → first ≡ word_at header at_first → p ≡ offset_of first → v ≡ first_state first p →
+      (v.place ≤ n) × Standing (file_words bs) n lv v
+      × (walk_at (file_words bs) tables n u v lv ≡ walk_whole (file_words bs) tables n u)
       × (order_left bs v.place v.tag.0 ≡ order_left bs 0 (word_at (header_in bs) at_first))
       × MetSoFar bs v (replicate {A = ℕ} set_words 0) opens
-  pass_start {w} {v} {first} {p} opens of_w of_first there e =
+  pass_start {lv} {v} {first} {p} opens begun of_first there e =
       let x = word_at (file_words bs) at_first in
       let is_first : first ≡ x = of_first ∙ ap (λ (ws : List ℕ). word_at ws at_first) fits.header_is ∙ sym (header_said bs at_first (omega arith)) in
       let here : v ≡ first_state x p = e ∙ ap (λ (y : ℕ). first_state y p) is_first in
       rw here (
         omega arith,
-        standing_start (file_words bs) tables n u fits.walk_fits of_w (rw is_first at there),
-        walk_start (file_words bs) tables n u p of_w,
+        standing_start (file_words bs) tables n u fits.walk_fits begun (rw is_first at there),
+        walk_start (file_words bs) tables n u p begun,
         ap (order_left bs 0) (header_said bs at_first (omega arith)),
         so_far_start bs opens (first_state x p) refl refl refl,
       )
 
   -- more begins are open than rows are left
-  pub deep_fails : {met opens : List ℕ} {whole : Bool} (v : code.State) (ends firsts : List ℕ) → MetSoFar bs v met opens →
-      walk_at (file_words bs) tables n u v ends firsts ≡ whole → n - v.place < v.depth → false ≡ whole
+  pub deep_fails : {met opens : List ℕ} {whole : Bool} (v : code.State) (lv : kept.Levels) → MetSoFar bs v met opens →
+      walk_at (file_words bs) tables n u v lv ≡ whole → n - v.place < v.depth → false ≡ whole
   unfolding state_with shape_with
-  deep_fails {met} {opens} v ends firsts so_far inv deep =
-      sym (too_many_open bs v.place opens v.depth (shape_in tables u n) (n - v.place) (state_with (file_words bs) v ends firsts) fits.counted few_tags so_far.reads so_far.opened deep) ∙ inv
+  deep_fails {met} {opens} v lv so_far inv deep =
+      sym (too_many_open bs v.place opens v.depth (shape_in tables u n) (n - v.place) (state_with (file_words bs) v lv) fits.counted few_tags so_far.reads so_far.opened deep) ∙ inv
 
   -- its end is that of the walk: only the stamp is read
-  pub ends_said : (firsts : List ℕ) (x o m : ℕ) {t : Bool} → t ≡ ends_from header n u (lows_in tables) (highs_in tables) firsts x o m →
-      t ≡ ends_from (file_words bs) n u (lows_in tables) (highs_in tables) firsts x o m
+  pub ends_said : (lv : kept.Levels) (x o m : ℕ) {t : Bool} → t ≡ ends_from header n u (lows_in tables) (highs_in tables) lv x o m →
+      t ≡ ends_from (file_words bs) n u (lows_in tables) (highs_in tables) lv x o m
   unfolding ends_from
-  ends_said firsts x o m e = rw (header_said bs at_stamp (omega arith), ← fits.header_is) e
+  ends_said lv x o m e = rw (header_said bs at_stamp (omega arith), ← fits.header_is) e
 
 -- WITH ALL PLACES that can be needed none is too few
-pub most_judged : {q n : ℕ} (whole : Bool) (room : ℕ) → JudgedSo q whole room n → n ≤ most_tags → most_tags < 2 * room → q ≡ cond whole 0 2
+pub most_judged : {q : Result (Unit {0}) Fault} {n : ℕ} (whole : Bool) (room : ℕ) → JudgedSo q whole room n → n ≤ most_tags → most_tags < 2 * room → q ≡ judgement whole
 most_judged whole room (inl e) few many = e
 most_judged whole room (inr (deep, half)) few many = absurd (omega arith)
 
-pub never_deep : {q n : ℕ} (whole : Bool) (room : ℕ) → JudgedSo q whole room n → n ≤ most_tags → most_tags < 2 * room → q ≡ too_deep → ⊥
+pub never_deep : {q : Result (Unit {0}) Fault} {n : ℕ} (whole : Bool) (room : ℕ) → JudgedSo q whole room n → n ≤ most_tags → most_tags < 2 * room → q ≡ Err TooDeep → ⊥
 never_deep {q} whole room told few many deep = go whole (most_judged whole room told few many)
   where
-    go : (b : Bool) → q ≡ cond b 0 2 → ⊥
-    go true e = omega arith
-    go false e = omega arith
-
--- and what a judgement that is not too deep says
-pub told_judged : {q : ℕ} (whole : Bool) → q ≡ cond whole 0 2 → eqb q 0 ≡ whole
-told_judged true e = rw e
-told_judged false e = rw e
-
-pub few_judged : {q n : ℕ} (whole : Bool) (room : ℕ) → JudgedSo q whole room n → (q ≡ too_deep → ⊥) → eqb q 0 ≡ whole
-few_judged whole room (inr (deep, half)) shallow = absurd (shallow deep)
-few_judged whole room (inl e) shallow = told_judged whole e
+    go : (b : Bool) → q ≡ judgement b → ⊥
+    go true e = cc deep
+    go false e = cc deep

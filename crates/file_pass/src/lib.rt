@@ -4,21 +4,22 @@
 #![tactic(auto)]
 
 ghost use Rattle.std.specs.Prelude.{◌≡◌, cond, ◌-◌, ◌≤◌, eqb, length, get_or};
-ghost use Rattle.file_pass.specs.Needs.{JudgingFits, passes_all, JudgedSo};
+ghost use Rattle.file_pass.specs.Needs.{FileFits, passes_all, JudgedSo};
 
 use number_set::SET_WORDS;
-use shape::{PACKED_LENGTH, TABLE_LENGTH};
+use shape::{TABLE_LENGTH, Tables};
 use store_types::{Label, file};
 use walk::Extent;
+use walk_levels::Levels;
 use words::Offset;
 
-// What a pass says of a file: that its book is sound; that more begins are open than there are places, which settles
-// nothing; or that it is not sound, by the number of its refusal.
-pub const SOUND: u32 = 0;
-
-pub const TOO_DEEP: u32 = 1;
-
-pub const UNSOUND: u32 = 2;
+// Why a pass does not say that the book of a file is sound: more begins are open than there are places, which settles nothing; or it
+// is not sound.
+#[derive(Clone, Copy, Debug, PartialEq, Eq)]
+pub enum Fault {
+    TooDeep,
+    Unsound,
+}
 
 // Where the innermost open begin stands; of no account where none is open.
 fn top_of(opens: &[u32], depth: usize) -> u32
@@ -37,44 +38,42 @@ pub fn pass(
     bytes: &[u8],
     header: &[u32],
     size: Extent,
-    widths: [u64; TABLE_LENGTH],
-    tables: &[u64; PACKED_LENGTH],
+    tables: &Tables,
     opens: &mut [u32],
-) -> u32
-    requires { JudgingFits bytes.now header.now size.n size.under widths tables.now }
+) -> Result<(), Fault>
+    requires { FileFits bytes.now header.now size.n size.under tables.now }
     ensures { JudgedSo result (passes_all bytes.now tables.now size.under size.n) (length opens.old) size.n }
 {
     let pairs = walk_tags::pairs();
     let mut met = [0u32; SET_WORDS];
-    let mut ends = widths;
-    let mut firsts = [0u32; TABLE_LENGTH];
+    let mut levels = Levels::new(&tables.widths);
     let mut sizes = [0u32; TABLE_LENGTH];
     let first = words::first_of(header);
     let mut v = walk::started(first, Offset::of(first));
     while v.place < size.n {
         if ((size.n - v.place) as u64) < v.depth {
-            return UNSOUND;
+            return Err(Fault::Unsound);
         }
         if opens.len() <= v.depth as usize {
-            return TOO_DEEP;
+            return Err(Fault::TooDeep);
         }
         if !file_tags::number_fits(bytes, size.n, v, &mut met) {
-            return UNSOUND;
+            return Err(Fault::Unsound);
         }
         let label = Label(file_form::row_word(bytes, v.place, file::AT_LABEL));
-        if !file_tags::label_fits(label, size, v, tables, &mut ends, &mut firsts, &mut sizes) {
-            return UNSOUND;
+        if !file_tags::label_fits(label, size, v, tables, &mut levels, &mut sizes) {
+            return Err(Fault::Unsound);
         }
         if !file_tags::tag_fits(&pairs, bytes, size.n, v, top_of(opens, v.depth as usize)) {
-            return UNSOUND;
+            return Err(Fault::Unsound);
         }
         // Before the place is written, so that what has been read of the row need not be read again.
-        let behind = file_tags::passed(bytes, ends[1], v);
+        let behind = file_tags::passed(bytes, levels.ends[1], v);
         file_tags::opened(opens, v);
         v = behind;
     }
-    if walk::ends_well(header, size, v, tables, &ends, &firsts, &mut sizes) {
-        return SOUND;
+    if walk::ends_well(header, size, v, tables, &levels, &mut sizes) {
+        return Ok(());
     }
-    UNSOUND
+    Err(Fault::Unsound)
 }

@@ -1,5 +1,5 @@
--- Writing a read book: words put in front of others, the words of a row, and rows one after the other. At each turn of a loop,
--- what is left to write comes to the whole. Assumes nothing.
+-- Writing a read book: the words of a row, and rows one after the other. At each turn of the loop what is left to write comes to the
+-- whole. Assumes nothing.
 use mathlib.Core.Path.{◌≡◌, refl, ap, sym, ◌∙◌}
 use mathlib.Core.Bool.{Bool, true, false, cond}
 use mathlib.Core.List.{List, [], ◌∷◌, ◌++◌}
@@ -7,12 +7,10 @@ use Prim.Native.Nat.{ℕ, suc, ◌+◌, ◌-◌, ◌%◌, ◌≤◌, ◌<◌}
 use native.Mathlib.Numerals.{add-one}
 use native.Mathlib.Omega.{arith}
 use lib.Dec.{eqb}
-use lib.ListN.{length, get_or, set, drop, length-set}
-use lib.Seq.{drop-cons, drop-length, sets}
+use lib.ListN.{length, get_or, drop}
+use lib.Seq.{drop-cons, drop-length}
 use Rattle.store_types.specs.Layout.{at_next, at_prior, at_mate, at_up, at_kind, at_depth, with_field, with_label, Room}
 use Rattle.store_types.specs.FileLayout.{row_words, at_number, at_label}
-use Rattle.lists.specs.Fronts.{in_front}
-use Rattle.lists.proofs.Fronts.{sets_front}
 use Rattle.words.proofs.Fields.{room_same}
 use Rattle.calls.specs.Kind.{own_depth, opens_after, depth_after}
 use Rattle.calls.specs.File.{rows_in, row_kind, row_number, deepened}
@@ -24,29 +22,6 @@ use Rattle.file_model.proofs.Rows.{length_row, word_before, depth_last}
 use Rattle.file_model.proofs.RowKinds.{word_tests, opens_few}
 use Rattle.file_model.proofs.Written.{length_with_row}
 use Rattle.file_read.specs.Needs.{RowsFit}
-
--- THE HEADER, from its k-th word on
-pub record Fronting (ws₀ new ws : List ℕ) (k : ℕ) : Type 0 where
-  pub among : k ≤ length new
-  pub long : length ws ≡ length ws₀
-  pub rest : sets ws k (drop k new) ≡ sets ws₀ 0 new
-
-pub fronting_first : (ws new : List ℕ) → Fronting ws new ws 0
-fronting_first ws new = record { among = omega arith; long = refl; rest = refl }
-
-module _ {ws₀ new ws : List ℕ} {k : ℕ} (h : Fronting ws₀ new ws k) where
-  pub fronting_turn : k < length new → Fronting ws₀ new (set ws k (get_or new k 0)) (k + 1)
-  fronting_turn l =
-      record {
-        among = omega arith;
-        long = length-set ws k (get_or new k 0) ∙ h.long;
-        rest = rw add-one (rw (drop-cons new k 0 l) at h.rest);
-      }
-
-  pub fronting_end : length new ≤ k → length new ≤ length ws₀ → ws ≡ in_front new ws₀
-  fronting_end l room =
-      let all : k ≡ length new = omega (arith, h.among) in
-      (rw (all, drop-length new) at h.rest) ∙ sets_front new ws₀ room
 
 -- A ROW, of which each word is read, then written
 pub room_of : {ws : List ℕ} {x y : ℕ} → Room ws y → x ≡ y → Room ws x

@@ -14,7 +14,6 @@ use Rattle.lists.proofs.Fronts.{length_in_front}
 use Rattle.lists.proofs.Replied.{replied_refused}
 use Rattle.store_types.specs.Layout.{at_height, at_count, at_first, header_words, word_at, words_for}
 use Rattle.store_types.specs.FileLayout.{at_number}
-use Rattle.store_types.specs.declared.LoadReply.TheVariants as load
 use Rattle.words.proofs.Fields.{header_fits, record_room}
 use Rattle.calls.specs.Store.{Store, count}
 use Rattle.calls.specs.Words.{header}
@@ -27,14 +26,16 @@ use Rattle.file_model.proofs.RowKinds.{KindRow, kind_row}
 use Rattle.file_model.proofs.Judged.{ordered, FileHolds, file_holds, judged_some, judged_refusal}
 use Rattle.file_model.proofs.Written.{rows_written}
 use Rattle.file_read.specs.Needs.{RowsFit}
+use Rattle.std.specs.Prelude.{Ok, Err}
+use Rattle.store_types.specs.Replies.{load_made}
 
 -- REFUSED: the reply is the refusal, and the words are as they were
 abbrev pub RefusedWith : (bytes words : List ℕ) → (refusal : ℕ) → Type 0
-RefusedWith bs ws q = (load.Refused q ≡ read_reply bs ws) × (ws ≡ read_words bs ws)
+RefusedWith bs ws q = (Err q ≡ read_reply bs ws) × (ws ≡ read_words bs ws)
 
 refused_with : (bs ws : List ℕ) (q : ℕ) → file_refusal (length ws) bs ≡ q → (q ≡ 0 → ⊥) → RefusedWith bs ws q
 unfolding read_reply read_words written
-refused_with bs ws q e nonzero = rw e (replied_refused load.Refused q _ nonzero, replied_refused (λ _. ws) q _ nonzero)
+refused_with bs ws q e nonzero = rw e (replied_refused Err q _ nonzero, replied_refused (λ _. ws) q _ nonzero)
 
 module _ (bs ws : List ℕ) where
   pub not_formed : formed bs ≡ false → RefusedWith bs ws 15
@@ -85,7 +86,7 @@ module _ {bs ws : List ℕ} (p : Passed bs ws) where
   unfolding count_in header
   counted = ap (λ (vs : List ℕ). word_at vs at_count) holds.header_is
 
-  pub accepted_reply : {n h : ℕ} → n ≡ count_in bs → h ≡ word_at (header_in bs) at_height → load.Loaded n h ≡ read_reply bs ws
+  pub accepted_reply : {n h : ℕ} → n ≡ count_in bs → h ≡ word_at (header_in bs) at_height → Ok (load_made n h) ≡ read_reply bs ws
   unfolding read_reply replied store_or header
   accepted_reply count_is height_is = rw (count_is, height_is, accepted, is_read, counted, holds.header_is)
 

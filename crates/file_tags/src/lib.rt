@@ -9,7 +9,7 @@ ghost use Rattle.store_types.specs.FileLayout.{file_bytes};
 ghost use Rattle.calls.specs.File.{count_in, rows_in, file_words};
 ghost use Rattle.kind_pick.specs.Needs.{KindWord};
 ghost use Rattle.walk_model.specs.Walk.{kind_fits, depth_fits, placed};
-ghost use Rattle.walk_tags.specs.Needs.{Open, pair_table, links_fit as links-so, fits_at};
+ghost use Rattle.walk_tags.specs.Needs.{Open, pair_table, links_fit as links_so, fits_at};
 ghost use Rattle.walk_levels.specs.Needs.{TablesFit, levels_of};
 ghost use Rattle.walk.specs.Needs.{Standing, Behind, label_passes, shape_in, state_with};
 ghost use Rattle.number_set.specs.Bits.{Holds};
@@ -18,9 +18,10 @@ ghost use Rattle.file_model.specs.Judge.{met_before};
 ghost use Rattle.file_tags.specs.Needs.{number_at, RowRead, TagRow, number_passes};
 
 use number_set::SET_WORDS;
-use shape::{PACKED_LENGTH, TABLE_LENGTH};
+use shape::{TABLE_LENGTH, Tables};
 use store_types::{Label, TagId, file};
 use walk::{Extent, State};
+use walk_levels::Levels;
 use words::Offset;
 
 // The row's number is that of the tag that is due, one of n, and not met before; then it is met.
@@ -48,18 +49,17 @@ pub fn label_fits(
     label: Label,
     size: Extent,
     v: State,
-    tables: &[u64; PACKED_LENGTH],
-    ends: &mut [u64; TABLE_LENGTH],
-    firsts: &mut [u32; TABLE_LENGTH],
+    tables: &Tables,
+    levels: &mut Levels,
     sizes: &mut [u32; TABLE_LENGTH],
 ) -> bool
     requires { TablesFit size.under tables.now × (v.tag.0 < size.n) }
-    ensures { (ws : List ℕ) → label.0 ≡ label_at ws v.tag.0 → Standing ws size.n ends.old v → (result ≡ label_passes ws (shape_in tables.now size.under size.n) v.place (state_with ws v ends.old firsts.old)) × (result ≡ true → levels_of ends.new firsts.new ≡ (placed ws (shape_in tables.now size.under size.n) v.place (state_with ws v ends.old firsts.old)).levels) }
+    ensures { (ws : List ℕ) → label.0 ≡ label_at ws v.tag.0 → Standing ws size.n levels.old v → (result ≡ label_passes ws (shape_in tables.now size.under size.n) v.place (state_with ws v levels.old)) × (result ≡ true → levels_of levels.new ≡ (placed ws (shape_in tables.now size.under size.n) v.place (state_with ws v levels.old)).levels) }
 {
     if label.0 as u64 == v.expect {
         return true;
     }
-    walk_levels::settle(label, v.place, size.under, tables, ends, firsts, sizes)
+    levels.settle(label, v.place, size.under, tables, sizes)
 }
 
 // The row that is looked at beside a tag's own: that of the open begin, which stands at `top`, or its own where none is open.
@@ -72,7 +72,7 @@ fn beside(n: u32, place: u32, parent: TagId, top: u32) -> u32
 // As walk_tags::links_fit, with rows in place of records.
 fn links_fit(bytes: &[u8], v: State, q: u32, kind: u32) -> bool
     requires { (length bytes.now ≡ file_bytes (count_in bytes.now)) × (v.tag.0 ≡ number_at bytes.now v.place) × RowRead bytes.now v.place × RowRead bytes.now q × KindWord kind }
-    ensures { result ≡ links-so (file_words bytes.now) v.prior.0 v.parent.0 v.tag.0 (number_at bytes.now q) kind }
+    ensures { result ≡ links_so (file_words bytes.now) v.prior.0 v.parent.0 v.tag.0 (number_at bytes.now q) kind }
 {
     let up = file_form::row_field(bytes, v.place, words::AT_UP);
     let named = kind_pick::at_end(kind, words::AT_MATE as u32, words::AT_UP as u32);

@@ -12,6 +12,7 @@ use Rattle.words.proofs.Fields.{header_fits}
 use Rattle.powers.specs.Tables.{table, table_length}
 use Rattle.shape.specs.Tables.{widths_of}
 use Rattle.shape.specs.Packed.{Packed, widths_in, numbers_in}
+use Rattle.shape.specs.declared.Tables as by_height
 use Rattle.shape.specs.Needs.{RootFits, WidthsFit, degree_fits, frame_passes, root_passes}
 use Rattle.shape.proofs.HeaderLaws.{frame_s, frame_r, frame_height, frame_levels, frame_count, frame_labels}
 use Rattle.shape.proofs.Fits.{Fits, widths_fit}
@@ -37,6 +38,9 @@ said_by bs =
       version = header_said bs at_version (omega arith);
       long = length_file_words bs ∙ rw (header_said bs at_count (omega arith));
     }
+
+pub said_header : (bs : List ℕ) {hs : List ℕ} → hs ≡ header_in bs → SaidBy hs (file_words bs)
+said_header bs e = rw e (said_by bs)
 
 pub counted_said : (bs : List ℕ) {hs : List ℕ} → hs ≡ header_in bs → word_at hs at_count ≡ count_in bs
 unfolding count_in
@@ -97,7 +101,7 @@ module _ {hs ws : List ℕ} (said : SaidBy hs ws) where
     pub root_refused : {t : Bool} → t ≡ root_passes (n_of hs) (h_of hs) lo hi → not t ≡ true → false ≡ words_pass ws
     root_refused e p = root_refuses ws lows_are highs_are (rw (← said.words at_count (omega arith), ← said.words at_height (omega arith)) at e) p
 
-    module _ {ns t : List ℕ} (p : Packed t w lo hi) (numbers : numbers_in t ≡ ns) (of_ns : ns ≡ ancestor_numbers w (h_of hs - 1) 0 0 (replicate table_length 0)) where
+    module _ {ns : List ℕ} {t : by_height.Tables} (p : Packed t w lo hi) (numbers : numbers_in t ≡ ns) (of_ns : ns ≡ ancestor_numbers w (h_of hs - 1) 0 0 (replicate table_length 0)) where
       pub pass_said : Frame ws → PassFits ws (n_of hs) (h_of hs - 1) t
       pass_said a =
           rw (said.words at_count (omega arith), said.words at_height (omega arith))

@@ -2,10 +2,7 @@
 use Rattle.std.specs.Prelude.{◌≡◌, List, ℕ, ◌<◌, length}
 use Rattle.store_types.specs.Layout.{at_version, at_count, header_words, word_at, words_for}
 
--- places for begins that are open at once, and one for the tag behind them: few, and as many as can be
-abbrev pub few_open : ℕ
-few_open = 1025
-
+-- places for as many begins as can be open at once, and one for the tag behind them
 abbrev pub most_open : ℕ
 most_open = 100001
 

@@ -2,18 +2,18 @@
 use mathlib.Core.Bool.{true}
 use mathlib.Core.Path.{◌≡◌, refl, ap, sym, ◌∙◌}
 use mathlib.Core.List.{List, [], ◌∷◌, ◌++◌, map}
-use Prim.Native.Nat.{ℕ, ◌+◌, ◌*◌, ◌≤◌, ◌<◌}
+use Prim.Native.Nat.{ℕ, ◌*◌, ◌≤◌, ◌<◌}
 use native.Mathlib.Omega.{arith}
 use borrow.Author.Tests.{lt-ltb, le-ltb}
 use lib.ListN.{length, drop, length-map}
 use lib.Seq.{sets}
-use Rattle.store_types.specs.declared.WriteReply.{WriteReply}
-use Rattle.store_types.specs.declared.WriteReply.TheVariants.{Written, Refused}
 use Rattle.store_types.specs.Limits.{word_limit}
 use Rattle.store_types.specs.Layout.{at_count, word_at}
 use Rattle.store_types.specs.FileLayout.{header_kind, end_kind, row_bytes, file_bytes, record_place}
+use Rattle.store_types.specs.declared.refusal.Refusal.{Refusal}
+use Rattle.store_types.specs.Replies.{numbered, refusal_in}
+use Rattle.calls.proofs.Checks.{check_refuses, check_keeps}
 use Rattle.lists.specs.Fronts.{in_front, replied, written}
-use Rattle.lists.proofs.Replied.{replied_refused}
 use Rattle.lists.proofs.Fronts.{sets_front}
 use Rattle.little_endian.proofs.Stores.{stored_behind}
 use Rattle.calls.specs.Store.{Store, count, row}
@@ -29,6 +29,7 @@ use Rattle.calls_laws.proofs.Files.{length_file}
 use Rattle.calls_laws.proofs.FileCalls.{file_fits}
 use Rattle.file_write.specs.Records.{tag_records, FileRoom}
 use Rattle.file_write.proofs.RecordLaws.{length_tags}
+use Rattle.std.specs.Prelude.{Result, Ok, Err}
 
 -- 16, by the number of tags that the header says
 module _ (ws : List ℕ) (lent : ℕ) {n : ℕ} (says : Says ws (said ws)) (many : n ≡ word_at ws at_count) where
@@ -44,13 +45,13 @@ module _ (ws : List ℕ) (lent : ℕ) {n : ℕ} (says : Says ws (said ws)) (many
   enough l = sym (by_count ∙ rw (le-ltb lent (file_bytes (count (said ws))) (rw (many ∙ (header_said ws (said ws) says).issued) at l)))
 
 -- where neither the words nor the bytes are refused there is room
-pub file_room : (ws bs : List ℕ) → 0 ≡ refusal_over ws (write_refusal (length bs)) → FileRoom ws bs
+pub file_room : (ws bs : List ℕ) → refusal_over ws (write_refusal (length bs)) ≡ 0 → FileRoom ws bs
 unfolding write_refused
-file_room ws bs e = let (says, room) = file_fits ws bs (sym e) in record { says = says; room = room }
+file_room ws bs e = let (says, room) = file_fits ws bs e in record { says = says; room = room }
 
 -- no file is longer than its reply can say
-pub few_bytes : (ws : List ℕ) (lent : ℕ) → 0 ≡ refusal_over ws (write_refusal lent) → file_bytes (count (said ws)) < word_limit
-few_bytes ws lent e = omega (arith, (sound_said ws (accepted_says ws (write_refusal lent) (sym e))).few)
+pub few_bytes : (ws : List ℕ) (lent : ℕ) → refusal_over ws (write_refusal lent) ≡ 0 → file_bytes (count (said ws)) < word_limit
+few_bytes ws lent e = omega (arith, (sound_said ws (accepted_says ws (write_refusal lent) e)).few)
 
 -- THE WHOLE FILE: the header, the tags behind it, and the last record behind them
 pub sound_of : (ws : List ℕ) → Says ws (said ws) → sound (said ws) ≡ true
@@ -72,7 +73,7 @@ file_stored st bs {n = n} good room head tags place many last =
     ∙ sets_front (file_of st) bs (rw (length_file st good) room)
 
 -- THE REPLY, and the bytes after the call
-abbrev pub Replied : WriteReply → (words bytes after : List ℕ) → Type 0
+abbrev pub Replied : Result ℕ ℕ → (words bytes after : List ℕ) → Type 0
 Replied q ws bs cs = (q ≡ write_reply ws bs) × (cs ≡ write_bytes ws bs)
 
 module _ (ws bs : List ℕ) where
@@ -80,11 +81,12 @@ module _ (ws bs : List ℕ) where
   unfolding write_refused write_refusal
   refused_as = refl
 
-  pub write_refuses : (k : ℕ) → k ≡ refusal_over ws (write_refusal (length bs)) → (k ≡ 0 → ⊥) → Replied (Refused k) ws bs bs
-  unfolding write_reply write_bytes written
-  write_refuses k e n = rw (refused_as, ← e) (replied_refused Refused k _ n, replied_refused (λ _. bs) k _ n)
+  pub write_refuses : (A : Type 0) (r : Refusal) → refusal_in {A = A} (Err r) ≡ refusal_over ws (write_refusal (length bs)) → (p : Result ℕ Refusal) → p ≡ Err r →
+      Replied (numbered p) ws bs bs
+  unfolding write_reply write_bytes
+  write_refuses A r e p same = rw refused_as (check_refuses A r _ e p _ same, check_keeps A r _ e _ bs)
 
-  pub write_writes : {n : ℕ} {cs : List ℕ} → 0 ≡ refusal_over ws (write_refusal (length bs)) → n ≡ file_bytes (count (said ws)) →
-      cs ≡ in_front (file_of (said ws)) bs → Replied (Written n) ws bs cs
+  pub write_writes : {n : ℕ} {cs : List ℕ} → refusal_over ws (write_refusal (length bs)) ≡ 0 → n ≡ file_bytes (count (said ws)) →
+      cs ≡ in_front (file_of (said ws)) bs → Replied (Ok n) ws bs cs
   unfolding write_reply write_bytes written replied
-  write_writes e many file = rw (refused_as, ← e) (ap Written many, file)
+  write_writes e many file = rw (refused_as, e) (ap Ok many, file)

@@ -19,7 +19,10 @@ use Rattle.calls.specs.Replies.{refusal_over, said}
 use Rattle.calls.specs.Rights.{range_refusal, grant_tests, grant_refused}
 use Rattle.calls_laws.proofs.Marks.{accepted_section}
 use Rattle.store_refuse.proofs.Laws.{refused_first, refused_said, accepted_store, kind_of_tag}
+use Rattle.store_types.proofs.Replies.{some_number}
+use Rattle.calls_laws.proofs.Grants.{has_place}
 use Rattle.held_call.proofs.Pairs.{section_tag}
+use Rattle.party_rules.proofs.Replied.{by_refusal}
 
 module _ (x c room : ℕ) where
   abbrev of_store : Store → ℕ
@@ -80,3 +83,8 @@ module _ (ws : List ℕ) (p x q c room : ℕ) where
 
         pub grants : c < room → 0 ≡ grant_refused p x q c room ws
         grants l = sym (by_kind ∙ rw (eq-eqb v 1 begins, lt-leb room c l))
+
+-- what decides each test's answer, and what the call replies
+pub ruleset refusals = (out_of_range, no_section, no_begin, list_full, grants, some_number)
+
+pub ruleset replies = (by_refusal, has_place)

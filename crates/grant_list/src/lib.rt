@@ -4,8 +4,8 @@
 
 ghost use Rattle.std.specs.Prelude.{◌≡◌, ◌||◌, ◌≤◌, ◌<◌, length, set};
 ghost use Rattle.lists.specs.Fronts.{in_front};
-ghost use Rattle.calls.specs.Rights.{names as is_named, gives as is-given, held, others};
-ghost use Rattle.grant_list.specs.Gap.{stays as Stays-of, next_place as place_behind};
+ghost use Rattle.calls.specs.Rights.{names as is_named, gives as is_given, held, others};
+ghost use Rattle.grant_list.specs.Gap.{stays as StaysOf, next_place as place_behind};
 
 use store_types::Grant;
 
@@ -21,7 +21,7 @@ fn names(g: Grant, party: u32, section: u32) -> bool
 
 // Whether a grant gives a right, or one before it did. No right is 0: nothing is given then.
 fn or_gives(found: bool, g: Grant, party: u32, section: u32, right: u32) -> bool
-    ensures { result ≡ (found || is-given party section right g) }
+    ensures { result ≡ (found || is_given party section right g) }
 {
     if right == 0 || !names(g, party, section) {
         return found;
@@ -34,7 +34,7 @@ fn or_gives(found: bool, g: Grant, party: u32, section: u32, right: u32) -> bool
 
 // What goes to the place of the next grant that stays: this one, or what stands there.
 fn stays(g: Grant, old: Grant, party: u32, section: u32) -> Grant
-    ensures { result ≡ Stays-of party section g old }
+    ensures { result ≡ StaysOf party section g old }
 {
     if names(g, party, section) {
         return old;
@@ -67,11 +67,8 @@ pub fn search(gs: &[Grant], count: usize, party: u32, section: u32, right: u32) 
     ensures { result ≡ held party section right count gs.now }
 {
     let mut found = false;
-    let mut i: usize = 0;
-    while i < count {
-        let g = gs[i];
-        found = or_gives(found, g, party, section, right);
-        i += 1;
+    for g in &gs[..count] {
+        found = or_gives(found, *g, party, section, right);
     }
     found
 }
@@ -83,14 +80,12 @@ pub fn close_gap(gs: &mut [Grant], count: usize, party: u32, section: u32) -> us
     ensures list { gs.new ≡ in_front (others party section count gs.old) gs.old }
 {
     let mut kept: usize = 0;
-    let mut i: usize = 0;
-    while i < count {
+    for i in 0..count {
         let g = gs[i];
         let old = gs[kept];
         let next = stays(g, old, party, section);
         gs[kept] = next;
         kept = next_place(kept, g, party, section);
-        i += 1;
     }
     kept
 }

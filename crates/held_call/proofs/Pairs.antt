@@ -11,11 +11,8 @@ use Rattle.store_types.specs.declared.TagId.{TagId}
 use Rattle.store_types.specs.declared.Label.{Label}
 use Rattle.store_types.specs.declared.HeldPair.{HeldPair}
 use Rattle.store_types.specs.declared.Answer.TheVariants.{Yes, No, Stale}
-use Rattle.store_types.specs.declared.HoldReply.TheVariants as hold
-use Rattle.store_types.specs.declared.QuestionReply.TheVariants as asked
 use Rattle.lists.proofs.Tests.{and_left, and_right, by_test}
 use Rattle.lists.specs.Fronts.{replied}
-use Rattle.lists.proofs.Replied.{replied_refused}
 use Rattle.store_types.specs.Layout.{at_count, at_book, at_kind, word_at, field, label_at}
 use Rattle.calls.specs.Kind.{is_begin}
 use Rattle.calls.specs.Store.{fact, count, label}
@@ -30,12 +27,9 @@ use Rattle.calls_laws.proofs.WordSteps.{header_said}
 use Rattle.store_refuse.specs.Needs.{TagSaid}
 use Rattle.held_call.specs.Needs.{PairAsked}
 use Rattle.store_refuse.proofs.Laws.{refused_said, accepted_says, accepted_store, words_of_tag, kind_of_tag, mate_of_tag, no_tag_from}
+use Rattle.std.specs.Prelude.{Ok, Err}
 
 -- HOLD
-pub hold_refused : (ws : List ℕ) (x k : ℕ) → k ≡ refusal_over ws (section_refusal x) → (k ≡ 0 → ⊥) → hold.Refused k ≡ hold_reply x ws
-unfolding hold_reply
-hold_refused ws x k e n = rw (← e) (replied_refused hold.Refused k _ n)
-
 pub section_tag : (ws : List ℕ) (x : ℕ) → refusal_over ws (section_refusal x) ≡ 0 → TagSaid ws x
 section_tag ws x e =
     record {
@@ -44,7 +38,7 @@ section_tag ws x e =
     }
 
 pub hold_held : (ws : List ℕ) (t : TagId) (a b : Label) → refusal_over ws (section_refusal t.0) ≡ 0 → a.0 ≡ label_at ws t.0 →
-    b.0 ≡ label (said ws) (fact (said ws) t.0).mate → hold.Held (record { book = word_at ws at_book; tag = t; start = a; end = b }) ≡ hold_reply t.0 ws
+    b.0 ≡ label (said ws) (fact (said ws) t.0).mate → Ok (record { book = word_at ws at_book; tag = t; start = a; end = b }) ≡ hold_reply t.0 ws
 unfolding hold_reply replied hold_pair
 hold_held ws t a b e s f =
     let h = section_tag ws t.0 e in
@@ -53,16 +47,12 @@ hold_held ws t a b e s f =
     rw (e, ← number, ← starts, ← f)
 
 -- THE QUESTION
-pub question_refused : (ws : List ℕ) (p : HeldPair) (d k : ℕ) → k ≡ refusal_over ws (λ st. 0) → (k ≡ 0 → ⊥) → asked.Refused k ≡ question_reply p d ws
-unfolding question_reply
-question_refused ws p d k e n = rw (← e) (replied_refused asked.Refused k _ n)
-
 module _ (ws : List ℕ) (p : HeldPair) (d : ℕ) where
   replies : Says ws (said ws) → question_reply p d ws ≡ question p d (said ws)
   unfolding question_reply replied
   replies says = rw (refused_said ws (λ st. 0) says)
 
-  pub other_book : Says ws (said ws) → (p.book ≡ word_at ws at_book → ⊥) → asked.Answered Stale ≡ question_reply p d ws
+  pub other_book : Says ws (said ws) → (p.book ≡ word_at ws at_book → ⊥) → Ok Stale ≡ question_reply p d ws
   unfolding question question_tests first
   other_book says n = sym (replies says ∙ rw (ne_eqb p.book (said ws).number (λ e. n (e ∙ sym (header_said ws (said ws) says).number))))
 
@@ -70,14 +60,14 @@ module _ (ws : List ℕ) (p : HeldPair) (d : ℕ) where
   this_book : Says ws (said ws) → p.book ≡ word_at ws at_book → p.book ≡ (said ws).number
   this_book says e = e ∙ (header_said ws (said ws) says).number
 
-  pub no_such_tag : Says ws (said ws) → p.book ≡ word_at ws at_book → (word_at ws at_count ≤ p.tag.0) ⊎ (word_at ws at_count ≤ d) → asked.Refused 8 ≡ question_reply p d ws
+  pub no_such_tag : Says ws (said ws) → p.book ≡ word_at ws at_book → (word_at ws at_count ≤ p.tag.0) ⊎ (word_at ws at_count ≤ d) → Err 8 ≡ question_reply p d ws
   unfolding question question_tests first
   no_such_tag says e (inl l) = sym (replies says ∙ rw (eq-eqb p.book (said ws).number (this_book says e), no_tag_from ws says p.tag.0 l))
   no_such_tag says e (inr l) =
       sym (replies says ∙ rw (eq-eqb p.book (said ws).number (this_book says e), no_tag_from ws says d l, or-true (leb (count (said ws)) p.tag.0)))
 
   pub not_begin : TagSaid ws p.tag.0 → TagSaid ws d → p.book ≡ word_at ws at_book → (field ws p.tag.0 at_kind % 16 ≡ 1 → ⊥) →
-      asked.Refused 10 ≡ question_reply p d ws
+      Err 10 ≡ question_reply p d ws
   unfolding question question_tests first
   not_begin x y e n =
       let begins : is_begin (fact (said ws) p.tag.0).kind ≡ false = sym (kind_of_tag x).begins ∙ ne_eqb _ _ n in
@@ -94,8 +84,8 @@ module _ (ws : List ℕ) (p : HeldPair) (d : ℕ) where
 
   -- then stale, 9, yes or no
   module _ (h : PairAsked ws p d) where
-    if_asked : question_reply p d ws ≡ cond (not (current (said ws) p)) (asked.Answered Stale)
-        (cond (leb 16 (field ws d at_kind)) (asked.Refused 9) (asked.Answered (cond (encloses (said ws) p.tag.0 d) Yes No)))
+    if_asked : question_reply p d ws ≡ cond (not (current (said ws) p)) (Ok Stale)
+        (cond (leb 16 (field ws d at_kind)) (Err 9) (Ok (cond (encloses (said ws) p.tag.0 d) Yes No)))
     unfolding question question_tests first
     if_asked =
         replies h.other.says
@@ -107,10 +97,10 @@ module _ (ws : List ℕ) (p : HeldPair) (d : ℕ) where
           (kind_of_tag h.other).marks,
         )
 
-    pub outdated : current (said ws) p ≡ false → asked.Answered Stale ≡ question_reply p d ws
+    pub outdated : current (said ws) p ≡ false → Ok Stale ≡ question_reply p d ws
     outdated c = sym (if_asked ∙ rw c)
 
-    pub other_marked : current (said ws) p ≡ true → 16 ≤ field ws d at_kind → asked.Refused 9 ≡ question_reply p d ws
+    pub other_marked : current (said ws) p ≡ true → 16 ≤ field ws d at_kind → Err 9 ≡ question_reply p d ws
     other_marked c m = sym (if_asked ∙ rw (c, le-leb 16 (field ws d at_kind) m))
 
     -- by the labels of a current pair, which are its section's
@@ -132,7 +122,7 @@ module _ (ws : List ℕ) (p : HeldPair) (d : ℕ) where
         )
 
     pub tells : current (said ws) p ≡ true → field ws d at_kind < 16 → (t : Bool) → (ltb p.start.0 (label_at ws d) && ltb (label_at ws d) p.end.0) ≡ t →
-        asked.Answered (cond t Yes No) ≡ question_reply p d ws
+        Ok (cond t Yes No) ≡ question_reply p d ws
     tells c m t e = sym (if_asked ∙ rw (c, lt-leb 16 (field ws d at_kind) m, by_labels c, e))
 
 -- WHETHER A PAIR IS CURRENT

@@ -2,6 +2,7 @@
 #![tactic(auto)]
 
 ghost use Rattle.std.specs.Prelude.{◌≡◌};
+ghost use Rattle.store_types.specs.Replies.{numbered};
 ghost use Rattle.calls.specs.Held.{current};
 ghost use Rattle.calls.specs.Store.{fact, label};
 ghost use Rattle.calls.specs.Words.{Says};
@@ -9,19 +10,16 @@ ghost use Rattle.calls.specs.Replies.{said, hold_reply, question_reply};
 ghost use Rattle.store_refuse.specs.Needs.{TagSaid};
 ghost use Rattle.held_call.specs.Needs.{PairAsked};
 
-use store_types::{Answer, HeldPair, HoldReply, Label, QuestionReply, TagId, refusals};
+use store_types::{Answer, HeldPair, Label, Refusal, TagId};
 
 // Hold: a section's book number, tag and two labels.
-pub fn hold(tag: TagId, words: &[u32]) -> HoldReply
-    ensures { result ≡ hold_reply tag.0 words.now }
+pub fn hold(tag: TagId, words: &[u32]) -> Result<HeldPair, Refusal>
+    ensures { numbered result ≡ hold_reply tag.0 words.now }
 {
-    let refusal = store_refuse::section_refused(tag, words);
-    if refusal != 0 {
-        return HoldReply::Refused(refusal);
-    }
+    store_refuse::check_section(tag, words)?;
     let start = words::label_of(words, tag);
     let end = end_label(tag, words);
-    HoldReply::Held(HeldPair {
+    Ok(HeldPair {
         book: words[words::AT_BOOK],
         tag,
         start,
@@ -30,54 +28,51 @@ pub fn hold(tag: TagId, words: &[u32]) -> HoldReply
 }
 
 // The held-pair question: whether the pair's section encloses a tag.
-pub fn question(pair: HeldPair, tag: TagId, words: &[u32]) -> QuestionReply
-    ensures { result ≡ question_reply pair tag.0 words.now }
+pub fn question(pair: HeldPair, tag: TagId, words: &[u32]) -> Result<Answer, Refusal>
+    ensures { numbered result ≡ question_reply pair tag.0 words.now }
 {
-    let first = store_refuse::words_refused(words);
-    if first != 0 {
-        return QuestionReply::Refused(first);
-    }
+    store_refuse::check_words(words)?;
     asked(pair, tag, words)
 }
 
 // The question of words that say a store.
-pub fn asked(pair: HeldPair, tag: TagId, words: &[u32]) -> QuestionReply
+pub fn asked(pair: HeldPair, tag: TagId, words: &[u32]) -> Result<Answer, Refusal>
     requires { Says words.now (said words.now) }
-    ensures { result ≡ question_reply pair tag.0 words.now }
+    ensures { numbered result ≡ question_reply pair tag.0 words.now }
 {
     let book = words[words::AT_BOOK];
     if pair.book != book {
-        return QuestionReply::Answered(Answer::Stale);
+        return Ok(Answer::Stale);
     }
     let section = pair.tag;
     let n = words::count_of(words);
     if n <= section.0 || n <= tag.0 {
-        return QuestionReply::Refused(refusals::NO_SUCH_TAG);
+        return Err(Refusal::NoSuchTag);
     }
     if words::kind_of(words, section) % words::MARK != words::KIND_BEGIN {
-        return QuestionReply::Refused(refusals::NOT_A_SECTION);
+        return Err(Refusal::NotASection);
     }
     answer(pair, tag, words)
 }
 
 // The rest of the question, where the pair is of this book and its tag is a begin.
-fn answer(pair: HeldPair, tag: TagId, words: &[u32]) -> QuestionReply
+fn answer(pair: HeldPair, tag: TagId, words: &[u32]) -> Result<Answer, Refusal>
     requires { PairAsked words.now pair tag.0 }
-    ensures { result ≡ question_reply pair tag.0 words.now }
+    ensures { numbered result ≡ question_reply pair tag.0 words.now }
 {
     if !is_current(pair, words) {
-        return QuestionReply::Answered(Answer::Stale);
+        return Ok(Answer::Stale);
     }
     if words::MARK <= words::kind_of(words, tag) {
-        return QuestionReply::Refused(refusals::TAG_MARKED);
+        return Err(Refusal::TagMarked);
     }
     let label = words::label_of(words, tag);
     let start = pair.start;
     let end = pair.end;
     if start.0 < label.0 && label.0 < end.0 {
-        return QuestionReply::Answered(Answer::Yes);
+        return Ok(Answer::Yes);
     }
-    QuestionReply::Answered(Answer::No)
+    Ok(Answer::No)
 }
 
 // Whether a pair's labels are the current ones and its section is not marked.
@@ -88,10 +83,10 @@ fn is_current(pair: HeldPair, words: &[u32]) -> bool
     let section = pair.tag;
     let start = words::label_of(words, section);
     let end = end_label(section, words);
-    if !start.same(pair.start) {
+    if start != pair.start {
         return false;
     }
-    if !end.same(pair.end) {
+    if end != pair.end {
         return false;
     }
     words::kind_of(words, section) < words::MARK

@@ -16,6 +16,7 @@ use Rattle.words.specs.Places.{TagOrNone, behind, up_word, depth_word}
 use Rattle.powers.specs.Tables.{entry, entry_limit, table_length}
 use Rattle.shape.specs.Tables.{widths_of, lows_of, highs_of}
 use Rattle.shape.specs.Packed.{s_in, r_in}
+use Rattle.shape.specs.declared.Tables as by_height
 use Rattle.shape.specs.Needs.{TablesFit}
 use Rattle.shape.proofs.Sums.{cut_small}
 use Rattle.shape.proofs.Fits.{Fits, widths_fit, lows_fit, highs_fit}
@@ -214,7 +215,7 @@ module _ {ws cs : List ℕ} {y : ℕ} (a : Accepted ws cs y) where
   unfolding plan_of
   by_fits k = plan_by ws _ _ _ _ y _ _ _ _
 
-  module _ {t : List ℕ} (packed : TablesTo s r top t) where
+  module _ {t : by_height.Tables} (packed : TablesTo s r top t) where
     pub applicable : Applicable (row_put ws cs n y q) q t
     applicable =
         let e = row_found ws st says ks y some_kinds accepted in
@@ -287,7 +288,7 @@ module _ {ws cs : List ℕ} {y : ℕ} (a : Accepted ws cs y) where
     pub rise_fits : TablesFit s r m
     rise_fits = rw rise.top_is tables_fit
 
-    module _ {t : List ℕ} (made : TablesTo s r m t) where
+    module _ {t : by_height.Tables} (made : TablesTo s r m t) where
       pub rise_packed : TablesTo s r top t
       rise_packed = rw rise.top_is at made
 
@@ -298,7 +299,7 @@ module _ {ws cs : List ℕ} {y : ℕ} (a : Accepted ws cs y) where
       rise_planned e = root_planned rise_packed (rw rise.top_is at rise.higher) (rw rise.top_is at e)
 
   -- THE ROOT IS NOT SPLIT: the tables are those of the place
-  module _ (stays : top ≤ word_at ws at_height) {t sz : List ℕ} (tables : TablesAt ws y t) (sizes : sz ≡ sizes_at ws y (replicate table_length 0)) where
+  module _ (stays : top ≤ word_at ws at_height) {t : by_height.Tables} {sz : List ℕ} (tables : TablesAt ws y t) (sizes : sz ≡ sizes_at ws y (replicate table_length 0)) where
     same_height : top ≡ word_at ws at_height
     same_height = omega (arith, raised)
 

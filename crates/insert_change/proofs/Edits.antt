@@ -4,6 +4,7 @@ use mathlib.Core.List.{List, map}
 use Prim.Native.Nat.{ℕ, ◌-◌}
 use lib.ListN.{length}
 use Rattle.shape.specs.Packed.{widths_in, s_in, r_in}
+use Rattle.shape.specs.declared.Tables as by_height
 use Rattle.calls.specs.Kind.{kind_of}
 use Rattle.edit_model.specs.Relabel.{issued}
 use Rattle.edit_model.specs.Insert.{Plan, facts_at, added_row, raised_words, applied}
@@ -12,7 +13,7 @@ use Rattle.insert_change.specs.Parts.{row_put, put_edit}
 use Rattle.insert_change.specs.Needs.{Edits, PutFits}
 
 -- the new tags are in, and H is raised
-module _ (ws cs t : List ℕ) (n y : ℕ) (p : Plan) {vs us : List ℕ} (added : vs ≡ added_row ws n y (facts_at ws n y (map kind_of cs))) (raised : us ≡ raised_words vs p.height) where
+module _ (ws cs : List ℕ) (t : by_height.Tables) (n y : ℕ) (p : Plan) {vs us : List ℕ} (added : vs ≡ added_row ws n y (facts_at ws n y (map kind_of cs))) (raised : us ≡ raised_words vs p.height) where
   put_row : us ≡ row_put ws cs n y p
   unfolding row_put
   put_row = raised ∙ rw added

@@ -1,4 +1,4 @@
--- Tables of s and r up to a height, in one array: what plans and the numbering of paths ask of them. Assumes nothing.
+-- Tables of s and r up to a height: what plans and the numbering of paths ask of them. Assumes nothing.
 use mathlib.Core.Path.{◌≡◌, ◌∙◌}
 use mathlib.Core.List.{List}
 use Prim.Native.Nat.{ℕ, ◌*◌, ◌-◌, ◌^◌, ◌≤◌}
@@ -6,14 +6,15 @@ use native.Mathlib.Nat.{one-mul, mul-one, pow-zero, pow-succ'}
 use native.Mathlib.Omega.{arith}
 use Rattle.powers.specs.Tables.{entry, entry_limit, table}
 use Rattle.shape.specs.Packed.{Packed, widths_in, lows_in, highs_in, s_in, r_in}
+use Rattle.shape.specs.declared.Tables as by_height
 use Rattle.powers.proofs.TableLaws.{table_at, table_bound}
 use Rattle.shape.proofs.Fits.{Fits, product_range, widths_fit, highs_fit}
 use Rattle.splits.specs.Needs.{SplitsFit}
 
-abbrev pub TablesTo : (s r top : ℕ) → (tables : List ℕ) → Type 0
+abbrev pub TablesTo : (s r top : ℕ) → (tables : by_height.Tables) → Type 0
 TablesTo s r top t = Packed t (table 1 (s * r - 1) top) (table 1 r top) (table s r top)
 
-module _ {s r top : ℕ} (f : Fits s r top) (low : 1 ≤ top) {t : List ℕ} (packed : TablesTo s r top t) where
+module _ {s r top : ℕ} (f : Fits s r top) (low : 1 ≤ top) {t : by_height.Tables} (packed : TablesTo s r top t) where
   lows_at : (h : ℕ) → h ≤ top → entry (lows_in t) h ≡ r ^ h
   lows_at h l = rw packed.lows_are (table_at 1 r top h l ∙ one-mul (r ^ h))
 

@@ -1,6 +1,7 @@
 -- What the functions of this crate ask of their callers, and what edits leave. Assumes nothing: these are definitions.
 use Rattle.std.specs.Prelude.{◌≡◌, List, ℕ, ◌≤◌, ◌<◌, length}
 use Rattle.store_types.specs.Layout.{at_height, word_at}
+use Rattle.shape.specs.declared.Tables as by_height
 use Rattle.calls.specs.Replies.{insert_sheet_refused}
 use Rattle.edit_model.specs.Insert.{Plan, Edited}
 use Rattle.insert_link.specs.Needs.{NewRowFits}
@@ -15,7 +16,7 @@ pub record Edits (after : List ℕ) (moved split : ℕ) (e : Edited) : Type 0 wh
   pub split_is : split ≡ e.split
 
 -- new tags and a plan
-pub record PutFits (ws cs : List ℕ) (n y : ℕ) (p : Plan) (tables : List ℕ) : Type 0 where
+pub record PutFits (ws cs : List ℕ) (n y : ℕ) (p : Plan) (tables : by_height.Tables) : Type 0 where
   pub row : NewRowFits ws cs n y
   pub plan : Applicable (row_put ws cs n y p) p tables
 

@@ -13,7 +13,7 @@ ghost use Rattle.insert_change.specs.Parts.{put_edit};
 ghost use Rattle.insert_change.specs.Needs.{Edits, PutFits, Accepted, Rises};
 
 use insert_plan::Plan;
-use shape::{PACKED_LENGTH, TABLE_LENGTH};
+use shape::{TABLE_LENGTH, Tables};
 use store_types::TagId;
 
 // How many unmarked tags moved, and the split height.
@@ -23,26 +23,9 @@ pub struct Done {
     pub split: u32,
 }
 
-// a without b, none where b is more.
-fn less(a: u32, b: u32) -> u32
-    ensures { result ≡ a - b }
-{
-    if a < b {
-        return 0;
-    }
-    a - b
-}
-
 // Tags of these kinds go in from number n on, and then what was planned is done, by the tables of the height that there is then. A
 // new tag counts as moved where it is numbered.
-fn put(
-    words: &mut [u32],
-    n: u32,
-    kinds: &[u8],
-    place: TagId,
-    p: Plan,
-    tables: &[u64; PACKED_LENGTH],
-) -> Done
+fn put(words: &mut [u32], n: u32, kinds: &[u8], place: TagId, p: Plan, tables: &Tables) -> Done
     requires { PutFits words.old kinds.now n place.0 (plan_record p) tables.now }
     ensures { Edits words.new result.moved result.split (put_edit words.old kinds.now n place.0 (plan_record p) tables.now) }
 {
@@ -51,7 +34,7 @@ fn put(
     insert_link::raise(words, split);
     let numbered = insert_plan::apply(words, p, tables);
     Done {
-        moved: less(numbered, kinds.len() as u32),
+        moved: numbered.saturating_sub(kinds.len() as u32),
         split: split as u32,
     }
 }
@@ -75,7 +58,7 @@ pub fn change(
     place: TagId,
     words: &mut [u32],
     top: u32,
-    tables: &[u64; PACKED_LENGTH],
+    tables: &Tables,
     sizes: &[u32; TABLE_LENGTH],
 ) -> Done
     requires { Accepted words.old kinds.now place.0 × (top ≡ height_after words.old (length kinds.now)) × TablesAt words.old place.0 tables.now × (sizes.now ≡ sizes_at words.old place.0 (replicate table_length 0)) }

@@ -16,6 +16,7 @@ use Rattle.words.specs.Places.{behind}
 use Rattle.words.proofs.PlaceLaws.{place_in}
 use Rattle.powers.specs.Tables.{entry, entry_limit, table_length}
 use Rattle.shape.specs.Packed.{widths_in, lows_in, highs_in, numbers_in, s_in, r_in}
+use Rattle.shape.specs.declared.Tables as by_height
 use Rattle.shape.specs.Sums.{cut}
 use Rattle.shape.proofs.Sums.{labels_cut, cut_small}
 use Rattle.tree.specs.Grown.{in_splits, in_node, path, height_for}
@@ -96,12 +97,12 @@ node_most : (s r h l k : ℕ) → in_node s r h l k ≤ s * r ^ h + k
 unfolding in_node
 node_most s r h l k = omega (arith, splits_most s r h (k - (s * r ^ h - l)))
 
-pub taken_most : {h k t : ℕ} {tables : List ℕ} (l : ℕ) → NodeFits h k tables → t ≡ in_node (s_in tables) (r_in tables) h l k → t ≤ entry_limit + most_tags
+pub taken_most : {h k t : ℕ} {tables : by_height.Tables} (l : ℕ) → NodeFits h k tables → t ≡ in_node (s_in tables) (r_in tables) h l k → t ≤ entry_limit + most_tags
 taken_most {h} {k} {t} {tables} l asked e =
     omega (arith, node_most (s_in tables) (r_in tables) h l k, asked.splits.highs h (omega arith), asked.limit, asked.few)
 
 -- A SPLIT NODE in numbers: t tags go in with its splits
-module _ {h l k t : ℕ} {tables : List ℕ} (asked : SplitFits h l k tables) (is : t ≡ in_node (s_in tables) (r_in tables) h l k) where
+module _ {h l k t : ℕ} {tables : by_height.Tables} (asked : SplitFits h l k tables) (is : t ≡ in_node (s_in tables) (r_in tables) h l k) where
   pub taken_few : t ≤ most_tags
   taken_few =
       let full : s_in tables * r_in tables ^ h ≤ l + k = omega (arith, asked.full, asked.node.splits.highs h (omega arith)) in
@@ -140,7 +141,7 @@ unfolding root_plan
 root_made s r h n k b count steps taken left = rw (left, taken, steps, count)
 
 -- where the root is not split: h is the height that was found
-module _ (ws t sz : List ℕ) (n k u y : ℕ) {h : ℕ} (found : h ≡ highest_full (highs_in t) sz k u 1 0) where
+module _ (ws : List ℕ) (t : by_height.Tables) (sz : List ℕ) (n k u y : ℕ) {h : ℕ} (found : h ≡ highest_full (highs_in t) sz k u 1 0) where
   pub inner_plain : {p : Plan} → h ≡ 0 → p ≡ plain_plan ws (widths_in t) k u y → p ≡ inner_plan ws t sz n k u y
   unfolding inner_plan
   inner_plain z e = rw (← found, z) e
@@ -152,7 +153,7 @@ module _ (ws t sz : List ℕ) (n k u y : ℕ) {h : ℕ} (found : h ≡ highest_f
   inner_split z numbers low border e = e ∙ rw (border_same border, low, numbers, ← found, ne_eqb h 0 z)
 
 -- what it asks there
-module _ {ws t sz : List ℕ} {k y : ℕ} (asked : PlanReads ws k y t sz) where
+module _ {ws : List ℕ} {t : by_height.Tables} {sz : List ℕ} {k y : ℕ} (asked : PlanReads ws k y t sz) where
   pub plain_asks : {parent : ℕ} → parent ≡ entry (numbers_in t) 1 → PlainReads ws y k parent t
   plain_asks e =
       record {
@@ -189,7 +190,7 @@ module _ (ws sz : List ℕ) (n k u y : ℕ) where
   unfolding plan
   plan_root s r w hi l = rw (lt-ltb (suc u) (height_for k s r (n + k) (suc u)) l)
 
-  pub plan_inner : (t : List ℕ) → ltb (suc u) (height_for k (s_in t) (r_in t) (n + k) (suc u)) ≡ false →
+  pub plan_inner : (t : by_height.Tables) → ltb (suc u) (height_for k (s_in t) (r_in t) (n + k) (suc u)) ≡ false →
       inner_plan ws t sz n k u y ≡ plan ws (s_in t) (r_in t) (widths_in t) (highs_in t) sz n k u y
   unfolding plan inner_plan
   plan_inner t e = rw e
@@ -213,7 +214,7 @@ shift_few (suc k) n ws x b d =
     (λ e. rw e (omega (arith, moved_one ws x label, shift_few k n (with_label ws x label) (field ws x at_next) b d)))
 
 -- A PLAN DONE: the row is numbered from x on with a as the first number, and the tags from `next` on are shifted
-module _ (ws t : List ℕ) (p : Plan) {x a : ℕ} (start : x ≡ behind ws p.left) (number : a ≡ cut p.number) where
+module _ (ws : List ℕ) (t : by_height.Tables) (p : Plan) {x a : ℕ} (start : x ≡ behind ws p.left) (number : a ≡ cut p.number) where
   pub number_asks : Applicable ws p t → RowThere ws x p.count × PathFit p.height p.count p.cursor p.rest t × NumbersFit p.height a t
   number_asks asked = (rw start asked.row, asked.path, rw number asked.numbers)
 

@@ -4,6 +4,7 @@ use Rattle.store_types.specs.Limits.{no_tag}
 use Rattle.store_types.specs.Layout.{label_at}
 use Rattle.powers.specs.Tables.{entry}
 use Rattle.shape.specs.Packed.{widths_in, highs_in, s_in, r_in}
+use Rattle.shape.specs.declared.Tables as by_height
 use Rattle.shape.specs.Sums.{cut}
 use Rattle.edit_model.specs.Split.{Border, highest_full, left_border}
 use Rattle.edit_model.specs.Insert.{Plan, numbers_at, plain_plan, split_plan}
@@ -23,7 +24,7 @@ unfoldable pub next_label : List ℕ → (place width : ℕ) → ℕ
 next_label ws y width = cond (eqb y no_tag) 0 (cut (label_at ws y + width))
 
 -- the plan where the root does not come to its limit: the highest ancestor that does is split, or none
-unfoldable pub inner_plan : List ℕ → (tables sizes : List ℕ) → (n k under place : ℕ) → Plan
+unfoldable pub inner_plan : List ℕ → (tables : by_height.Tables) → (sizes : List ℕ) → (n k under place : ℕ) → Plan
 inner_plan ws t sz n k u y =
     let h = highest_full (highs_in t) sz k u 1 0 in
     let ns = numbers_at ws (widths_in t) u y in

@@ -14,7 +14,7 @@ ghost use Rattle.insert_plan.specs.Parts.{plan_record, border_record, next_label
 ghost use Rattle.insert_plan.specs.Needs.{PlainReads, NodeFits, SplitFits, RootReads, PlanReads, Applicable};
 
 use renumber::Cursor;
-use shape::{PACKED_LENGTH, TABLE_LENGTH};
+use shape::{TABLE_LENGTH, Tables};
 use splits::Border;
 use store_types::TagId;
 
@@ -32,16 +32,6 @@ pub struct Plan {
     pub by: u64,
 }
 
-// a without b, none where b is more.
-fn less(a: u64, b: u64) -> u64
-    ensures { result ≡ a - b }
-{
-    if a < b {
-        return 0;
-    }
-    a - b
-}
-
 // The new label behind a place.
 fn next_label(words: &[u32], place: TagId, width: u64) -> u64
     requires { PlaceThere words.now place.0 × (width ≤ entry_limit) }
@@ -54,17 +44,11 @@ fn next_label(words: &[u32], place: TagId, width: u64) -> u64
 }
 
 // No split: k tags right behind the place, and its right siblings are shifted; `parent` is the number of their parent.
-fn plain_plan(
-    words: &[u32],
-    place: TagId,
-    k: u64,
-    parent: u64,
-    tables: &[u64; PACKED_LENGTH],
-) -> Plan
+fn plain_plan(words: &[u32], place: TagId, k: u64, parent: u64, tables: &Tables) -> Plan
     requires { PlainReads words.now place.0 k parent tables.now }
     ensures { plan_record result ≡ plain_plan words.now (widths_in tables.now) k (pred (word_at words.now at_height)) place.0 }
 {
-    let width = shape::tables::width(tables, 0);
+    let width = tables.widths[0];
     let number = next_label(words, place, width);
     Plan {
         height: 0,
@@ -73,55 +57,46 @@ fn plain_plan(
         count: k,
         cursor: k,
         rest: 0,
-        bound: shape::sum(parent, shape::tables::width(tables, 1)),
+        bound: shape::sum(parent, tables.widths[1]),
         by: shape::times(k, width),
     }
 }
 
 // Of k tags that bring a node of height h over l tags to its limit, those that go in with its splits: the first takes as many as
 // are left up to the limit.
-fn in_node(h: usize, l: u64, k: u64, tables: &[u64; PACKED_LENGTH]) -> u64
+fn in_node(h: usize, l: u64, k: u64, tables: &Tables) -> u64
     requires { NodeFits h k tables.now }
     ensures { result ≡ in_node (s_in tables.now) (r_in tables.now) h l k }
 {
-    let first = less(shape::tables::high(tables, h), l);
-    first + splits::in_splits(less(k, first), h, tables)
+    let first = tables.highs[h].saturating_sub(l);
+    first + splits::in_splits(k.saturating_sub(first), h, tables)
 }
 
 // The ancestor of height h over l tags is split: its right siblings are shifted by the trees that it becomes but one. `border` is the
 // tag left of it, and how many of its tags stand up to the place.
-fn split_plan(h: usize, l: u64, k: u64, border: Border, tables: &[u64; PACKED_LENGTH]) -> Plan
+fn split_plan(h: usize, l: u64, k: u64, border: Border, tables: &Tables) -> Plan
     requires { SplitFits h l k tables.now }
     ensures { plan_record result ≡ split_plan (s_in tables.now) (r_in tables.now) (widths_in tables.now) (numbers_in tables.now) h l k (border_record border) }
 {
     let split = in_node(h, l, k, tables);
-    let trees = (l + split) / shape::tables::low(tables, h);
-    let by = shape::times(less(trees, 1), shape::tables::width(tables, h));
-    let end = shape::sum(
-        shape::tables::number(tables, h + 1),
-        shape::tables::width(tables, h + 1),
-    );
+    let trees = (l + split) / tables.lows[h];
+    let by = shape::times(trees.saturating_sub(1), tables.widths[h]);
+    let end = shape::sum(tables.numbers[h + 1], tables.widths[h + 1]);
     let left = border.tag;
     Plan {
         height: h,
         left,
-        number: shape::tables::number(tables, h),
+        number: tables.numbers[h],
         count: l + k,
         cursor: border.steps as u64 + split,
-        rest: less(k, split),
+        rest: k.saturating_sub(split),
         bound: end,
         by,
     }
 }
 
 // The root is split, for the last time at height h: all tags are numbered anew.
-pub fn root_plan(
-    words: &[u32],
-    k: u32,
-    place: TagId,
-    h: usize,
-    tables: &[u64; PACKED_LENGTH],
-) -> Plan
+pub fn root_plan(words: &[u32], k: u32, place: TagId, h: usize, tables: &Tables) -> Plan
     requires { RootReads words.now k h tables.now }
     ensures { plan_record result ≡ root_plan (s_in tables.now) (r_in tables.now) h (issued words.now) k (left_border (issued words.now) (issued words.now) words.now 0 place.0) }
 {
@@ -134,7 +109,7 @@ pub fn root_plan(
         number: 0,
         count: n + k as u64,
         cursor: border.steps as u64 + split,
-        rest: less(k as u64, split),
+        rest: (k as u64).saturating_sub(split),
         bound: 0,
         by: 0,
     }
@@ -146,7 +121,7 @@ pub fn inner_plan(
     words: &[u32],
     k: u32,
     place: TagId,
-    tables: &[u64; PACKED_LENGTH],
+    tables: &Tables,
     sizes: &[u32; TABLE_LENGTH],
 ) -> Plan
     requires { PlanReads words.now k place.0 tables.now sizes.now }
@@ -155,16 +130,16 @@ pub fn inner_plan(
     let under = words::height_of(words) as usize - 1;
     let h = splits::highest_full(k, under, tables, sizes);
     if h == 0 {
-        let parent = shape::tables::number(tables, 1);
+        let parent = tables.numbers[1];
         return plain_plan(words, place, k as u64, parent, tables);
     }
-    let low = shape::tables::number(tables, h);
+    let low = tables.numbers[h];
     let border = splits::left_border(words, low, place);
     split_plan(h, sizes[h] as u64, k as u64, border, tables)
 }
 
 // How many unmarked ones of the numbered and shifted tags held another label.
-pub fn apply(words: &mut [u32], p: Plan, tables: &[u64; PACKED_LENGTH]) -> u32
+pub fn apply(words: &mut [u32], p: Plan, tables: &Tables) -> u32
     requires { Applicable words.old (plan_record p) tables.now }
     ensures words { words.new ≡ (applied words.old (widths_in tables.now) (s_in tables.now) (r_in tables.now) (issued words.old) (plan_record p)).words }
     ensures moved { result ≡ (applied words.old (widths_in tables.now) (s_in tables.now) (r_in tables.now) (issued words.old) (plan_record p)).moved }

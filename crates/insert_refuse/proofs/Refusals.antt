@@ -30,7 +30,9 @@ use Rattle.load_refuse.specs.Refusals.{kinds_refusal}
 use Rattle.store_refuse.specs.Needs.{TagSaid}
 use Rattle.store_refuse.proofs.Laws.{kind_of_tag}
 use Rattle.insert_refuse.specs.Parts.{row_room, place_refusal, room_refusal}
-use Rattle.insert_refuse.proofs.Headers.{Ranges, ranges}
+use Rattle.words.proofs.Fields.{record_room}
+use Rattle.store_types.proofs.Replies.{some_number}
+use Rattle.insert_refuse.proofs.Headers.{Ranges, ranges, room, header_room, search_from, last_power}
 
 -- THE PLACE y: t says whether it is the front
 module _ (ws : List ℕ) (y : ℕ) {t : Bool} (e : t ≡ eqb y no_tag) where
@@ -137,3 +139,11 @@ module _ (ws cs : List ℕ) (y : ℕ) (says : Says ws (said ws)) where
       pub refused_room : {m : ℕ} → p ≡ 0 → m ≡ room_refusal (length ws) (length cs) (said ws) → m ≡ insert_sheet_refused cs y ws
       unfolding place_refusal room_refusal place_tests all_hold
       refused_room none q = q ∙ sym (behind_kinds ∙ refused_behind (place_tests y (said ws)) (row_room (length ws) (length cs) (said ws)) refl (sym g ∙ none))
+
+pub ruleset place_refusals = (place_front, place_beyond, place_marked, place_fine, header_room, record_room, room)
+
+pub ruleset room_refusals = (room_many, room_short, room_below, room_fits, room_none, header_room, ranges)
+
+pub ruleset sheet_refusals = (refused_kinds, refused_place, refused_room, some_number)
+
+pub ruleset height_lemmas = (height_found, header_room, ranges, search_from, last_power)

@@ -1,6 +1,7 @@
 -- The specimens of specs/Specimens.antt hold: the checker computes the whole table. Assumes nothing.
 use mathlib.Core.Path.{◌≡◌, refl}
 use mathlib.Core.List.{map, head_d, flat_map}
+use Rattle.store_types.specs.Replies.{count_numbers}
 use Rattle.lists.specs.Lists.{those, first, same, how_many, with_first, numbers}
 use Rattle.lists.specs.Fronts.{starts_with, in_front, written, replied}
 use Rattle.store_types.specs.Layout.{records_at, words_for, field, label_at}
@@ -18,7 +19,7 @@ use Rattle.calls.specs.Mark.{within, mark_facts, mark_store, new_marks, mark_cou
 use Rattle.calls.specs.Held.{encloses}
 use Rattle.calls.specs.Listing.{is_listed, listed_tags, listed_labels, inside_tests, list_refusal}
 use Rattle.calls.specs.Words.{header, tag_record, words_of, follow, read_fact, header_width, read_book, read_store, header_in_range, read_in_range, read}
-use Rattle.calls.specs.Replies.{on_store, refusal_over, store_or, said, load_reply, load_words, insert_refused, insert_reply, insert_words, mark_reply, mark_words, load_numbers, insert_numbers, mark_numbers}
+use Rattle.calls.specs.Replies.{on_store, refusal_over, store_or, said, load_reply, load_words, insert_refused, insert_reply, insert_words, mark_reply, mark_words, load_numbers, insert_numbers}
 use Rattle.console_fields.specs.Field.{is_digit, all_digits, value_from, well_begun, number_of, is_letter, all_letters, letter_kind}
 use Rattle.console.specs.Line.{fields, number_or_front, load_of, insert_of, mark_of, command_of, parsed}
 use Rattle.reply_text.specs.Text.{decimal_from, decimal, spaced, reply_line, tag_line, tag_lines, end_line, unknown_line}
@@ -29,5 +30,5 @@ use Rattle.interpreter.specs.Session.{texts}
 use Rattle.interpreter.specs.Specimens.{inputs, prints}
 
 pub specimens : map (λ p. prints (bytes p.input)) inputs ≡ map (λ p. bytes p.printed) inputs
-unfolding head_d numbers member place insert_at all_below leaves labels joined leaf_row parts spread put split_height within_limits label_of base power_width under_from load_under loaded root_full root_split put_inside inserted split_of inserted_row split_of_row moved_among root_within book_within front_below spelled_nodes spelled first same how_many code is_kind kind_of kind_word word_kind own_depth opens_after depth_after is_begin is_end next_in prior_in labels_fit nests closing new_facts fits opened nested depths_right degrees_fit tree_sound row_sound stamp_sound sound words_for all_kinds kinds_tests early_tests load_refusal load_store insert_kinds position up_at depth_at book_after insert_store insert_moved insert_split labels_end place_tests room_tests insert_refusal within mark_facts mark_store new_marks mark_count section_tests section_refusal encloses is_listed those listed_tags listed_labels inside_tests list_refusal header tag_record flat_map words_of records_at field follow read_fact label_at header_width read_book read_store starts_with header_in_range read_in_range read in_front on_store refusal_over store_or said written replied load_reply load_words insert_refused insert_reply insert_words mark_reply mark_words load_numbers insert_numbers mark_numbers with_first fields is_digit all_digits value_from well_begun number_of number_or_front is_letter all_letters letter_kind load_of insert_of mark_of command_of parsed decimal_from decimal spaced reply_line tag_line tag_lines end_line unknown_line lines first_words load_text insert_text mark_text listing list_text command_text command_words line_text line_words texts prints
+unfolding head_d numbers member place insert_at all_below leaves labels joined leaf_row parts spread put split_height within_limits label_of base power_width under_from load_under loaded root_full root_split put_inside inserted split_of inserted_row split_of_row moved_among root_within book_within front_below spelled_nodes spelled first same how_many code is_kind kind_of kind_word word_kind own_depth opens_after depth_after is_begin is_end next_in prior_in labels_fit nests closing new_facts fits opened nested depths_right degrees_fit tree_sound row_sound stamp_sound sound words_for all_kinds kinds_tests early_tests load_refusal load_store insert_kinds position up_at depth_at book_after insert_store insert_moved insert_split labels_end place_tests room_tests insert_refusal within mark_facts mark_store new_marks mark_count section_tests section_refusal encloses is_listed those listed_tags listed_labels inside_tests list_refusal header tag_record flat_map words_of records_at field follow read_fact label_at header_width read_book read_store starts_with header_in_range read_in_range read in_front on_store refusal_over store_or said written replied load_reply load_words insert_refused insert_reply insert_words mark_reply mark_words load_numbers insert_numbers count_numbers with_first fields is_digit all_digits value_from well_begun number_of number_or_front is_letter all_letters letter_kind load_of insert_of mark_of command_of parsed decimal_from decimal spaced reply_line tag_line tag_lines end_line unknown_line lines first_words load_text insert_text mark_text listing list_text command_text command_words line_text line_words texts prints
 specimens = refl

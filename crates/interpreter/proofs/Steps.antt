@@ -1,16 +1,13 @@
 -- One step over a piece of input, and the end of it, as the code goes. Assumes nothing.
-use mathlib.Core.Path.{◌≡◌, refl, ap, sym, ◌∙◌}
+use mathlib.Core.Path.{◌≡◌, refl, ap}
 use mathlib.Core.Bool.{Bool, true, false, cond}
 use mathlib.Core.List.{List, [], ◌∷◌, ◌++◌, append-nil}
-use Prim.Native.Nat.{ℕ, suc, ◌+◌, ◌≤◌, ◌<◌, min}
+use Prim.Native.Nat.{ℕ, suc, ◌+◌, ◌≤◌, ◌<◌}
 use native.Mathlib.Omega.{arith}
 use lib.Dec.{eqb}
-use lib.ListN.{length, take, drop, length-append, length-drop, length-take}
-use lib.Seq.{take_at, drop-drop}
-use Rattle.reply_text.specs.Post.{Written}
-use Rattle.line_reader.specs.Gather.{stretch, has_feed, Gathers}
+use lib.ListN.{length, drop}
+use Rattle.line_reader.specs.Gather.{stretch, has_feed}
 use Rattle.line_reader.specs.Reads.{last_line, in_hand}
-use Rattle.line_reader.proofs.Gathering.{take_within}
 use Rattle.interpreter.specs.Answer.{line_text, line_words}
 use Rattle.interpreter.specs.Session.{texts, words_behind, buffer_size, step_length, step_held, step_text, step_words, Steps, Passes, step}
 
@@ -33,81 +30,57 @@ plain_whole (c ∷ p) e = go (eqb c 10) e (plain_whole p)
     go true e more = absurd (let z : ◌≡◌ {A = ℕ} 0 1 = cc in omega arith)
     go false e more = ap suc (more e)
 
-module _ {begun line : List ℕ} {at h : ℕ} (piece : List ℕ) (from : ℕ) (g : Gathers begun (drop from piece) from line at h) where
-  no_feed : length piece ≤ at → has_feed (drop from piece) ≡ false
-  no_feed l = go (has_feed (drop from piece)) refl
+-- ONE STEP over a piece: what is taken is its stretch, and what is in hand is what is kept of both
+module _ (held p : List ℕ) {taken : ℕ} (place : taken ≡ length (stretch p)) where
+  no_feed : taken ≡ length p → has_feed p ≡ false
+  no_feed l = go (has_feed p) refl
     where
-      go : (t : Bool) → has_feed (drop from piece) ≡ t → t ≡ false
-      go true e = absurd (omega (arith, g.place, feed_within (drop from piece) e, length-drop from piece))
+      go : (t : Bool) → has_feed p ≡ t → t ≡ false
+      go true e = absurd (omega (arith, place, feed_within p e))
       go false e = refl
 
-  a_feed : at < length piece → has_feed (drop from piece) ≡ true
-  a_feed l = go (has_feed (drop from piece)) refl
+  a_feed : (taken ≡ length p → ⊥) → has_feed p ≡ true
+  a_feed n = go (has_feed p) refl
     where
-      go : (t : Bool) → has_feed (drop from piece) ≡ t → t ≡ true
+      go : (t : Bool) → has_feed p ≡ t → t ≡ true
       go true e = refl
-      go false e = absurd (omega (arith, g.place, plain_whole (drop from piece) e, length-drop from piece))
+      go false e = absurd (omega (arith, place, plain_whole p e))
 
-  module _ (size : length line ≡ buffer_size) where
-    kept : take h line ≡ in_hand buffer_size begun (drop from piece)
-    kept = rw size at g.holds.front
-
-    pub steps_on : (ws out : List ℕ) → length piece ≤ at → Steps begun (drop from piece) ws from line ws out out at h 0
+  module _ {line : List ℕ} (gathered : line ≡ in_hand buffer_size held p) where
+    pub steps_on : (ws : List ℕ) → taken ≡ length p → Steps held p ws line ws [] taken
     unfolding step_length step_held step_text step_words
-    steps_on ws out l =
-        let e : has_feed (drop from piece) ≡ false = no_feed l in
-        record { place = rw e g.place; in_buffer = rw e kept; stored = rw e; printed = rw e (record { text = refl; behind = refl }) }
+    steps_on ws l =
+        let e : has_feed p ≡ false = no_feed l in
+        record { place = rw e place; gathered = rw e gathered; stored = rw e; printed = rw e }
 
-    pub steps_answer : (ws ws' out out' : List ℕ) (text : ℕ) → at < length piece → ws' ≡ line_words (take h line) ws →
-        Written out 0 (line_text (take h line) ws) out' text → Steps begun (drop from piece) ws from line ws' out out' (at + 1) 0 text
+    pub steps_answer : (ws ws' text : List ℕ) → (taken ≡ length p → ⊥) → ws' ≡ line_words line ws → text ≡ line_text line ws → Steps held p ws [] ws' text (taken + 1)
     unfolding step_length step_held step_text step_words
-    steps_answer ws ws' out out' text l w p =
-        let e : has_feed (drop from piece) ≡ true = a_feed l in
-        record {
-          place = rw e (omega (arith, g.place));
-          in_buffer = rw e;
-          stored = rw e (rw kept at w);
-          printed = rw e (rw kept at p);
-        }
+    steps_answer ws ws' text n w t =
+        let e : has_feed p ≡ true = a_feed n in
+        record { place = rw e (omega (arith, place)); gathered = rw e; stored = rw e (rw gathered at w); printed = rw e (rw gathered at t) }
 
 -- THE END
-pub ends_none : (held : ℕ) (line ws out : List ℕ) → held ≡ 0 → (ws ≡ words_behind ws (last_line (take held line))) × (Written out 0 (texts ws (last_line (take held line))) out 0)
+pub ends_none : (line ws : List ℕ) → length line ≡ 0 → (ws ≡ words_behind ws (last_line line)) × ([] ≡ texts ws (last_line line))
 unfolding words_behind texts last_line
-ends_none held line ws out e = (rw e, rw e (record { text = refl; behind = refl }))
+ends_none [] ws e = (refl, refl)
+ends_none (c ∷ l) ws e = absurd (omega arith)
 
-last_one : (l : List ℕ) → 0 < length l → last_line l ≡ l ∷ []
-unfolding last_line
-last_one [] p = absurd (omega arith)
-last_one (c ∷ l) p = refl
+pub ends_line : (line ws ws' text : List ℕ) → 1 ≤ length line → ws' ≡ line_words line ws → text ≡ line_text line ws →
+    (ws' ≡ words_behind ws (last_line line)) × (text ≡ texts ws (last_line line))
+unfolding words_behind texts last_line
+ends_line [] ws ws' text l w t = absurd (omega arith)
+ends_line (c ∷ line) ws ws' text l w t = (w, rw append-nil t)
 
-pub ends_line : (held h : ℕ) (line ws ws' out out' : List ℕ) (e : ℕ) → (held ≡ 0 → ⊥) → 0 < length line → h ≡ min held (length line) →
-    ws' ≡ line_words (take h line) ws → Written out 0 (line_text (take h line) ws) out' e →
-    (ws' ≡ words_behind ws (last_line (take held line))) × (Written out 0 (texts ws (last_line (take held line))) out' e)
-unfolding words_behind texts
-ends_line held h line ws ws' out out' e n some m w p =
-    let same : take h line ≡ take held line = take_within held h line m in
-    let one : last_line (take held line) ≡ take held line ∷ [] = last_one (take held line) (rw (length-take held line) (omega arith)) in
-    (rw one (rw same at w), rw (one, append-nil (line_text (take held line) ws)) (rw same at p))
-
--- WHAT A CALLER ASKS: a step goes on, and stays in the piece; its text lies in the buffer
-module _ {held ws line ws' out out' : List ℕ} {at h text : ℕ} (piece : List ℕ) (from : ℕ) (s : Steps held (drop from piece) ws from line ws' out out' at h text) where
-  pub steps_forward : from < length piece → (from < at) × (at ≤ length piece)
+-- WHAT A CALLER ASKS: a step goes on, and stays in the piece
+module _ {held p ws held' ws' text : List ℕ} {taken : ℕ} (s : Steps held p ws held' ws' text taken) where
+  pub steps_forward : 0 < length p → (0 < taken) × (taken ≤ length p)
   unfolding step_length
-  steps_forward l = go (has_feed (drop from piece)) refl s.place
+  steps_forward l = go (has_feed p) refl s.place
     where
-      go : (t : Bool) → has_feed (drop from piece) ≡ t → at ≡ from + cond t (suc (length (stretch (drop from piece)))) (length (stretch (drop from piece))) → (from < at) × (at ≤ length piece)
-      go true e p = (omega arith, omega (arith, feed_within (drop from piece) e, length-drop from piece))
-      go false e p = (omega (arith, plain_whole (drop from piece) e, length-drop from piece), omega (arith, plain_whole (drop from piece) e, length-drop from piece))
+      go : (t : Bool) → has_feed p ≡ t → taken ≡ cond t (suc (length (stretch p))) (length (stretch p)) → (0 < taken) × (taken ≤ length p)
+      go true e q = (omega arith, omega (arith, feed_within p e))
+      go false e q = (omega (arith, plain_whole p e), omega (arith, plain_whole p e))
 
-  -- what is left of the piece behind a step
-  pub steps_pass : {a b t : List ℕ} → Passes (take h line) ws' (drop at piece) a b t → Passes held ws (drop from piece) a b (step_text held (drop from piece) ws ++ t)
-  steps_pass x =
-      let rest : drop at piece ≡ drop (step_length (drop from piece)) (drop from piece) = ap (λ k. drop k piece) s.place ∙ sym (drop-drop (step_length (drop from piece)) from piece) in
-      step (rw (s.in_buffer, s.stored, rest) at x)
-
-pub text_within : {out bytes after : List ℕ} {e : ℕ} → Written out 0 bytes after e → e ≤ length after
-text_within {out} {bytes} {after} {e} w = omega (arith, w.behind, ap length w.text ∙ length-append bytes (drop (0 + length bytes) out))
-
--- and is what stands in front there
-pub text_written : {out bytes after : List ℕ} {e : ℕ} → Written out 0 bytes after e → take e after ≡ bytes
-text_written {out} {bytes} {after} {e} w = rw w.text (take_at bytes (drop (0 + length bytes) out) e (omega (arith, w.behind)))
+  -- what is left of the piece after a step
+  pub steps_pass : {a b t : List ℕ} → Passes held' ws' (drop taken p) a b t → Passes held ws p a b (text ++ t)
+  steps_pass {t = t} x = rw s.printed (step (rw (s.gathered, s.stored, s.place) at x))

@@ -1,15 +1,16 @@
 -- What a line prints, and the words after it (document 01, "The book program"): the call that the line asks for, on the
 -- words before, as crate calls defines it; its reply's numbers as crate reply_text prints them. Assumes nothing: these are
 -- definitions.
-use Rattle.std.specs.Prelude.{List, [], ◌∷◌, ◌++◌, ℕ, zero, suc, ◌+◌, ◌*◌, length, replicate}
+use Rattle.store_types.specs.Replies.{count_numbers}
+use Rattle.std.specs.Prelude.{List, [], ◌∷◌, ◌++◌, ℕ, zero, suc, ◌+◌, ◌*◌, length, replicate, Option, Some, None}
 use Rattle.store_types.specs.Limits.{no_tag}
 use Rattle.store_types.specs.Layout.{header_words, tag_words}
 use Rattle.calls.specs.Listing.{list_refusal, listed_tags, listed_labels}
-use Rattle.calls.specs.Replies.{refusal_over, said, load_reply, load_numbers, load_words, insert_reply, insert_numbers, insert_words, mark_reply, mark_numbers, mark_words}
+use Rattle.calls.specs.Replies.{refusal_over, said, load_reply, load_numbers, load_words, insert_reply, insert_numbers, insert_words, mark_reply, mark_words}
 use Rattle.console.specs.Line.{parsed}
 use Rattle.reply_text.specs.Text.{reply_line, tag_lines, end_line, unknown_line}
 use Rattle.console.specs.declared.Command.{Command}
-use Rattle.console.specs.declared.Command.TheVariants.{Load, Insert, Mark, List as ListAll, Unknown}
+use Rattle.console.specs.declared.Command.TheVariants.{Load, Insert, Mark, List as ListAll}
 
 -- the store is for so many tags, all its words 0 at first
 abbrev pub book_tags : ℕ
@@ -25,7 +26,7 @@ unfoldable pub insert_text : (kind place : ℕ) → (words : List ℕ) → List 
 insert_text k y ws = reply_line (insert_numbers (insert_reply k y ws))
 
 unfoldable pub mark_text : (tag : ℕ) → (words : List ℕ) → List ℕ
-mark_text x ws = reply_line (mark_numbers (mark_reply x ws))
+mark_text x ws = reply_line (count_numbers (mark_reply x ws))
 
 -- tag and label a line, then `end` and the count; or the refusal
 unfoldable pub listing : (refusal : ℕ) → (tags labels : List ℕ) → List ℕ
@@ -38,19 +39,19 @@ list_text ws =
     let st = said ws in
     listing (refusal_over ws (list_refusal book_tags book_tags no_tag)) (listed_tags no_tag st) (listed_labels no_tag st)
 
-unfoldable pub command_text : Command → (kinds words : List ℕ) → List ℕ
-command_text (Load s r b n) ks ws = load_text s r b ks ws
-command_text (Insert k y) ks ws = insert_text k y.0 ws
-command_text (Mark x) ks ws = mark_text x.0 ws
-command_text ListAll ks ws = list_text ws
-command_text Unknown ks ws = unknown_line
+unfoldable pub command_text : Option Command → (kinds words : List ℕ) → List ℕ
+command_text (Some (Load s r b n)) ks ws = load_text s r b ks ws
+command_text (Some (Insert k y)) ks ws = insert_text k y.0 ws
+command_text (Some (Mark x)) ks ws = mark_text x.0 ws
+command_text (Some ListAll) ks ws = list_text ws
+command_text None ks ws = unknown_line
 
-unfoldable pub command_words : Command → (kinds words : List ℕ) → List ℕ
-command_words (Load s r b n) ks ws = load_words s r b ks ws
-command_words (Insert k y) ks ws = insert_words k y.0 ws
-command_words (Mark x) ks ws = mark_words x.0 ws
-command_words ListAll ks ws = ws
-command_words Unknown ks ws = ws
+unfoldable pub command_words : Option Command → (kinds words : List ℕ) → List ℕ
+command_words (Some (Load s r b n)) ks ws = load_words s r b ks ws
+command_words (Some (Insert k y)) ks ws = insert_words k y.0 ws
+command_words (Some (Mark x)) ks ws = mark_words x.0 ws
+command_words (Some ListAll) ks ws = ws
+command_words None ks ws = ws
 
 -- A LINE, without its line feed
 unfoldable pub line_text : (line words : List ℕ) → List ℕ

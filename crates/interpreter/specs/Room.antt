@@ -5,8 +5,6 @@ use Rattle.std.specs.Prelude.{List, ℕ, ◌+◌, ◌*◌, ◌≤◌, length}
 abbrev pub out_size : ℕ
 out_size = 44064
 
--- for a listing of so many tags
-pub record ListingRoom (tags labels : List ℕ) (count : ℕ) (out : List ℕ) : Type 0 where
-  pub has_tags : count ≤ length tags
-  pub has_labels : count ≤ length labels
-  pub lines : count * 22 + 64 ≤ length out
+-- for a listing of so many tags, at the end of some text
+pub record ListingRoom (count : ℕ) (out : List ℕ) : Type 0 where
+  pub lines : length out + count * 22 + 64 ≤ out_size

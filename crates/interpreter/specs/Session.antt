@@ -1,7 +1,6 @@
 -- What a session prints: lines one after the other, and an input that comes in pieces. Assumes nothing: these are
 -- definitions.
-use Rattle.std.specs.Prelude.{◌≡◌, cond, List, [], ◌∷◌, ◌++◌, ℕ, suc, ◌+◌, length, take, drop}
-use Rattle.reply_text.specs.Post.{Written}
+use Rattle.std.specs.Prelude.{◌≡◌, cond, List, [], ◌∷◌, ◌++◌, ℕ, suc, length, drop}
 use Rattle.line_reader.specs.Gather.{stretch, has_feed}
 use Rattle.line_reader.specs.Reads.{last_line, in_hand}
 use Rattle.interpreter.specs.Answer.{line_text, line_words}
@@ -32,11 +31,11 @@ step_text h p ws = cond (has_feed p) (line_text (in_hand buffer_size h p) ws) []
 unfoldable pub step_words : (held piece words : List ℕ) → List ℕ
 step_words h p ws = cond (has_feed p) (line_words (in_hand buffer_size h p) ws) ws
 
-pub record Steps (held piece words : List ℕ) (from : ℕ) (line words' out out' : List ℕ) (at h text : ℕ) : Type 0 where
-  pub place : at ≡ from + step_length piece
-  pub in_buffer : take h line ≡ step_held held piece
+pub record Steps (held piece words held' words' text : List ℕ) (taken : ℕ) : Type 0 where
+  pub place : taken ≡ step_length piece
+  pub gathered : held' ≡ step_held held piece
   pub stored : words' ≡ step_words held piece words
-  pub printed : Written out 0 (step_text held piece words) out' text
+  pub printed : text ≡ step_text held piece words
 
 -- A PIECE by steps, to its end: what is then in hand and in the store, and what was printed
 pub data Passes : (held words piece held' words' printed : List ℕ) → Type 0 where

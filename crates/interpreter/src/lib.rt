@@ -2,6 +2,7 @@
 // session over an input that comes in pieces.
 #![tactic(auto)]
 
+use byte_list::ByteList;
 use console::LINE_LIMIT;
 
 mod reply;
@@ -9,7 +10,7 @@ mod say;
 mod session;
 
 pub use reply::answer;
-pub use session::{Progress, finish, step};
+pub use session::Session;
 
 // The store is for so many tags, and these are its words.
 pub const BOOK_TAGS: usize = 2000;
@@ -21,3 +22,9 @@ pub const LINE_BUFFER: usize = LINE_LIMIT + 1;
 
 // Room for the longest listing: a line of at most 22 bytes for each tag, and a last line.
 pub const OUT_SIZE: usize = 22 * BOOK_TAGS + 64;
+
+// A line in hand.
+pub type Line = ByteList<LINE_BUFFER>;
+
+// What is printed for one line.
+pub type Reply = ByteList<OUT_SIZE>;

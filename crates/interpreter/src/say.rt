@@ -1,66 +1,66 @@
-// What the calls reply, as text at the front of a lent buffer.
-ghost use Rattle.std.specs.Prelude.{◌++◌, take};
+// What the calls reply, as text at the end of a list of bytes.
+ghost use Rattle.std.specs.Prelude.{◌≡◌, ◌++◌, length};
 ghost use Rattle.reply_text.specs.Text.{reply_line, tag_lines, end_line};
-ghost use Rattle.reply_text.specs.Post.{Written, LineRoom};
-ghost use Rattle.calls.specs.Replies.{load_numbers, insert_numbers, mark_numbers};
-ghost use Rattle.interpreter.specs.Room.{ListingRoom};
+ghost use Rattle.reply_text.specs.Room.{LineRoom};
+ghost use Rattle.store_types.specs.Replies.{numbered, count_numbers};
+ghost use Rattle.calls.specs.Replies.{load_numbers, insert_numbers};
+ghost use Rattle.interpreter.specs.Room.{out_size, ListingRoom};
 
-use store_types::{InsertReply, LoadReply, MarkReply};
+use crate::Reply;
+use store_types::{Inserted, Loaded, Refusal};
 
-pub fn loaded(reply: LoadReply, out: &mut [u8]) -> usize
-    requires { LineRoom 0 out.old }
-    ensures { Written out.old 0 (reply_line (load_numbers reply)) out.new result }
+#[tactic(auto, unfolding(calls::specs::Replies::load_numbers, store_types::specs::Replies::numbered))]
+pub fn loaded(reply: Result<Loaded, Refusal>, out: &mut Reply)
+    requires { LineRoom out_size out.old }
+    ensures { out.new ≡ out.old ++ reply_line (load_numbers (numbered reply)) }
 {
     match reply {
-        LoadReply::Loaded { tags, height } => reply_text::ok_two(out, 0, tags, height),
-        LoadReply::Refused(k) => reply_text::no_line(out, 0, k),
+        Ok(loaded) => reply_text::ok_line(out, &[loaded.tags, loaded.height]),
+        Err(refusal) => reply_text::no_line(out, refusal.number()),
     }
 }
 
-pub fn inserted(reply: InsertReply, out: &mut [u8]) -> usize
-    requires { LineRoom 0 out.old }
-    ensures { Written out.old 0 (reply_line (insert_numbers reply)) out.new result }
+#[tactic(auto, unfolding(calls::specs::Replies::insert_numbers, store_types::specs::Replies::numbered))]
+pub fn inserted(reply: Result<Inserted, Refusal>, out: &mut Reply)
+    requires { LineRoom out_size out.old }
+    ensures { out.new ≡ out.old ++ reply_line (insert_numbers (numbered reply)) }
 {
     match reply {
-        InsertReply::Inserted {
-            first,
-            moved,
-            split,
-        } => reply_text::ok_three(out, 0, first.0, moved, split),
-        InsertReply::Refused(k) => reply_text::no_line(out, 0, k),
+        Ok(inserted) => {
+            reply_text::ok_line(out, &[inserted.first.0, inserted.moved, inserted.split]);
+        }
+        Err(refusal) => reply_text::no_line(out, refusal.number()),
     }
 }
 
-pub fn marked(reply: MarkReply, out: &mut [u8]) -> usize
-    requires { LineRoom 0 out.old }
-    ensures { Written out.old 0 (reply_line (mark_numbers reply)) out.new result }
+#[tactic(auto, unfolding(store_types::specs::Replies::count_numbers, store_types::specs::Replies::numbered))]
+pub fn marked(reply: Result<u32, Refusal>, out: &mut Reply)
+    requires { LineRoom out_size out.old }
+    ensures { out.new ≡ out.old ++ reply_line (count_numbers (numbered reply)) }
 {
     match reply {
-        MarkReply::Marked(n) => reply_text::ok_one(out, 0, n),
-        MarkReply::Refused(k) => reply_text::no_line(out, 0, k),
+        Ok(n) => reply_text::ok_line(out, &[n]),
+        Err(refusal) => reply_text::no_line(out, refusal.number()),
     }
 }
 
-// The first tags of a list and their labels, a line each.
-fn tag_lines(tags: &[u32], labels: &[u32], count: usize, out: &mut [u8]) -> usize
-    requires { ListingRoom tags.now labels.now count out.old }
-    ensures text { Written out.old 0 (tag_lines (take count tags.now) (take count labels.now)) out.new result }
-    ensures room { LineRoom result out.new }
+// Tags and their labels, a line each.
+#[tactic(auto, using(crate::proofs::Listings::listing_steps))]
+fn tag_lines(tags: &[u32], labels: &[u32], out: &mut Reply)
+    requires { ListingRoom (length tags.now) out.old }
+    ensures text { out.new ≡ out.old ++ tag_lines tags.now labels.now }
+    ensures room { LineRoom out_size out.new }
 {
-    let mut at: usize = 0;
-    let mut i: usize = 0;
-    while i < count {
-        at = reply_text::tag_line(out, at, tags[i], labels[i]);
-        i += 1;
+    for (tag, label) in tags.iter().zip(labels) {
+        reply_text::tag_line(out, *tag, *label);
     }
-    at
 }
 
 // All of a listing: its tags, then `end` and how many.
-pub fn listed(found: &[u32], labels: &[u32], count: u32, out: &mut [u8]) -> usize
-    requires { ListingRoom found.now labels.now count out.old }
-    ensures { Written out.old 0 (tag_lines (take count found.now) (take count labels.now) ++ end_line count) out.new result }
+pub fn listed(tags: &[u32], labels: &[u32], out: &mut Reply)
+    requires { ListingRoom (length tags.now) out.old }
+    ensures { out.new ≡ out.old ++ (tag_lines tags.now labels.now ++ end_line (length tags.now)) }
 {
-    let at = tag_lines(found, labels, count as usize, out);
-    reply_text::end_line(out, at, count)
+    tag_lines(tags, labels, out);
+    reply_text::end_line(out, tags.len() as u32);
 }

@@ -1,72 +1,62 @@
 // A session over an input that comes in pieces: a line is put together until its line feed comes, then answered.
-ghost use Rattle.std.specs.Prelude.{◌≡◌, ◌≤◌, length, take, drop};
-ghost use Rattle.reply_text.specs.Post.{Written};
+ghost use Rattle.std.specs.Prelude.{◌≡◌, []};
 ghost use Rattle.line_reader.specs.Reads.{last_line};
-ghost use Rattle.interpreter.specs.Answer.{line_text, line_words};
 ghost use Rattle.interpreter.specs.Session.{texts, words_behind, Steps};
 
 use crate::reply::answer;
-use crate::{LINE_BUFFER, OUT_SIZE};
+use crate::{Line, Reply};
 
-// Where the next step begins, how many bytes of a line are in hand, and how long the text to print is.
-#[derive(Clone, Copy)]
-pub struct Progress {
-    pub at: usize,
-    pub held: usize,
-    pub text: usize,
+// A lent store, a line in hand, and what is to be printed for the last line that was answered.
+#[derive(Drop)]
+pub struct Session<'a> {
+    pub words: &'a mut [u32],
+    pub line: Line,
+    pub text: Reply,
 }
 
-// The front of a buffer, as a line.
-fn answer_front(line: &[u8], held: usize, words: &mut [u32], out: &mut [u8; OUT_SIZE]) -> usize
-    requires { held ≤ length line.now }
-    ensures words { words.new ≡ line_words (take held line.now) words.old }
-    ensures text { Written out.old 0 (line_text (take held line.now) words.old) out.new result }
-{
-    answer(&line[..held], words, out)
-}
+impl<'a> Session<'a> {
+    // Nothing is in hand, and nothing is to be printed.
+    pub fn new(words: &'a mut [u32]) -> Self
+        ensures same_reference { result.words.ghost_name ≡ words.entry.ghost_name }
+        ensures words { result.words.now ≡ words.old }
+        ensures line { result.line ≡ [] }
+        ensures text { result.text ≡ [] }
+    {
+        Session {
+            words,
+            line: Line::new(),
+            text: Reply::new(),
+        }
+    }
 
-// From a place of a piece to behind its next line feed, where the line is answered; to the piece's end where there is none.
-pub fn step(
-    piece: &[u8],
-    from: usize,
-    line: &mut [u8; LINE_BUFFER],
-    held: usize,
-    words: &mut [u32],
-    out: &mut [u8; OUT_SIZE],
-) -> Progress
-    ensures { Steps (take held line.old) (drop from piece.now) words.old from line.new words.new out.old out.new result.at result.held result.text }
-{
-    let g = line_reader::gather(piece, from, line, held);
-    let at = g.at;
-    let h = g.held;
-    if piece.len() <= at {
-        return Progress {
-            at,
-            held: h,
-            text: 0,
-        };
+    // From a piece's front to after its first line feed, where the line is answered; to the piece's end, with nothing to print,
+    // where there is none. How many bytes of the piece that is.
+    pub fn step(&mut self, piece: &[u8]) -> usize
+        ensures same_reference { self.new.words.ghost_name ≡ self.old.words.ghost_name }
+        ensures steps { Steps self.old.line piece.now self.old.words.now self.new.line self.new.words.now self.new.text result }
+    {
+        let taken = line_reader::gather(piece, &mut self.line);
+        if taken == piece.len() {
+            self.text.clear();
+            return taken;
+        }
+        let Session { words, line, text } = self;
+        answer(line.as_slice(), words, text);
+        line.clear();
+        taken + 1
     }
-    let text = answer_front(line, h, words, out);
-    Progress {
-        at: at + 1,
-        held: 0,
-        text,
-    }
-}
 
-// The end of the input: what is in hand is a line, where it has a byte.
-pub fn finish(
-    line: &[u8; LINE_BUFFER],
-    held: usize,
-    words: &mut [u32],
-    out: &mut [u8; OUT_SIZE],
-) -> usize
-    ensures words { words.new ≡ words_behind words.old (last_line (take held line.now)) }
-    ensures text { Written out.old 0 (texts words.old (last_line (take held line.now))) out.new result }
-{
-    if held == 0 {
-        return 0;
+    // The end of the input: what is in hand is a line, where it has a byte.
+    pub fn finish(&mut self)
+        ensures same_reference { self.new.words.ghost_name ≡ self.old.words.ghost_name }
+        ensures line { self.new.line ≡ self.old.line }
+        ensures words { self.new.words.now ≡ words_behind self.old.words.now (last_line self.old.line) }
+        ensures text { self.new.text ≡ texts self.old.words.now (last_line self.old.line) }
+    {
+        let Session { words, line, text } = self;
+        match line.as_slice() {
+            [] => text.clear(),
+            last => answer(last, words, text),
+        }
     }
-    let h = line_reader::within(held, line);
-    answer_front(line, h, words, out)
 }

@@ -5,30 +5,33 @@
 ghost use Rattle.std.specs.Prelude.{◌≡◌, [], ◌∷◌, map, ◌+◌, ◌≤◌, length};
 ghost use Rattle.std.proofs.lemmas.List.Edits.{sets};
 ghost use Rattle.lists.specs.Fronts.{in_front};
+ghost use Rattle.store_types.specs.Replies.{numbered, refusal_in};
 ghost use Rattle.calls.specs.Store.{label};
 ghost use Rattle.calls.specs.Replies.{refusal_over, said, list_reply, list_tags, list_labels};
 ghost use Rattle.store_refuse.specs.Needs.{TagSaid};
 ghost use Rattle.list_call.specs.Needs.{SpanSaid, unmarked, unmarked_between, inside_refusal, first_inside, stop_of, short};
 
-use store_types::{ListReply, TagId, refusals};
+use store_types::{Refusal, TagId};
 
 // List: the unmarked tags strictly inside a section or, from the front, of the whole book, with their labels.
-pub fn list(begin: TagId, words: &[u32], tags: &mut [u32], labels: &mut [u32]) -> ListReply
-    ensures reply { result ≡ list_reply begin.0 words.now tags.old labels.old }
+pub fn list(
+    begin: TagId,
+    words: &[u32],
+    tags: &mut [u32],
+    labels: &mut [u32],
+) -> Result<u32, Refusal>
+    ensures reply { numbered result ≡ list_reply begin.0 words.now tags.old labels.old }
     ensures tags { tags.new ≡ list_tags begin.0 words.now tags.old labels.old }
     ensures labels { labels.new ≡ list_labels begin.0 words.now tags.old labels.old }
 {
-    let refusal = inside_refused(begin, words);
-    if refusal != 0 {
-        return ListReply::Refused(refusal);
-    }
+    check_inside(begin, words)?;
     let from = first_inside(begin, words);
     let to = stop_of(begin, words);
     if too_short(from, to, words, tags.len(), labels.len()) {
-        return ListReply::Refused(refusals::LIST_TOO_SHORT);
+        return Err(Refusal::ListTooShort);
     }
     let count = write_between(from, to, words, tags, labels);
-    ListReply::Listed(count as u32)
+    Ok(count as u32)
 }
 
 // Whether one of the two lent lists, of these lengths, has no room for what is to be listed.
@@ -45,24 +48,24 @@ fn too_short(from: TagId, to: TagId, words: &[u32], tags: usize, labels: usize) 
 }
 
 // All refusals but 11; the front is allowed.
-fn inside_refused(begin: TagId, words: &[u32]) -> u32
-    ensures { result ≡ refusal_over words.now (inside_refusal begin.0) }
+fn check_inside(begin: TagId, words: &[u32]) -> Result<(), Refusal>
+    ensures { refusal_in result ≡ refusal_over words.now (inside_refusal begin.0) }
 {
-    let first = store_refuse::words_refused(words);
-    if first != 0 || begin.is_none() {
-        return first;
+    store_refuse::check_words(words)?;
+    if begin.is_none() {
+        return Ok(());
     }
     if words::count_of(words) <= begin.0 {
-        return refusals::NO_SUCH_TAG;
+        return Err(Refusal::NoSuchTag);
     }
     let kind = words::kind_of(words, begin);
     if words::MARK <= kind {
-        return refusals::TAG_MARKED;
+        return Err(Refusal::TagMarked);
     }
     if kind != words::KIND_BEGIN {
-        return refusals::NOT_A_SECTION;
+        return Err(Refusal::NotASection);
     }
-    0
+    Ok(())
 }
 
 // Where the passes start: the first tag of the book, or the tag behind a begin.
@@ -94,7 +97,7 @@ fn count_between(from: TagId, to: TagId, words: &[u32]) -> usize
 {
     let mut x = from;
     let mut count: usize = 0;
-    while !x.same(to) {
+    while x != to {
         count += count_unmarked(x, words);
         x = words::next_of(words, x);
     }
@@ -121,15 +124,15 @@ fn write_between(
     labels: &mut [u32],
 ) -> usize
     requires span_said { SpanSaid words.now from.0 to.0 }
-    requires to_in_bounds { length (unmarked_between (said words.now) from.0 to.0) ≤ length tags.old }
-    requires to_in_bounds_2 { length (unmarked_between (said words.now) from.0 to.0) ≤ length labels.old }
+    requires tags_room { length (unmarked_between (said words.now) from.0 to.0) ≤ length tags.old }
+    requires labels_room { length (unmarked_between (said words.now) from.0 to.0) ≤ length labels.old }
     ensures tags { tags.new ≡ in_front (unmarked_between (said words.now) from.0 to.0) tags.old }
     ensures labels { labels.new ≡ in_front (map (label (said words.now)) (unmarked_between (said words.now) from.0 to.0)) labels.old }
     ensures count { result ≡ length (unmarked_between (said words.now) from.0 to.0) }
 {
     let mut x = from;
     let mut i: usize = 0;
-    while !x.same(to) {
+    while x != to {
         i = write_unmarked(x, words, i, tags, labels);
         x = words::next_of(words, x);
     }
@@ -145,8 +148,8 @@ fn write_unmarked(
     labels: &mut [u32],
 ) -> usize
     requires tag_said { TagSaid words.now tag.0 }
-    requires tag_in_bounds { i + length (unmarked (said words.now) (tag.0 ∷ [])) ≤ length tags.old }
-    requires tag_in_bounds_2 { i + length (unmarked (said words.now) (tag.0 ∷ [])) ≤ length labels.old }
+    requires tags_room { i + length (unmarked (said words.now) (tag.0 ∷ [])) ≤ length tags.old }
+    requires labels_room { i + length (unmarked (said words.now) (tag.0 ∷ [])) ≤ length labels.old }
     ensures next { result ≡ i + length (unmarked (said words.now) (tag.0 ∷ [])) }
     ensures tags { tags.new ≡ sets tags.old i (unmarked (said words.now) (tag.0 ∷ [])) }
     ensures labels { labels.new ≡ sets labels.old i (map (label (said words.now)) (unmarked (said words.now) (tag.0 ∷ []))) }

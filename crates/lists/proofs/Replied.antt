@@ -3,8 +3,10 @@ use mathlib.Core.Path.{◌≡◌, refl}
 use mathlib.Core.Bool.{Bool, true, false, cond}
 use mathlib.Core.List.{List, [], ◌∷◌, head_d}
 use Prim.Native.Nat.{ℕ, zero, suc, ◌≤◌}
+use native.Mathlib.Omega.{arith}
 use lib.Dec.{eqb, eqb-suc-zero}
 use lib.ListN.{length}
+use Rattle.std.specs.Prelude.{Result, Ok, Err}
 use Rattle.lists.specs.Fronts.{replied, written}
 use Rattle.lists.proofs.Fronts.{length_in_front}
 
@@ -37,6 +39,12 @@ module _ {A : Type 0} (f : ℕ → A) where
   unfolding replied head_d
   first_number numbers zero a refused fine = fine
   first_number numbers (suc k) a refused fine = rw (refused (suc k))
+
+-- A REPLY that is an answer, or the number of a refusal: where it is an answer, nothing was refused, and the answer is the accepted one
+pub replied_answer : {A : Type 0} (k : ℕ) (a b : A) → ◌≡◌ {A = Result A ℕ} (replied Err k (Ok a)) (Ok b) → (k ≡ 0) × (a ≡ b)
+unfolding replied
+replied_answer zero a b e = (refl, cc)
+replied_answer (suc k) a b e = absurd (let z : ◌≡◌ {A = ℕ} 0 1 = cc in omega arith)
 
 -- THE WORDS AFTER A CALL: refused as they were, and in any case as many as before
 pub written_refused : (k : ℕ) (new old : List ℕ) → (k ≡ 0 → ⊥) → old ≡ written k new old

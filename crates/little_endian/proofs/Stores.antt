@@ -1,13 +1,14 @@
 -- Numbers in bytes as code reads and stores them: flat sums of bytes, runs of stores, and words stored one behind the other.
 -- Assumes nothing.
 use mathlib.Core.Path.{◌≡◌, refl, ap, ◌∙◌}
-use mathlib.Core.List.{List, [], ◌∷◌, ◌++◌, flat_map}
-use Prim.Native.Nat.{ℕ, suc, ◌+◌, ◌*◌, ◌/◌, ◌%◌, ◌≤◌, ◌<◌}
+use mathlib.Core.List.{List, [], ◌∷◌, ◌++◌, append_assoc, flat_map}
+use Prim.Native.Nat.{ℕ, suc, ◌+◌, ◌*◌, ◌-◌, ◌/◌, ◌%◌, ◌≤◌, ◌<◌}
 use native.Mathlib.Nat.{add-zero, div-div-eq-div-mul}
 use native.Mathlib.Numerals.{add-one}
 use native.Mathlib.Omega.{arith}
-use lib.ListN.{length, get_or, set, drop, length-append}
-use lib.Seq.{drop-cons, drop-drop, drop-length, get_or-drop, sets, length-sets}
+use lib.ListN.{length, get_or, drop, length-append}
+use borrow.Rule.Slice.PartMut.{put_mid}
+use lib.Seq.{sets-eq, drop-cons, drop-drop, drop-length, get_or-drop, sets, length-sets}
 use Rattle.lists.proofs.Sets.{sets_append}
 use Rattle.little_endian.specs.Numbers.{byte_limit, low_first, number_in}
 use Rattle.little_endian.proofs.Numbers.{length_low}
@@ -22,10 +23,10 @@ unfolding number_in
 number_last bs at = number_step 0 bs at ∙ omega arith
 
 module _ (bs : List ℕ) (at : ℕ) where
-  pub two_read : get_or bs at 0 + 256 * get_or bs (at + 1) 0 ≡ number_in 2 (drop at bs)
+  pub two_read : get_or bs at 0 + get_or bs (at + 1) 0 * 256 ≡ number_in 2 (drop at bs)
   two_read = omega (arith, number_step 1 bs at, number_last bs (at + 1))
 
-  pub four_read : get_or bs at 0 + 256 * get_or bs (at + 1) 0 + 65536 * get_or bs (at + 2) 0 + 16777216 * get_or bs (at + 3) 0 ≡ number_in 4 (drop at bs)
+  pub four_read : get_or bs at 0 + get_or bs (at + 1) 0 * 256 + get_or bs (at + 2) 0 * 65536 + get_or bs (at + 3) 0 * 16777216 ≡ number_in 4 (drop at bs)
   four_read =
       let third : at + 1 + 1 ≡ at + 2 = omega arith in
       let fourth : at + 2 + 1 ≡ at + 3 = omega arith in
@@ -37,20 +38,20 @@ module _ (bs : List ℕ) (at : ℕ) where
         number_last bs (at + 3),
       )
 
--- A WRITER: byte by byte from a place on
-module _ (bs : List ℕ) (at v : ℕ) where
-  pub two_put : set (set bs at (v % 256)) (at + 1) (v / 256 % 256) ≡ sets bs at (low_first 2 v)
-  unfolding low_first
-  two_put = let second : at + 1 ≡ suc at = omega arith in rw second
+-- A WRITER: the bytes that the library gives are these, and a part written over is its bytes stored one after the other
+pub two_low : (v : ℕ) → (v % 256 ∷ v / 256 % 256 ∷ []) ≡ low_first 2 v
+unfolding low_first
+two_low v = refl
 
-  pub four_put :
-      set (set (set (set bs at (v % 256)) (at + 1) (v / 256 % 256)) (at + 2) (v / 65536 % 256)) (at + 3) (v / 16777216 % 256) ≡ sets bs at (low_first 4 v)
-  unfolding low_first
-  four_put =
-      let second : at + 1 ≡ suc at = omega arith in
-      let third : at + 2 ≡ suc (suc at) = omega arith in
-      let fourth : at + 3 ≡ suc (suc (suc at)) = omega arith in
-      rw (second, third, fourth, div-div-eq-div-mul v 256 256, div-div-eq-div-mul v 65536 256)
+pub four_low : (v : ℕ) → (v % 256 ∷ v / 256 % 256 ∷ v / 65536 % 256 ∷ v / 16777216 % 256 ∷ []) ≡ low_first 4 v
+unfolding low_first
+four_low v = rw (div-div-eq-div-mul v 256 256, div-div-eq-div-mul v 65536 256)
+
+pub part_put : (bs : List ℕ) (at n v : ℕ) {us : List ℕ} → us ≡ low_first n v → at + n ≤ length bs → put_mid at (at + n - at) bs us ≡ sets bs at (low_first n v)
+part_put bs at n v e l =
+    let long : at + n - at ≡ n = omega arith in
+    let end : at + length (low_first n v) ≤ length bs = rw length_low l in
+    rw (e, long, sets-eq (low_first n v) bs at end, length_low, drop-drop, append_assoc)
 
 -- so many bytes of many numbers
 pub length_numbers_in : (k : ℕ) (vs : List ℕ) → length (flat_map (low_first k) vs) ≡ k * length vs
@@ -65,30 +66,27 @@ pub stored_behind : (us vs bs : List ℕ) (at m : ℕ) {cs ds : List ℕ} → le
 stored_behind us vs bs at m long first second = second ∙ rw (first, ← long) (sets_append us vs bs at)
 
 -- WORDS vs STORED from a place on: at the i-th, what is left to store comes to the whole
-pub record Putting (bs₀ : List ℕ) (at : ℕ) (vs bs : List ℕ) (place i : ℕ) : Type 0 where
-  pub among : i ≤ length vs
-  pub here : place ≡ at + 4 * i
+pub record Putting (bs₀ : List ℕ) (at : ℕ) (vs bs : List ℕ) (i : ℕ) : Type 0 where
   pub long : length bs ≡ length bs₀
-  pub rest : sets bs place (flat_map (low_first 4) (drop i vs)) ≡ sets bs₀ at (flat_map (low_first 4) vs)
+  pub rest : sets bs (at + 4 * i) (flat_map (low_first 4) (drop i vs)) ≡ sets bs₀ at (flat_map (low_first 4) vs)
 
-pub putting_first : (bs : List ℕ) (at : ℕ) (vs : List ℕ) → Putting bs at vs bs at 0
-putting_first bs at vs = record { among = omega arith; here = omega arith; long = refl; rest = refl }
+pub putting_first : (bs : List ℕ) (at : ℕ) (vs : List ℕ) → Putting bs at vs bs 0
+putting_first bs at vs = record { long = refl; rest = rw (add-zero at) }
 
-module _ {bs₀ : List ℕ} {at : ℕ} {vs bs : List ℕ} {place i : ℕ} (h : Putting bs₀ at vs bs place i) where
-  pub putting_turn : {cs : List ℕ} → i < length vs → cs ≡ sets bs place (low_first 4 (get_or vs i 0)) → Putting bs₀ at vs cs (place + 4) (i + 1)
+module _ {bs₀ : List ℕ} {at : ℕ} {vs bs : List ℕ} {i : ℕ} (h : Putting bs₀ at vs bs i) where
+  pub putting_turn : {cs : List ℕ} → i < length vs → cs ≡ sets bs (at + 4 * i) (low_first 4 (get_or vs i 0)) → Putting bs₀ at vs cs (i + 1)
   unfolding flat_map
   putting_turn {cs} l put =
       let one = low_first 4 (get_or vs i 0) in
       let more = flat_map (low_first 4) (drop (i + 1) vs) in
       let cut : drop i vs ≡ get_or vs i 0 ∷ drop (i + 1) vs = rw add-one (drop-cons vs i 0 l) in
-      let all : sets bs place (one ++ more) ≡ sets bs₀ at (flat_map (low_first 4) vs) = rw cut at h.rest in
+      let next : at + 4 * (i + 1) ≡ at + 4 * i + 4 = omega arith in
+      let all : sets bs (at + 4 * i) (one ++ more) ≡ sets bs₀ at (flat_map (low_first 4) vs) = rw cut at h.rest in
       record {
-        among = omega arith;
-        here = omega (arith, h.here);
-        long = ap length put ∙ length-sets bs place one ∙ h.long;
-        rest = rw put (rw (length_low 4 (get_or vs i 0)) at (sets_append one more bs place) ∙ all);
+        long = ap length put ∙ length-sets bs (at + 4 * i) one ∙ h.long;
+        rest = rw (put, next) (rw (length_low 4 (get_or vs i 0)) at (sets_append one more bs (at + 4 * i)) ∙ all);
       }
 
-  pub putting_end : length vs ≤ i → bs ≡ sets bs₀ at (flat_map (low_first 4) vs)
+  pub putting_end : length vs ≤ i → i ≤ length vs → bs ≡ sets bs₀ at (flat_map (low_first 4) vs)
   unfolding flat_map
-  putting_end l = let all : i ≡ length vs = omega (arith, h.among) in rw (all, drop-length vs) at h.rest
+  putting_end l most = let all : i ≡ length vs = omega arith in rw (all, drop-length vs) at h.rest

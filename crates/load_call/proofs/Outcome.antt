@@ -9,7 +9,6 @@ use borrow.Author.Tests.{ltb-false, not-false}
 use lib.Dec.{ltb}
 use lib.ListN.{length, drop}
 use Rattle.store_types.specs.Limits.{most_tags}
-use Rattle.store_types.specs.declared.LoadReply.TheVariants as load
 use Rattle.store_types.specs.Layout.{header_words, words_for}
 use Rattle.words.proofs.Fields.{header_fits}
 use Rattle.tree.specs.Book.{load_under, loaded}
@@ -37,6 +36,11 @@ use Rattle.load_call.specs.Header.{header_new}
 use Rattle.load_tags.proofs.Filling.{count_new}
 use Rattle.load_call.proofs.Fresh.{fresh_words}
 use Rattle.load_call.proofs.Loaded.{table_fits, trees_fit, loaded_words}
+use Rattle.std.specs.Prelude.{Result, Ok, Err}
+use Rattle.store_types.specs.declared.Loaded.{Loaded}
+use Rattle.store_types.specs.declared.refusal.Refusal.{Refusal}
+use Rattle.store_types.specs.Replies.{load_made, number_of, numbered, refusal_in}
+use Rattle.store_types.proofs.Replies.{some_number}
 
 -- THE TESTS BEFORE THE LAST, passed; the last one is then the refusal
 pub record Passed (w s r : ℕ) (cs : List ℕ) : Type 0 where
@@ -84,9 +88,16 @@ module _ (w s r : ℕ) (cs : List ℕ) where
 
 -- REFUSED: the reply is the refusal, and the words are as they were
 pub refused_with : (s r b : ℕ) (cs ws : List ℕ) (q : ℕ) → load_refusal (length ws) s r cs ≡ q → (q ≡ 0 → ⊥) →
-    (load.Refused q ≡ load_reply s r b cs ws) × (ws ≡ load_words s r b cs ws)
+    (Err q ≡ load_reply s r b cs ws) × (ws ≡ load_words s r b cs ws)
 unfolding load_reply load_words written
-refused_with s r b cs ws q e some = rw e (replied_refused load.Refused q _ some, replied_refused (λ _. ws) q _ some)
+refused_with s r b cs ws q e some = rw e (replied_refused Err q _ some, replied_refused (λ _. ws) q _ some)
+
+-- so where one of the tests before the last refuses, whose refusal `?` gives on
+pub refused_early : (s r b : ℕ) (cs ws : List ℕ) (A : Type 0) (e : Refusal) → refusal_in {A = A} (Err e) ≡ refusal_before (length ws) s r cs → (p : Result Loaded Refusal) →
+    p ≡ Err e → (numbered p ≡ load_reply s r b cs ws) × (ws ≡ load_words s r b cs ws)
+unfolding numbered refusal_in
+refused_early s r b cs ws A e told p same =
+    rw same (refused_with s r b cs ws (number_of e) (early (length ws) s r cs (number_of e) (sym told) (some_number e)) (some_number e))
 
 -- the header has room, and behind it the tags
 pub header_room : {w s r : ℕ} {cs : List ℕ} → Passed w s r cs → header_words ≤ w
@@ -103,7 +114,7 @@ tags_fit s r u b cs ws hs h e =
 
 -- ACCEPTED, where u is the height of the root's children
 module _ (s r b : ℕ) (cs ws : List ℕ) (u : ℕ) (height : u ≡ load_under r (length cs)) (none : load_refusal (length ws) s r cs ≡ 0) where
-  pub accepted_reply : load.Loaded (length cs) (u + 1) ≡ load_reply s r b cs ws
+  pub accepted_reply : Ok (load_made (length cs) (u + 1)) ≡ load_reply s r b cs ws
   unfolding load_reply replied loaded
   accepted_reply = rw (none, height, add-one)
 

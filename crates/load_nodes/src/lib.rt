@@ -24,10 +24,8 @@ pub fn first_begins(n: u64, under: usize, lows: &[u64; TABLE_LENGTH]) -> [u64; T
     ensures { FirstBegins n under lows.now result }
 {
     let mut begins = [n; TABLE_LENGTH];
-    let mut j: usize = 0;
-    while j < under {
+    for j in 0..under {
         begins[j] = next_begin(0, n, lows[j]);
-        j += 1;
     }
     begins
 }
@@ -39,10 +37,8 @@ pub fn gaps(r: u64, under: usize, widths: &[u64; TABLE_LENGTH]) -> [u64; TABLE_L
     ensures { GapsOf r under widths.now result }
 {
     let mut gaps = [0u64; TABLE_LENGTH];
-    let mut h: usize = 0;
-    while h < under {
+    for h in 0..under {
         gaps[h] = widths[h + 1] - r * widths[h];
-        h += 1;
     }
     gaps
 }
@@ -61,14 +57,12 @@ pub fn begin_nodes(
     ensures begins { begins.new ≡ (begun table_length 0 gaps.now lows.now n i label begins.old).begins }
 {
     let mut at = label;
-    let mut j: usize = 0;
-    while j < TABLE_LENGTH {
+    for j in 0..TABLE_LENGTH {
         if begins[j] != i {
             return at;
         }
         at = shape::sum(at, gaps[j]);
         begins[j] = next_begin(i, n, lows[j]);
-        j += 1;
     }
     at
 }

@@ -1,11 +1,12 @@
 -- The kinds of a load, seen one after the other: what is left to see decides 4 and 5 as the whole does. Assumes nothing.
 use mathlib.Core.Path.{◌≡◌, refl}
-use mathlib.Core.Bool.{true, false, not, cond}
+use mathlib.Core.Bool.{Bool, true, false, not, cond}
 use mathlib.Core.List.{List, [], ◌∷◌, map}
 use Prim.Native.Nat.{ℕ, zero, suc, ◌+◌, ◌-◌, ◌≤◌, ◌<◌}
 use native.Mathlib.Numerals.{add-one, sub-one}
 use native.Mathlib.Omega.{arith}
 use borrow.Author.Tests.{eqb-true}
+use Rattle.std.specs.List.{list_all}
 use lib.Dec.{eqb}
 use lib.ListN.{length, get_or, drop, drop_of_length-le}
 use lib.Seq.{drop-cons}
@@ -38,16 +39,22 @@ next_kind cs i l = rw (add-one, drop-cons cs i 0)
 none_left : (cs : List ℕ) (i : ℕ) → length cs ≤ i → drop i cs ≡ []
 none_left cs i l = drop_of_length-le cs l
 
--- THE KINDS THAT ARE LEFT behind an end that closes none
+-- THE KINDS AFTER an end that closes none: whether all are kinds, as they are tested one after the other
+all_tested : (cs : List ℕ) → all_kinds cs ≡ list_all is_kind cs
+unfolding all_kinds
+all_tested [] = refl
+all_tested (c ∷ cs) = rw (all_tested cs)
+
+pub rest_told : (cs : List ℕ) (t : Bool) → t ≡ list_all is_kind cs → rest_refusal cs ≡ cond t 5 4
+unfolding rest_refusal
+rest_told cs t e = rw (all_tested cs, ← e) (go t)
+  where
+    go : (t : Bool) → ◌≡◌ {A = ℕ} (cond (not t) 4 5) (cond t 5 4)
+    go true = refl
+    go false = refl
+
+-- THE KINDS THAT ARE LEFT at one of them
 module _ (cs : List ℕ) (i : ℕ) (inside : i < length cs) where
-  pub rest_stops : is_kind (get_or cs i 0) ≡ false → rest_refusal (drop i cs) ≡ 4
-  unfolding rest_refusal all_kinds
-  rest_stops e = rw (next_kind cs i inside, e)
-
-  pub rest_goes : is_kind (get_or cs i 0) ≡ true → rest_refusal (drop i cs) ≡ rest_refusal (drop (i + 1) cs)
-  unfolding rest_refusal all_kinds
-  rest_goes e = rw (next_kind cs i inside, e)
-
   -- where d begins are open
   pub kinds_stop : (d : ℕ) → is_kind (get_or cs i 0) ≡ false → kinds_refusal d (drop i cs) ≡ 4
   unfolding kinds_refusal kinds_tests first all_kinds
@@ -61,10 +68,6 @@ module _ (cs : List ℕ) (i : ℕ) (inside : i < length cs) where
       kinds_refusal d (drop i cs) ≡ kinds_refusal (depth_after (kind_of (get_or cs i 0)) d) (drop (i + 1) cs)
   unfolding kinds_refusal kinds_tests first all_kinds
   kinds_go d e some = rw (next_kind cs i inside, e, nests_goes d (get_or cs i 0) (map kind_of (drop (i + 1) cs)) some)
-
-pub rest_ends : (cs : List ℕ) (i : ℕ) → length cs ≤ i → rest_refusal (drop i cs) ≡ 5
-unfolding rest_refusal all_kinds
-rest_ends cs i l = rw (none_left cs i l)
 
 pub kinds_end : (d : ℕ) (cs : List ℕ) (i : ℕ) → length cs ≤ i → kinds_refusal d (drop i cs) ≡ cond (not (eqb d 0)) 5 0
 unfolding kinds_refusal kinds_tests first all_kinds nests

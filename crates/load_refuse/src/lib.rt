@@ -2,11 +2,12 @@
 #![tactic(auto)]
 
 ghost use Rattle.std.specs.Prelude.{◌≡◌, true, cond, ◌<◌, ◌≤◌, eqb, length, drop};
-ghost use Rattle.tree.specs.Book.{load_under as least_Under};
+ghost use Rattle.store_types.specs.Replies.{number_of, refusal_in};
+ghost use Rattle.tree.specs.Book.{load_under as least_height_under};
 ghost use Rattle.calls.specs.Kind.{is_kind, kind_of, depth_after};
 ghost use Rattle.load_refuse.specs.Refusals.{HeightFits, kinds_refusal, rest_refusal, refusal_before};
 
-use store_types::{BEGIN, MOST_TAGS, TEXT, refusals};
+use store_types::{BEGIN, MOST_TAGS, Refusal, TEXT};
 
 const MOST_KINDS: usize = MOST_TAGS as usize;
 
@@ -16,19 +17,15 @@ fn is_a_kind(kind: u8) -> bool
     BEGIN <= kind && kind <= TEXT
 }
 
-// 4 where a kind from there on is none, else 5: an end before them closes no begin.
-fn rest_refused(kinds: &[u8], from: usize) -> u32
-    requires { from ≤ length kinds.now }
-    ensures { result ≡ rest_refusal (drop from kinds.now) }
+// Of the kinds after an end that closes no begin: 4 where one of them is none, else 5.
+fn rest_refusal(rest: &[u8]) -> Refusal
+    ensures { number_of result ≡ rest_refusal rest.now }
 {
-    let mut i = from;
-    while i < kinds.len() {
-        if !is_a_kind(kinds[i]) {
-            return refusals::KIND;
-        }
-        i += 1;
+    if rest.iter().all(|kind| is_a_kind(*kind)) {
+        Refusal::Nesting
+    } else {
+        Refusal::Kind
     }
-    refusals::NESTING
 }
 
 // 1 for an end, 0 for a begin or text: a number to reckon with, since no processor can foretell the kinds of a book.
@@ -48,53 +45,50 @@ fn depth_after(depth: usize, kind: u8) -> usize
     depth + begins - ends(kind)
 }
 
-// 4 and 5: a kind that is none, kinds that do not nest; 0 where there is neither.
-pub fn kinds_refused(kinds: &[u8]) -> u32
-    ensures { result ≡ kinds_refusal 0 kinds.now }
+// 4 and 5: a kind that is none, kinds that do not nest.
+pub fn check_kinds(kinds: &[u8]) -> Result<(), Refusal>
+    ensures { refusal_in result ≡ kinds_refusal 0 kinds.now }
 {
     let mut depth: usize = 0;
-    let mut i: usize = 0;
-    while i < kinds.len() {
-        let kind = kinds[i];
+    for (i, &kind) in kinds.iter().enumerate() {
         if !is_a_kind(kind) {
-            return refusals::KIND;
+            return Err(Refusal::Kind);
         }
         if depth < ends(kind) {
             // An end that closes none. 4 comes before 5, so the kinds that are left decide.
-            return rest_refused(kinds, i + 1);
+            return Err(rest_refusal(&kinds[i + 1..]));
         }
         depth = depth_after(depth, kind);
-        i += 1;
     }
     if depth != 0 {
-        return refusals::NESTING;
+        return Err(Refusal::Nesting);
     }
-    0
+    Ok(())
 }
 
-// 3, 6, 1, 4 and 5, in this order; 0 where there is none of them.
-pub fn refused(room: usize, s: u32, r: u32, kinds: &[u8]) -> u32
-    ensures { result ≡ refusal_before room s r kinds.now }
+// 3, 6, 1, 4 and 5, in this order.
+pub fn check_load(room: usize, s: u32, r: u32, kinds: &[u8]) -> Result<(), Refusal>
+    ensures { refusal_in result ≡ refusal_before room s r kinds.now }
 {
     if !shape::degree_fits(s) {
-        return refusals::DEGREE;
+        return Err(Refusal::Degree);
     }
     if !shape::degree_fits(r) {
-        return refusals::DEGREE;
+        return Err(Refusal::Degree);
     }
     if MOST_KINDS < kinds.len() {
-        return refusals::TOO_MANY_TAGS;
+        return Err(Refusal::TooManyTags);
     }
     if room < words::words_for(kinds.len()) {
-        return refusals::TOO_FEW_WORDS;
+        return Err(Refusal::TooFewWords);
     }
-    kinds_refused(kinds)
+    check_kinds(kinds)
 }
 
 // The height of the root's children: the smallest h with n < 2 r^(h + 1).
 pub fn load_under(n: u64, r: u64) -> u32
     requires { HeightFits n r }
-    ensures { result ≡ least_Under r n }
+    ensures { result ≡ least_height_under r n }
 {
     let mut h: u32 = 0;
     let mut p = 2 * r;

@@ -205,6 +205,10 @@ book_fits {before} {cs} h =
 pub book_kind : (cs : List ℕ) (x : ℕ) → get_or cs x 0 ≡ get_or cs (x - 0) 0
 book_kind cs x = rw sub-zero
 
+-- and of a row
+pub row_kind : (cs : List ℕ) (x i : ℕ) → get_or cs i 0 ≡ get_or cs (x + i - x) 0
+row_kind cs x i = let same : x + i - x ≡ i = omega arith in rw same
+
 pub book_ends : (cs ls before : List ℕ) → TagsFit before cs → (x : ℕ) (ws : List ℕ) (o d : ℕ) →
     Filling cs (whole_row (length cs)) no_tag 0 (λ i. get_or ls i 0) before x ws o d → x ≡ length cs → TagsWritten before ws cs ls
 unfolding next_number prior_number

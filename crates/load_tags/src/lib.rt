@@ -42,19 +42,10 @@ pub fn write_tags(
         depth: 0,
     };
     let mut label: u64 = 0;
-    let mut i: u32 = 0;
-    while i < n {
+    for (i, kind) in kinds.iter().enumerate() {
         label = load_nodes::begin_nodes(i as u64, n as u64, label, &gaps, &lows, &mut begins);
-        inside = write_tag(
-            words,
-            i,
-            row,
-            kinds[i as usize],
-            Label(label as u32),
-            inside,
-        );
+        inside = write_tag(words, i as u32, row, *kind, Label(label as u32), inside);
         label = shape::sum(label, widths[0]);
-        i += 1;
     }
 }
 
@@ -70,10 +61,8 @@ pub fn write_row(words: &mut [u32], kinds: &[u8], row: Row, up: TagId, depth: u3
         known: false,
         depth,
     };
-    let mut i: u32 = row.first;
-    while i < row.end {
-        let kind = kinds[(i - row.first) as usize];
-        inside = write_tag(words, i, row, kind, Label(NO_LABEL), inside);
-        i += 1;
+    for (i, kind) in kinds.iter().enumerate() {
+        let x = row.first + i as u32;
+        inside = write_tag(words, x, row, *kind, Label(NO_LABEL), inside);
     }
 }

@@ -59,6 +59,10 @@ pub record Turn (n m : ℕ) (ws₀ all ws : List ℕ) (x marked steps k : ℕ) (
   pub new : k ≡ new_mark (field ws x at_kind)
   pub put : vs ≡ mark_one ws x
 
+pub turn : {n m : ℕ} {ws₀ all ws : List ℕ} {x marked steps k : ℕ} {vs : List ℕ} → Left n m ws₀ all ws x marked steps → steps < n → x < n →
+    k ≡ new_mark (field ws x at_kind) → vs ≡ mark_one ws x → Turn n m ws₀ all ws x marked steps k vs
+turn h more tag new put = record { left = h; more = more; tag = tag; new = new; put = put }
+
 module _ {n m : ℕ} {ws₀ all ws : List ℕ} {x marked steps k : ℕ} {vs : List ℕ} (t : Turn n m ws₀ all ws x marked steps k vs) where
   pub turn_few : marked + k ≤ steps + 1
   turn_few = omega (arith, t.new, t.left.few, new_mark_few (field ws x at_kind))

@@ -1,14 +1,12 @@
 -- What mark replies and writes, by the refusal that comes first. Assumes nothing.
-use mathlib.Core.Path.{◌≡◌, ap, sym, ◌∙◌}
+use mathlib.Core.Path.{◌≡◌, ap, ◌∙◌}
 use mathlib.Core.List.{List, ◌++◌}
 use Prim.Native.Nat.{ℕ, ◌+◌, ◌≤◌, ◌<◌}
 use native.Mathlib.Omega.{arith}
 use lib.ListN.{length, set}
 use Rattle.store_types.specs.Limits.{most_tags}
-use Rattle.store_types.specs.declared.MarkReply.TheVariants as reply
 use Rattle.store_types.specs.Layout.{at_count, at_stamp, header_words, word_at, Records}
 use Rattle.lists.specs.Fronts.{in_front, replied, written}
-use Rattle.lists.proofs.Replied.{replied_refused}
 use Rattle.words.proofs.Fields.{header_fits}
 use Rattle.calls.specs.Store.{Store, count}
 use Rattle.calls.specs.Mark.{section_refusal, mark_store, mark_count}
@@ -24,13 +22,7 @@ use Rattle.mark_call.proofs.Each.{length_each, each_header}
 use Rattle.mark_call.proofs.Own.{own_tags}
 use Rattle.mark_call.proofs.Written.{marked_words}
 use Rattle.mark_call.proofs.Counted.{counted}
-
--- REFUSED: the words stay
-pub refused : (x : ℕ) (ws : List ℕ) (k : ℕ) → k ≡ refusal_over ws (section_refusal x) → 0 < k →
-    (reply.Refused k ≡ mark_reply x ws) × (ws ≡ mark_words x ws)
-unfolding mark_reply mark_words written
-refused x ws k e some =
-    let n : k ≡ 0 → ⊥ = λ z. omega arith in rw (← e) (replied_refused reply.Refused k _ n, replied_refused (λ _. ws) k _ n)
+use Rattle.std.specs.Prelude.{Ok}
 
 -- THE SECTION of an unmarked begin or text x: its tags are those that mark goes along, and so mark counts those that
 -- become marked and writes the words of the marked store
@@ -65,10 +57,10 @@ pub record Accepted (x : ℕ) (ws : List ℕ) : Type 0 where
   pub header : header_words ≤ length ws
   pub stamp : word_at ws at_stamp ≤ most_tags + most_tags
 
-pub accepted : (x : ℕ) (ws : List ℕ) {k : ℕ} → k ≡ refusal_over ws (section_refusal x) → k ≡ 0 → Accepted x ws
+pub accepted : (x : ℕ) (ws : List ℕ) → refusal_over ws (section_refusal x) ≡ 0 → Accepted x ws
 unfolding Says
-accepted x ws told none =
-    let p = refusal_passed ws (section_refusal x) (sym told ∙ none) in
+accepted x ws none =
+    let p = refusal_passed ws (section_refusal x) none in
     let h = facts_of (said ws) p.0.0 in
     let head = header_said ws (said ws) p.0 in
     let fit = words_fit ws (said ws) p.0 in
@@ -83,19 +75,18 @@ accepted x ws told none =
 pub record Done (x : ℕ) (ws : List ℕ) (n : ℕ) (vs : List ℕ) : Type 0 where
   pub there : header_words ≤ length vs
   pub same : word_at vs at_stamp ≤ most_tags + most_tags
-  pub replies : (reply.Marked n ≡ mark_reply x ws) × (set vs at_stamp (word_at vs at_stamp + 1) ≡ mark_words x ws)
+  pub replies : (Ok n ≡ mark_reply x ws) × (set vs at_stamp (word_at vs at_stamp + 1) ≡ mark_words x ws)
 
-pub done : (x : ℕ) (ws : List ℕ) {k n : ℕ} {vs : List ℕ} → k ≡ refusal_over ws (section_refusal x) → k ≡ 0 →
+pub done : (x : ℕ) (ws : List ℕ) {n : ℕ} {vs : List ℕ} → refusal_over ws (section_refusal x) ≡ 0 →
     n ≡ count_new ws (tags_of (word_at ws at_count) ws x) → vs ≡ mark_each ws (tags_of (word_at ws at_count) ws x) → Done x ws n vs
 unfolding mark_reply mark_words written replied
-done x ws {vs = vs} told none new put =
-    let before = accepted x ws told none in
+done x ws {vs = vs} none new put =
+    let before = accepted x ws none in
     let tags = tags_of (word_at ws at_count) ws x in
     let same = ap (λ us. word_at us at_stamp) put ∙ each_header ws tags at_stamp (omega arith) in
-    let zero_said = sym told ∙ none in
-    let p = refusal_passed ws (section_refusal x) zero_said in
+    let p = refusal_passed ws (section_refusal x) none in
     record {
       there = omega (arith, before.header, ap length put ∙ length_each ws tags);
       same = omega (arith, before.stamp);
-      replies = rw zero_said (ap reply.Marked (new ∙ count_said ws (said ws) p.0 x p.1), words_said ws (said ws) p.0 x p.1 vs put);
+      replies = rw none (ap Ok (new ∙ count_said ws (said ws) p.0 x p.1), words_said ws (said ws) p.0 x p.1 vs put);
     }

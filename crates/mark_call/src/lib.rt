@@ -3,10 +3,11 @@
 
 ghost use Rattle.std.specs.Prelude.{◌≡◌, ◌<◌};
 ghost use Rattle.store_types.specs.Layout.{at_kind, field, Room, Records};
+ghost use Rattle.store_types.specs.Replies.{numbered};
 ghost use Rattle.calls.specs.Replies.{mark_reply, mark_words};
 ghost use Rattle.mark_call.specs.Run.{new_mark, mark_one, mark_each, count_new, tags_of};
 
-use store_types::{MarkReply, TagId};
+use store_types::{Refusal, TagId};
 
 // One tag is marked: 1 where it was not.
 fn mark_tag(words: &mut [u32], x: TagId) -> u32
@@ -32,29 +33,28 @@ fn mark_section(words: &mut [u32], n: u32, x: TagId) -> u32
     let last = words::mate_of(words, x);
     let mut tag = x;
     let mut marked: u32 = 0;
-    let mut steps: u32 = 0;
-    while steps < n && tag.0 < n {
+    for _ in 0..n {
+        if n <= tag.0 {
+            return marked;
+        }
         marked += mark_tag(words, tag);
-        if tag.same(last) {
+        if tag == last {
             return marked;
         }
         tag = words::next_of(words, tag);
-        steps += 1;
     }
     marked
 }
 
-pub fn mark(tag: TagId, words: &mut [u32]) -> MarkReply
-    ensures reply { result ≡ mark_reply tag.0 words.old }
+// Marks a section: how many tags are marked that were not.
+pub fn mark(tag: TagId, words: &mut [u32]) -> Result<u32, Refusal>
+    ensures reply { numbered result ≡ mark_reply tag.0 words.old }
     ensures words { words.new ≡ mark_words tag.0 words.old }
 {
-    let refusal = store_refuse::section_refused(tag, words);
-    if refusal != 0 {
-        return MarkReply::Refused(refusal);
-    }
+    store_refuse::check_section(tag, words)?;
     let n = words::count_of(words);
     let marked = mark_section(words, n, tag);
     let stamp = words::stamp_of(words);
     words::set_stamp(words, stamp + 1);
-    MarkReply::Marked(marked)
+    Ok(marked)
 }

@@ -34,14 +34,12 @@ pub record Arranging (text ss₀ : List ℕ) (n : ℕ) (hs ss : List ℕ) (i : �
   pub holds : Holds text ss i (names_at text ss₀ i)
   pub left : (j : ℕ) → i ≤ j → get_or ss j 0 ≡ get_or ss₀ j 0
 
-pub arranging_start : (text hs ss : List ℕ) (n : ℕ) → length hs ≡ places → length ss ≡ places → Arranging text ss n hs ss 0
+pub arranging_start : (text hs ss : List ℕ) (n : ℕ) → Arranging text ss n hs ss 0
 unfolding names_at differ among
-arranging_start text hs ss n h s = record {
+arranging_start text hs ss n = record {
   within = omega arith;
   differing = refl;
   index = record {
-    hash_places = h;
-    start_places = s;
     begun = record { room = omega arith; within = λ i l. absurd (omega arith) };
     hashed = λ i l. absurd (omega arith);
     ordered = λ i j l m. absurd (omega arith);

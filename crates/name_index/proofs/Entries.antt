@@ -1,5 +1,5 @@
 -- Entries of an index and a key: compared, searched by halves, and what is found says of the names. Assumes nothing.
-use mathlib.Core.Path.{◌≡◌, refl, sym, ◌∙◌}
+use mathlib.Core.Path.{◌≡◌, refl, ap, sym, ◌∙◌}
 use mathlib.Core.Bool.{Bool, true, false, false≢true}
 use mathlib.Core.List.{List, ◌∷◌}
 use mathlib.Core.Logic.{by_cases}
@@ -12,6 +12,9 @@ use lib.ListN.{get_or, take, drop}
 use Rattle.lists.proofs.Tests.{by_test, fails}
 use Rattle.xml.specs.Grammar.{among}
 use Rattle.xml.specs.Scan.{name_length}
+use Rattle.std.specs.declared.cmp.Ordering.{Ordering}
+use Rattle.std.specs.declared.cmp.Ordering.TheVariants.{Less, Equal, Greater}
+use Rattle.std.specs.Ordering.{ordering_index}
 use Rattle.name_index.specs.Order.{order, hash_of}
 use Rattle.name_index.specs.Index.{name_at, key_at, Index, Holds}
 use Rattle.name_index.specs.Steps.{Entry, Found, Told, Searched}
@@ -20,15 +23,15 @@ use Rattle.name_index.proofs.Orders.{step_less, step_more, step_equal, order_ref
 
 -- an entry's key and another, by their hashes and else by their names
 module _ (text hs ss : List ℕ) (i h : ℕ) (name : List ℕ) where
-  pub key_less : get_or hs i 0 < h → 0 ≡ order (key_at text hs ss i) (h ∷ name)
+  pub key_less : get_or hs i 0 < h → Less ≡ order (key_at text hs ss i) (h ∷ name)
   unfolding order key_at
   key_less l = sym (step_less (get_or hs i 0) h (order (name_at text ss i) name) l)
 
-  pub key_more : h < get_or hs i 0 → 2 ≡ order (key_at text hs ss i) (h ∷ name)
+  pub key_more : h < get_or hs i 0 → Greater ≡ order (key_at text hs ss i) (h ∷ name)
   unfolding order key_at
   key_more l = sym (step_more (get_or hs i 0) h (order (name_at text ss i) name) l)
 
-  pub key_rest : (b r : ℕ) → get_or hs i 0 ≡ h → b ≡ get_or ss i 0 + name_length (drop (get_or ss i 0) text) →
+  pub key_rest : (b : ℕ) (r : Ordering) → get_or hs i 0 ≡ h → b ≡ get_or ss i 0 + name_length (drop (get_or ss i 0) text) →
       r ≡ order (take (b - get_or ss i 0) (drop (get_or ss i 0) text)) name → r ≡ order (key_at text hs ss i) (h ∷ name)
   unfolding order key_at name_at
   key_rest b r e ends o = (rw (name_part text (get_or ss i 0) ends) at o) ∙ sym (step_equal (get_or hs i 0) h (order (name_at text ss i) name) e)
@@ -41,8 +44,8 @@ entry_of {text} {hs} {ss} {n} {i} index l = record { room = omega (arith, index.
 pub record Finding (text hs ss : List ℕ) (n : ℕ) (key : List ℕ) (low high : ℕ) : Type 0 where
   pub rising : low ≤ high
   pub within : high ≤ n
-  pub below : (i : ℕ) → i < low → order (key_at text hs ss i) key ≡ 0
-  pub above : (i : ℕ) → high ≤ i → i < n → order (key_at text hs ss i) key ≡ 0 → ⊥
+  pub below : (i : ℕ) → i < low → order (key_at text hs ss i) key ≡ Less
+  pub above : (i : ℕ) → high ≤ i → i < n → order (key_at text hs ss i) key ≡ Less → ⊥
 
 module _ {text hs ss : List ℕ} {n : ℕ} (index : Index text hs ss n) (key : List ℕ) where
   pub finding_start : Finding text hs ss n key 0 n
@@ -54,7 +57,7 @@ module _ {text hs ss : List ℕ} {n : ℕ} (index : Index text hs ss n) (key : L
   }
 
   module _ {low high : ℕ} (f : Finding text hs ss n key low high) (mid : ℕ) where
-    pub finding_up : mid < high → order (key_at text hs ss mid) key ≡ 0 → Finding text hs ss n key (mid + 1) high
+    pub finding_up : mid < high → order (key_at text hs ss mid) key ≡ Less → Finding text hs ss n key (mid + 1) high
     finding_up m e = record {
       rising = omega arith;
       within = f.within;
@@ -65,7 +68,7 @@ module _ {text hs ss : List ℕ} {n : ℕ} (index : Index text hs ss n) (key : L
       above = f.above;
     }
 
-    pub finding_down : low ≤ mid → mid < high → (order (key_at text hs ss mid) key ≡ 0 → ⊥) → Finding text hs ss n key low mid
+    pub finding_down : low ≤ mid → mid < high → (order (key_at text hs ss mid) key ≡ Less → ⊥) → Finding text hs ss n key low mid
     finding_down l m ne = record {
       rising = l;
       within = omega (arith, f.within);
@@ -83,6 +86,11 @@ module _ {text hs ss : List ℕ} {n : ℕ} (index : Index text hs ss n) (key : L
     above = λ i k b e. f.above i (omega arith) b e;
   }
 
+equal_by_index : (r : Ordering) → ordering_index r ≡ 1 → r ≡ Equal
+equal_by_index Less e = absurd (omega arith)
+equal_by_index Equal e = refl
+equal_by_index Greater e = absurd (omega arith)
+
 module _ {text hs ss : List ℕ} {n : ℕ} (index : Index text hs ss n) (name : List ℕ) (h : ℕ) (e : h ≡ hash_of name) where
   key_equal : (i : ℕ) → i < n → name_at text ss i ≡ name → key_at text hs ss i ≡ h ∷ name
   unfolding key_at
@@ -98,7 +106,7 @@ module _ {text hs ss : List ℕ} {n : ℕ} (index : Index text hs ss n) (name : 
     found_here i l q =
         let k = key_equal i l q in
         by_order i p
-        (λ less. let z : ◌≡◌ {A = ℕ} 1 0 = sym (order_refl (h ∷ name)) ∙ (rw k at (f.below i less)) in absurd (omega arith))
+        (λ less. cc (order_refl (h ∷ name), (rw k at (f.below i less))))
         (λ same. same)
         (λ more. absurd (f.above p (omega arith) (omega arith) (rw k at (index.ordered p i more l))))
 
@@ -109,15 +117,16 @@ module _ {text hs ss : List ℕ} {n : ℕ} (index : Index text hs ss n) (name : 
       told = record { yes = λ t. absurd (false≢true t); no = λ t i l same. let z = found_here i l same in omega arith };
     }
 
-    pub search_told : (r : ℕ) → r ≡ order (key_at text hs ss p) (h ∷ name) → p < n → Searched text hs ss n name h p (eqb r 1)
+    pub search_told : (r : Ordering) → r ≡ order (key_at text hs ss p) (h ∷ name) → p < n → Searched text hs ss n name h p (eqb (ordering_index r) 1)
     search_told r o l = record {
       hash = e;
       found = f;
       told = record {
-        yes = λ t. (p, l, name_equal p (order_equal (key_at text hs ss p) (h ∷ name) (sym o ∙ eqb-true r 1 t)));
+        yes = λ t. (p, l, name_equal p (order_equal (key_at text hs ss p) (h ∷ name) (sym o ∙ equal_by_index r (eqb-true _ _ t))));
         no = λ t i b q.
             let at_p : name_at text ss p ≡ name = rw (found_here i b q) at q in
-            eqb-false r 1 t (o ∙ (rw (key_equal p l at_p) (order_refl (h ∷ name))));
+            let same : r ≡ Equal = o ∙ (rw (key_equal p l at_p) (order_refl (h ∷ name))) in
+            eqb-false _ _ t (ap ordering_index same);
       };
     }
 

@@ -7,6 +7,7 @@ use Prim.Native.Nat.{ℕ, suc, ◌+◌, ◌-◌, ◌<◌, ◌≤◌}
 use native.Mathlib.Omega.{arith}
 use native.Mathlib.Decide.{dec_lt}
 use lib.ListN.{length, get_or, take, drop}
+use Rattle.std.specs.declared.cmp.Ordering.TheVariants.{Less}
 use Rattle.xml.specs.Grammar.{among}
 use Rattle.xml.specs.Scan.{name_length}
 use Rattle.name_index.specs.Order.{order, hash_of}
@@ -58,7 +59,7 @@ module _ {text hs ss hs' ss' : List ℕ} {n h p : ℕ} {t : Bool} (next : Next t
   key_above i k l = rw (ih.above i k l, name_above i k l)
 
   -- the new key comes before each from its place on
-  new_before : (i : ℕ) → p ≤ i → i < n → order (h ∷ name_at text ss n) (key_at text hs ss i) ≡ 0
+  new_before : (i : ℕ) → p ≤ i → i < n → order (h ∷ name_at text ss n) (key_at text hs ss i) ≡ Less
   new_before i k l =
       order_other (key_at text hs ss i) (h ∷ name_at text ss n) (s.found.above i k l)
       (λ e. s.told.no new i l (name_equal next.index (name_at text ss n) h s.hash i (order_equal (key_at text hs ss i) (h ∷ name_at text ss n) e)))
@@ -66,19 +67,19 @@ module _ {text hs ss hs' ss' : List ℕ} {n h p : ℕ} {t : Bool} (next : Next t
   p≤n : p ≤ n
   p≤n = s.found.within
 
-  ordered' : (i : ℕ) → i < suc n → (j : ℕ) → j < suc n → i < j → order (key_at text hs' ss' i) (key_at text hs' ss' j) ≡ 0
+  ordered' : (i : ℕ) → i < suc n → (j : ℕ) → j < suc n → i < j → order (key_at text hs' ss' i) (key_at text hs' ss' j) ≡ Less
   ordered' =
       let index = next.index in
-      by_place (λ i. (j : ℕ) → j < suc n → i < j → order (key_at text hs' ss' i) (key_at text hs' ss' j) ≡ 0) p n
-      (λ i l. rw (key_below i l) (by_place (λ j. i < j → order (key_at text hs ss i) (key_at text hs' ss' j) ≡ 0) p n
+      by_place (λ i. (j : ℕ) → j < suc n → i < j → order (key_at text hs' ss' i) (key_at text hs' ss' j) ≡ Less) p n
+      (λ i l. rw (key_below i l) (by_place (λ j. i < j → order (key_at text hs ss i) (key_at text hs' ss' j) ≡ Less) p n
       (λ j m less. rw (key_below j m) (index.ordered i j less (omega (arith, p≤n))))
       (λ less. rw key_here (s.found.below i l))
       (λ j k m less. rw (key_above j k m) (index.ordered i j (omega arith) m))))
-      (rw key_here (by_place (λ j. p < j → order (h ∷ name_at text ss n) (key_at text hs' ss' j) ≡ 0) p n
+      (rw key_here (by_place (λ j. p < j → order (h ∷ name_at text ss n) (key_at text hs' ss' j) ≡ Less) p n
       (λ j m less. absurd (omega arith))
       (λ less. absurd (omega arith))
       (λ j k m less. rw (key_above j k m) (new_before j k m))))
-      (λ i l m. rw (key_above i l m) (by_place (λ j. suc i < j → order (key_at text hs ss i) (key_at text hs' ss' j) ≡ 0) p n
+      (λ i l m. rw (key_above i l m) (by_place (λ j. suc i < j → order (key_at text hs ss i) (key_at text hs' ss' j) ≡ Less) p n
       (λ j o less. absurd (omega arith))
       (λ less. absurd (omega arith))
       (λ j k o less. rw (key_above j k o) (index.ordered i j (omega arith) o))))
@@ -87,8 +88,6 @@ module _ {text hs ss hs' ss' : List ℕ} {n h p : ℕ} {t : Bool} (next : Next t
   index' =
       let index = next.index in
       record {
-        hash_places = ih.size ∙ index.hash_places;
-        start_places = is.size ∙ index.start_places;
         begun = record {
           room = omega (arith, next.entry.room);
           within = by_place (λ i. get_or ss' i 0 ≤ length text) p n
@@ -123,7 +122,6 @@ module _ {text hs ss hs' ss' : List ℕ} {n h p : ℕ} {t : Bool} (next : Next t
 
   pub joined_new : Joined text ss hs' ss' n true
   joined_new = record {
-    sizes = (index'.hash_places, index'.start_places);
     tells = λ names held. rw (← (told_among s.told names held), new);
     added = λ e. record { index = index'; holds = holds'; later = is.later };
   }
@@ -131,7 +129,6 @@ module _ {text hs ss hs' ss' : List ℕ} {n h p : ℕ} {t : Bool} (next : Next t
 pub joined_not : {text hs ss : List ℕ} {n h p : ℕ} {t : Bool} → Next text hs ss n → Searched text hs ss n (name_at text ss n) h p t → t ≡ true →
     Joined text ss hs ss n false
 joined_not next s held = record {
-  sizes = (next.index.hash_places, next.index.start_places);
   tells = λ names h. rw (← (told_among s.told names h), held);
   added = λ e. absurd (false≢true e);
 }

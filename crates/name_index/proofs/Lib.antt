@@ -2,7 +2,7 @@ pub mod Names
 pub mod Noting
 pub mod NameEnds
 pub mod Orders
-pub mod Comparing
+pub mod Hashing
 pub mod Entries
 pub mod Inserting
 pub mod Joining

@@ -1,6 +1,7 @@
 -- An index of names: where names of one text begin, each with its hash, in order of hash and then of the name's bytes.
 -- Assumes nothing: these are definitions.
 use Rattle.std.specs.Prelude.{◌≡◌, Bool, true, List, ◌∷◌, map, ℕ, ◌≤◌, ◌<◌, length, get_or, take}
+use Rattle.std.specs.declared.cmp.Ordering.TheVariants.{Less}
 use Rattle.xml.specs.Grammar.{among}
 use Rattle.xml_scan.specs.Post.{name_from}
 use Rattle.name_index.specs.Order.{order, hash_of, differ}
@@ -8,10 +9,6 @@ use Rattle.name_index.specs.Order.{order, hash_of, differ}
 -- how many places an index has
 abbrev pub places : ℕ
 places = 1024
-
--- the arrays that an index is kept in: one that is lent tells no length by itself
-abbrev pub Arrays : (hashes starts : List ℕ) → Type 0
-Arrays hs ss = (length hs ≡ places) × (length ss ≡ places)
 
 -- the names of the first n places, and the name of one
 unfoldable pub names_at : (text starts : List ℕ) → (n : ℕ) → List (List ℕ)
@@ -31,11 +28,9 @@ pub record Begun (text ss : List ℕ) (n : ℕ) : Type 0 where
 
 -- an index with n entries
 pub record Index (text hs ss : List ℕ) (n : ℕ) : Type 0 where
-  pub hash_places : length hs ≡ places
-  pub start_places : length ss ≡ places
   pub begun : Begun text ss n
   pub hashed : (i : ℕ) → i < n → get_or hs i 0 ≡ hash_of (name_at text ss i)
-  pub ordered : (i j : ℕ) → i < j → j < n → order (key_at text hs ss i) (key_at text hs ss j) ≡ 0
+  pub ordered : (i j : ℕ) → i < j → j < n → order (key_at text hs ss i) (key_at text hs ss j) ≡ Less
 
 -- the names that it holds: each entry is one of them, and each of them is an entry
 pub record Holds (text ss : List ℕ) (n : ℕ) (names : List (List ℕ)) : Type 0 where

@@ -1,15 +1,17 @@
 -- The order of names and their hash, by which an index keeps them; and whether names differ. Assumes nothing: these are definitions.
 use Rattle.std.specs.Prelude.{Bool, true, ◌&&◌, not, cond, List, [], ◌∷◌, ℕ, ◌+◌, ◌*◌, ◌%◌, ltb}
+use Rattle.std.specs.declared.cmp.Ordering.{Ordering}
+use Rattle.std.specs.declared.cmp.Ordering.TheVariants.{Less, Equal, Greater}
 use Rattle.xml.specs.Grammar.{among}
 
--- what two elements say of the order, and what the rest says where they are equal: 0 before, 1 equal, 2 after
-unfoldable pub step : ℕ → ℕ → ℕ → ℕ
-step a b r = cond (ltb a b) 0 (cond (ltb b a) 2 r)
+-- what two elements say of the order, and what the rest says where they are equal
+unfoldable pub step : ℕ → ℕ → Ordering → Ordering
+step a b r = cond (ltb a b) Less (cond (ltb b a) Greater r)
 
-unfoldable pub order : List ℕ → List ℕ → ℕ
-order [] [] = 1
-order [] (b ∷ bs) = 0
-order (a ∷ as') [] = 2
+unfoldable pub order : List ℕ → List ℕ → Ordering
+order [] [] = Equal
+order [] (b ∷ bs) = Less
+order (a ∷ as') [] = Greater
 order (a ∷ as') (b ∷ bs) = step a b (order as' bs)
 
 -- the hash of a name: any function of its bytes would be right

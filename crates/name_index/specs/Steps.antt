@@ -1,8 +1,9 @@
 -- What the steps of a search and of arranging answer. Assumes nothing: these are definitions.
 use Rattle.std.specs.Prelude.{◌≡◌, Bool, true, false, not, List, [], ◌∷◌, ◌++◌, ℕ, suc, ◌≤◌, ◌<◌, length, get_or}
+use Rattle.std.specs.declared.cmp.Ordering.TheVariants.{Less}
 use Rattle.xml.specs.Grammar.{among}
 use Rattle.name_index.specs.Order.{order, hash_of}
-use Rattle.name_index.specs.Index.{places, Arrays, name_at, key_at, Index, Holds}
+use Rattle.name_index.specs.Index.{places, name_at, key_at, Index, Holds}
 
 -- an entry that can be looked at
 pub record Entry (text ss : List ℕ) (i : ℕ) : Type 0 where
@@ -12,8 +13,8 @@ pub record Entry (text ss : List ℕ) (i : ℕ) : Type 0 where
 -- where a key stands, or would go: the entries before it come before the key, and none from it on does
 pub record Found (text hs ss : List ℕ) (n : ℕ) (key : List ℕ) (p : ℕ) : Type 0 where
   pub within : p ≤ n
-  pub below : (i : ℕ) → i < p → order (key_at text hs ss i) key ≡ 0
-  pub above : (i : ℕ) → p ≤ i → i < n → order (key_at text hs ss i) key ≡ 0 → ⊥
+  pub below : (i : ℕ) → i < p → order (key_at text hs ss i) key ≡ Less
+  pub above : (i : ℕ) → p ≤ i → i < n → order (key_at text hs ss i) key ≡ Less → ⊥
 
 -- whether a name is that of an entry
 pub record Told (text ss : List ℕ) (n : ℕ) (name : List ℕ) (t : Bool) : Type 0 where
@@ -47,6 +48,5 @@ pub record Added (text ss hs' ss' : List ℕ) (n : ℕ) : Type 0 where
 
 -- it has if its name is new
 pub record Joined (text ss hs' ss' : List ℕ) (n : ℕ) (t : Bool) : Type 0 where
-  pub sizes : Arrays hs' ss'
   pub tells : (names : List (List ℕ)) → Holds text ss n names → t ≡ not (among (name_at text ss n) names)
   pub added : t ≡ true → Added text ss hs' ss' n

@@ -1,14 +1,11 @@
--- A call's reply with what it writes: both by the refusal. Assumes nothing.
-use mathlib.Core.Path.{◌≡◌}
-use Prim.Native.Nat.{ℕ}
+-- What the checks and `revoke` reply and write by a refusal: what is accepted, or the refusal, which is not 0. Assumes nothing.
+use Rattle.std.proofs.Common.{◌≡◌, ℕ, refl}
 use Rattle.lists.specs.Fronts.{replied}
 use Rattle.lists.proofs.Replied.{replied_refused}
+use Rattle.store_types.proofs.Replies.{some_number}
 
-module _ {A B : Type 0} (f : ℕ → A) (old : B) (a : A) (new : B) where
-  -- k is the refusal
-  pub refused_both : {k r : ℕ} → k ≡ r → (k ≡ 0 → ⊥) → (f k ≡ replied f r a) × (old ≡ replied (λ _. old) r new)
-  refused_both {k} e n = rw (← e) (replied_refused f k a n, replied_refused (λ _. old) k new n)
+pub accepted : {A : Type 0} (f : ℕ → A) (a : A) → replied f 0 a ≡ a
+unfolding replied
+accepted f a = refl
 
-  pub accepted_both : {r : ℕ} {q : A} {v : B} → r ≡ 0 → (q ≡ a) × (v ≡ new) → (q ≡ replied f r a) × (v ≡ replied (λ _. old) r new)
-  unfolding replied
-  accepted_both z done = rw z done
+pub ruleset by_refusal = (accepted, replied_refused, some_number)

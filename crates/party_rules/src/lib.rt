@@ -3,34 +3,35 @@
 // by what a search or a gap that was closed replied. Apart from the calls on words, so that a decision is checked alone.
 #![tactic(auto)]
 
-ghost use Rattle.std.specs.Prelude.{◌≡◌, ◌-◌, ◌≤◌};
+ghost use Rattle.std.specs.Prelude.{◌≡◌, ◌-◌, ◌≤◌, Ok, Err};
 ghost use Rattle.lists.specs.Fronts.{replied};
-ghost use Rattle.calls.specs.Rights.{emptied_by, is_allowed, turned_away as is-turned-away, inserted_reply, is_right as right-fits, range_refusal, revoke_refused};
-ghost use Rattle.store_types.specs.declared.RevokeReply.TheVariants as revoking;
+ghost use Rattle.calls.specs.Rights.{emptied_by, is_allowed, turned_away as turned_away_so, inserted_reply, is_right, range_refusal, revoke_refused};
+ghost use Rattle.store_types.specs.Replies.{numbered, refusal_in};
 
 use store_types::{
-    Act, Answer, INSERT, InsertReply, LoadReply, MOST_PARTY, PartyReply, QuestionReply, READ,
-    RevokeReply, WRITE, refusals,
+    Act, Answer, INSERT, Inserted, Loaded, MOST_PARTY, PartyAnswer, READ, Refusal, WRITE,
 };
 
-// 17, before the store is read: a party out of range, rights that do not fit the call, or a count above the list's length; 0 for none.
-pub fn range_refused(fit: bool, party: u32, count: usize, room: usize) -> u32
-    ensures { result ≡ range_refusal fit party count room }
+// 17, before the store is read: a party out of range, rights that do not fit the call, or a count above the list's length.
+#[tactic(auto, unfolding(calls::specs::Rights::range_refusal, store_types::specs::Replies::refusal_in, store_types::specs::Replies::number_of))]
+pub fn check_range(fit: bool, party: u32, count: usize, room: usize) -> Result<(), Refusal>
+    ensures { refusal_in result ≡ range_refusal fit party count room }
 {
     if party == 0 || MOST_PARTY < party {
-        return refusals::OUT_OF_RANGE;
+        return Err(Refusal::OutOfRange);
     }
     if !fit || room < count {
-        return refusals::OUT_OF_RANGE;
+        return Err(Refusal::OutOfRange);
     }
-    0
+    Ok(())
 }
 
 // 17 of a party's call, whose right is one of three.
-pub fn party_refused(party: u32, right: u32, count: usize, room: usize) -> u32
-    ensures { result ≡ range_refusal (right-fits right) party count room }
+#[tactic(auto, unfolding(calls::specs::Rights::is_right))]
+pub fn check_party(party: u32, right: u32, count: usize, room: usize) -> Result<(), Refusal>
+    ensures { refusal_in result ≡ range_refusal (is_right right) party count room }
 {
-    range_refused(
+    check_range(
         right == READ || right == WRITE || right == INSERT,
         party,
         count,
@@ -39,90 +40,75 @@ pub fn party_refused(party: u32, right: u32, count: usize, room: usize) -> u32
 }
 
 // 17 of revoking.
-pub fn revoke_refused(party: u32, count: usize, room: usize) -> u32
-    ensures { result ≡ revoke_refused party count room }
+#[tactic(auto, unfolding(calls::specs::Rights::revoke_refused))]
+pub fn check_revoke(party: u32, count: usize, room: usize) -> Result<(), Refusal>
+    ensures { refusal_in result ≡ revoke_refused party count room }
 {
-    range_refused(true, party, count, room)
+    check_range(true, party, count, room)
 }
 
 // How many grants a call looks at: none where it is refused.
-pub fn looked_at(refusal: u32, count: usize) -> usize
-    ensures { result ≡ replied (λ _. 0) refusal count }
+#[tactic(auto, using(crate::proofs::Replied::by_refusal), unfolding(store_types::specs::Replies::refusal_in))]
+pub fn looked_at(checked: Result<(), Refusal>, count: usize) -> usize
+    ensures { result ≡ replied (λ _. 0) (refusal_in checked) count }
 {
-    if refusal != 0 {
-        return 0;
-    }
-    count
+    if checked.is_ok() { count } else { 0 }
 }
 
 // Revoking, but for the list: so many grants stay of those that were looked at.
-pub fn revoke(refusal: u32, kept: usize, count: &mut usize) -> RevokeReply
+#[tactic(auto, using(crate::proofs::Replied::by_refusal), unfolding(store_types::specs::Replies::refusal_in, store_types::specs::Replies::numbered))]
+pub fn revoke(
+    checked: Result<(), Refusal>,
+    kept: usize,
+    count: &mut usize,
+) -> Result<usize, Refusal>
     requires { kept ≤ count.old }
-    ensures reply { result ≡ replied revoking.Refused refusal (revoking.Revoked (count.old - kept)) }
-    ensures count { count.new ≡ replied (λ _. count.old) refusal kept }
+    ensures reply { numbered result ≡ replied Err (refusal_in checked) (Ok (count.old - kept)) }
+    ensures count { count.new ≡ replied (λ _. count.old) (refusal_in checked) kept }
 {
-    if refusal != 0 {
-        return RevokeReply::Refused(refusal);
-    }
+    checked?;
     let live = *count;
     *count = kept;
-    RevokeReply::Revoked(live - kept)
+    Ok(live - kept)
 }
 
 // Whether a party may do what it asks for: by what the question answers, and whether a grant gives the right.
-pub fn allowed(granted: bool, act: Act, asked: QuestionReply) -> bool
-    ensures { result ≡ is_allowed granted act asked }
+#[tactic(auto, unfolding(calls::specs::Rights::is_allowed, store_types::specs::Replies::numbered))]
+pub fn allowed(granted: bool, act: Act, asked: Result<Answer, Refusal>) -> bool
+    ensures { result ≡ is_allowed granted act (numbered asked) }
 {
-    let QuestionReply::Answered(answer) = asked else {
-        return false;
-    };
-    match answer {
-        Answer::Yes => granted,
-        Answer::No => {
-            let tag = act.tag;
-            granted && act.right == INSERT && tag.same(act.pair.tag)
-        }
-        Answer::Stale => false,
+    match asked {
+        Ok(Answer::Yes) => granted,
+        Ok(Answer::No) => granted && act.right == INSERT && act.tag == act.pair.tag,
+        Ok(Answer::Stale) | Err(_) => false,
     }
 }
 
 // What a party hears whose call is not allowed: the question's refusal, stale, or 18.
-pub fn turned_away(asked: QuestionReply) -> PartyReply
-    ensures { result ≡ is-turned-away asked }
+#[tactic(auto, unfolding(calls::specs::Rights::turned_away, store_types::specs::Replies::numbered, store_types::specs::Replies::number_of))]
+pub fn turned_away(asked: Result<Answer, Refusal>) -> Result<PartyAnswer, Refusal>
+    ensures { numbered result ≡ turned_away_so (numbered asked) }
 {
-    match asked {
-        QuestionReply::Refused(k) => PartyReply::Refused(k),
-        QuestionReply::Answered(answer) => match answer {
-            Answer::Stale => PartyReply::Stale,
-            Answer::Yes => PartyReply::Refused(refusals::NOT_ALLOWED),
-            Answer::No => PartyReply::Refused(refusals::NOT_ALLOWED),
-        },
+    match asked? {
+        Answer::Stale => Ok(PartyAnswer::Stale),
+        Answer::Yes | Answer::No => Err(Refusal::NotAllowed),
     }
 }
 
 // What a party hears of its insertion: as the insertion replies.
-pub fn inserted(reply: InsertReply) -> PartyReply
-    ensures { result ≡ inserted_reply reply }
+#[tactic(auto, unfolding(calls::specs::Rights::inserted_reply, store_types::specs::Replies::numbered))]
+pub fn inserted(reply: Result<Inserted, Refusal>) -> Result<PartyAnswer, Refusal>
+    ensures { numbered result ≡ inserted_reply (numbered reply) }
 {
-    match reply {
-        InsertReply::Inserted {
-            first,
-            moved,
-            split,
-        } => PartyReply::Inserted {
-            first,
-            moved,
-            split,
-        },
-        InsertReply::Refused(k) => PartyReply::Refused(k),
-    }
+    reply.map(PartyAnswer::Inserted)
 }
 
 // An accepted load, or file read, ends all grants: their count is then 0, whatever it was.
-pub fn end_grants(reply: LoadReply, count: &mut usize)
-    ensures { count.new ≡ emptied_by reply count.old }
+#[tactic(auto, unfolding(calls::specs::Rights::emptied_by, store_types::specs::Replies::numbered))]
+pub fn end_grants(reply: Result<Loaded, Refusal>, count: &mut usize)
+    ensures { count.new ≡ emptied_by (numbered reply) count.old }
 {
-    if let LoadReply::Loaded { tags, height } = reply {
+    if reply.is_ok() {
         *count = 0;
     }
 }

@@ -1,29 +1,27 @@
 -- Tables of powers (src/lib.rt): an entry is its power, and how many there are decides which powers are at most 2^32. Assumes
 -- nothing.
-use mathlib.Core.Path.{◌≡◌, ap, sym, ◌∙◌}
+use mathlib.Core.Path.{◌≡◌, refl, ap, sym, ◌∙◌}
 use mathlib.Core.Bool.{Bool, true, ◌&&◌, cond}
-use mathlib.Core.List.{List}
+use mathlib.Core.List.{List, []}
 use Prim.Native.Nat.{ℕ, suc, pred, ◌+◌, ◌*◌, ◌-◌, ◌^◌, ◌≤◌, ◌<◌}
-use native.Mathlib.Nat.{mul-le-mul, pow-le-pow_right}
+use native.Mathlib.Nat.{mul-le-mul, pow-le-pow_right, not-suc-le-zero}
 use native.Mathlib.Numerals.{add-one}
 use native.Mathlib.Omega.{arith}
 use borrow.Author.Tests.{eqb-true, ltb-true, ltb-false, leb-true, le-leb, lt-leb}
 use lib.Dec.{eqb, ltb, leb}
 use lib.ListN.{length, get_or, set}
+use Rattle.std.specs.Prelude.{Option, Some}
+use Rattle.std.proofs.lemmas.Option.{cond_some}
 use Rattle.lists.proofs.Tests.{by_test, and_left, and_right}
 use Rattle.store_types.specs.Limits.{label_limit}
 use Rattle.tree.specs.Book.{base, power_width}
-use Rattle.calls.specs.Store.{labels_fit, power_fits}
-use Rattle.powers.specs.Tables.{shared_degree, OfDegree, table_length, powers, table}
+use Rattle.calls.specs.Store.{labels_fit}
+use Rattle.powers.specs.Tables.{Known, shared_degree, table_length, powers, table}
 use Rattle.powers.proofs.TableLaws.{powers_low, table_next, table_more}
 
 -- AN ENTRY is its power
 pub powers_entry : (v b : ℕ) (t : List ℕ) → t ≡ powers v b (length t) → (k : ℕ) → k < length t → get_or t k 0 ≡ v * b ^ k
 powers_entry v b t e k p = ap (λ (u : List ℕ). get_or u k 0) e ∙ powers_low v b (length t) k p
-
--- a table of the base of a degree is one of the powers that are asked for
-pub known_powers : {d v b n : ℕ} → OfDegree d v b → d ≡ n → 2 ≤ n → (t : List ℕ) → t ≡ powers 1 (n * n - 1) (length t) → t ≡ powers v b (length t)
-known_powers asked is some t right = let e = asked (omega (arith, is)) in rw (e.0, e.1, is) right
 
 -- A STEP of the table by height: the entry, or b times the power below where the table has ended
 module _ (v b : ℕ) (t : List ℕ) (e : t ≡ powers v b (length t)) (h : ℕ) where
@@ -56,14 +54,20 @@ count_decides b count some e h =
     rw (no, lt-leb (b ^ h) label_limit (omega (arith, next, pow-le-pow_right {n = b} some (ltb-false h count no)))))
 
 -- A PAIR of one degree d has the base d·d − 1
-module _ (s r : ℕ) {d : ℕ} (e : d ≡ shared_degree s r) (some : 2 ≤ d) where
-  pub pair_base : s * r - 1 ≡ d * d - 1
-  pair_base =
-      by_test (eqb s r)
-      (λ yes. let same : s ≡ d = sym (rw yes at e) in rw (← eqb-true s r yes, same))
-      (λ no. let none : d ≡ 0 = rw no at e in absurd (omega arith))
+pair_base : (s r : ℕ) {o : Option ℕ} {d : ℕ} → o ≡ shared_degree s r → o ≡ Some d → s * r - 1 ≡ d * d - 1
+pair_base s r {o} {d} e is =
+    let same = cond_some (eqb s r) s d (sym e ∙ is) in rw (← eqb-true s r same.0, same.1)
 
-  pub pair_fits : {n : ℕ} → d ≡ n → (count : ℕ) → count_right (n * n - 1) count ≡ true → (h : ℕ) → ltb h count ≡ power_fits s r h
-  unfolding labels_fit power_width base
-  pair_fits is count right h =
-      count_decides (d * d - 1) count (omega (arith, mul-le-mul some some)) (rw is right) h ∙ rw pair_base
+-- A TABLE of a degree has the powers of its base, as many as fit; and one with no power is right for each
+pub of_table : {o : Option ℕ} {n : ℕ} → o ≡ Some n → 2 ≤ n → (t : List ℕ) → count_right (n * n - 1) (length t) ≡ true →
+    t ≡ powers 1 (n * n - 1) (length t) → Known o t
+unfolding labels_fit power_width base
+of_table {o} {n} is some t count right =
+    record {
+      powers_are = λ v b asked. let e = asked n is some in rw (e.0, e.1) right;
+      count_is = λ s r e _ h. count_decides (n * n - 1) (length t) (omega (arith, mul-le-mul some some)) count h ∙ rw (pair_base s r e is);
+    }
+
+pub no_table : {o : Option ℕ} → Known o []
+unfolding powers
+no_table = record { powers_are = λ v b asked. refl; count_is = λ s r e some h. absurd (not-suc-le-zero some) }

@@ -1,6 +1,8 @@
 -- Tables by height: powers of a base up to a height, from which the widths of labels, the least leaves of a node and its limit
 -- are made. Assumes nothing: these are definitions.
-use Rattle.std.specs.Prelude.{◌≡◌, cond, List, [], ◌∷◌, ◌++◌, ℕ, zero, suc, ◌*◌, ◌-◌, ◌^◌, ◌≤◌, ◌<◌, eqb, get_or, replicate}
+use Rattle.std.specs.Prelude.{◌≡◌, cond, List, [], ◌∷◌, ◌++◌, Option, Some, None, ℕ, zero, suc, ◌*◌, ◌-◌, ◌^◌, ◌≤◌, ◌<◌, eqb, ltb, length, get_or, replicate}
+use Rattle.std.specs.Option.{ForSome}
+use Rattle.calls.specs.Store.{power_fits}
 
 abbrev pub entry : List ℕ → (h : ℕ) → ℕ
 entry t h = get_or t h 0
@@ -33,10 +35,16 @@ pub record TableFits (v b top : ℕ) : Type 0 where
   pub grows : 1 ≤ b
   pub last : v * b ^ top ≤ entry_limit
 
--- POWERS FROM A TABLE (document 02, CR 2): the degree that s and r both are, which picks the table, 0 where they differ; and what
--- powers by height are with a degree: those from 1 on of its pair's base
-abbrev pub shared_degree : (s r : ℕ) → ℕ
-shared_degree s r = cond (eqb s r) s 0
+-- POWERS FROM A TABLE (document 02, CR 2): the degree that s and r both are, which picks the table, none where they differ; and
+-- what powers by height are with a degree: those from 1 on of its pair's base
+abbrev pub shared_degree : (s r : ℕ) → Option ℕ
+shared_degree s r = cond (eqb s r) (Some s) None
 
-abbrev pub OfDegree : (degree v b : ℕ) → Type 0
-OfDegree d v b = 2 ≤ d → (v ≡ 1) × (b ≡ d * d - 1)
+abbrev pub OfDegree : (degree : Option ℕ) (v b : ℕ) → Type 0
+OfDegree degree v b = ForSome degree (λ d. 2 ≤ d → (v ≡ 1) × (b ≡ d * d - 1))
+
+-- what stands in the table of a degree: powers by height, as many as it has, and where it has any, their number says which heights
+-- of the pair fit
+pub record Known (degree : Option ℕ) (t : List ℕ) : Type 0 where
+  pub powers_are : (v b : ℕ) → OfDegree degree v b → t ≡ powers v b (length t)
+  pub count_is : (s r : ℕ) → degree ≡ shared_degree s r → 1 ≤ length t → (h : ℕ) → ltb h (length t) ≡ power_fits s r h

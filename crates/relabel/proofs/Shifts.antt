@@ -40,7 +40,6 @@ shift_step k n ws x b d below small = rw (lt-leb n x below, lt-leb b (label_at w
 -- the whole
 pub record Shifting (whole : Relabelled) (before ws : List ℕ) (n tag bound by steps done : ℕ) : Type 0 where
   pub records : Records ws n
-  pub fits : steps ≤ n
   pub few : done ≤ steps
   pub long : length ws ≡ length before
   pub words : (shift (n - steps) n ws tag bound by).words ≡ whole.words
@@ -49,7 +48,7 @@ pub record Shifting (whole : Relabelled) (before ws : List ℕ) (n tag bound by 
 pub shift_start : (ws : List ℕ) (n x b d : ℕ) → Records ws n → Shifting (shift n n ws x b d) ws ws n x b d 0 0
 shift_start ws n x b d there =
     let all : n - 0 ≡ n = omega arith in
-    record { records = there; fits = omega arith; few = omega arith; long = refl; words = rw all; moved = rw all (omega arith) }
+    record { records = there; few = omega arith; long = refl; words = rw all; moved = rw all (omega arith) }
 
 module _ {whole : Relabelled} {before ws : List ℕ} {n tag bound by steps done : ℕ} (h : Shifting whole before ws n tag bound by steps done) where
   pub shift_on : steps < n → tag < n → label_at ws tag < bound → (vs : List ℕ) (m next : ℕ) → vs ≡ with_label ws tag (cut (label_at ws tag + by)) →
@@ -61,7 +60,6 @@ module _ {whole : Relabelled} {before ws : List ℕ} {n tag bound by steps done 
       let long : length vs ≡ length ws = rw e (length_with_label ws tag (cut (label_at ws tag + by))) in
       record {
         records = records_kept h.records long;
-        fits = omega arith;
         few = omega (arith, h.few, moved_one ws tag (cut (label_at ws tag + by)));
         long = long ∙ h.long;
         words = rw (e, step) (rw turn at h.words);
@@ -70,3 +68,9 @@ module _ {whole : Relabelled} {before ws : List ℕ} {n tag bound by steps done 
 
   pub shift_end : shift (n - steps) n ws tag bound by ≡ record { words = ws; moved = 0 } → (ws ≡ whole.words) × (done ≡ whole.moved)
   shift_end end = (rw end at h.words, omega (arith, rw end at h.moved))
+
+-- where it stops, it has come to the whole of n's tags
+pub stops : {before ws : List ℕ} {n tag bound by steps done : ℕ} (first m : ℕ) → n ≡ m → Shifting (shift n n before first bound by) before ws n tag bound by steps done →
+    shift (n - steps) n ws tag bound by ≡ record { words = ws; moved = 0 } →
+    (ws ≡ (shift m m before first bound by).words) × (done ≡ (shift m m before first bound by).moved)
+stops first m e h end = rw (← e) (shift_end h end)

@@ -45,14 +45,12 @@ pub fn number_leaves(words: &mut [u32], a: u64, x: TagId, count: u64, width: u64
 {
     let mut at = a;
     let mut tag = x;
-    let mut left = count;
     let mut moved: u32 = 0;
-    while 0 < left {
+    for _ in 0..count {
         let new = at as u32;
         moved += number_leaf(words, tag, Label(new));
         tag = words::next_of(words, tag);
         at = shape::sum(at, width);
-        left -= 1;
     }
     Numbered { next: tag, moved }
 }
@@ -73,16 +71,18 @@ pub fn shift(words: &mut [u32], x: TagId, bound: u64, by: u64) -> u32
 {
     let n = words::count_of(words);
     let mut tag = x;
-    let mut steps: u32 = 0;
     let mut moved: u32 = 0;
-    while steps < n && tag.0 < n {
+    for _ in 0..n {
+        if n <= tag.0 {
+            return moved;
+        }
         let label = words::label_of(words, tag);
         if bound <= (label.0 as u64) {
             return moved;
         }
-        moved += number_leaf(words, tag, raised(label, by));
+        let counts = number_leaf(words, tag, raised(label, by));
+        moved += counts;
         tag = words::next_of(words, tag);
-        steps += 1;
     }
     moved
 }

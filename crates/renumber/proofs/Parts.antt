@@ -16,6 +16,7 @@ use Rattle.tree_laws.proofs.Labels.{length_labels}
 use Rattle.tree_laws.proofs.Spread.{parts_none, parts_one, parts_more, spread_suc, leaves_below, parts_in, some_power, lower_power}
 use Rattle.calls.specs.Words.{follow}
 use Rattle.shape.specs.Packed.{lows_in, r_in}
+use Rattle.shape.specs.declared.Tables as by_height
 use Rattle.shape.specs.Sums.{cut}
 use Rattle.shape.proofs.Sums.{cut_small, labels_cut}
 use Rattle.edit_model.specs.Relabel.{Relabelled, relabel, along}
@@ -145,7 +146,7 @@ trees_zero ws w r j a x k e = rw (e, leaf_widths (follow k ws x) (λ i. entry w 
 pub row_part : {ws : List ℕ} {x left : ℕ} → RowThere ws x left → (size : ℕ) → size ≤ left → RowThere ws x size
 row_part h size fits = record { most = omega (arith, h.most); there = λ i l. h.there i (omega arith) }
 
-module _ {j a count : ℕ} {t : List ℕ} (h : TreesFit j a count t) (low : 1 ≤ j) where
+module _ {j a count : ℕ} {t : by_height.Tables} (h : TreesFit j a count t) (low : 1 ≤ j) where
   pub each_power : entry (lows_in t) j ≡ r_in t ^ j
   each_power = h.lows j (omega arith)
 

@@ -10,6 +10,7 @@ use Rattle.store_types.specs.Limits.{label_limit}
 use Rattle.words.proofs.Fields.{room_same}
 use Rattle.powers.specs.Tables.{entry, entry_limit}
 use Rattle.shape.specs.Packed.{widths_in, s_in, r_in}
+use Rattle.shape.specs.declared.Tables as by_height
 use Rattle.shape.specs.Sums.{cut}
 use Rattle.shape.proofs.Sums.{cut_small, cut_added, labels_cut}
 use Rattle.tree.specs.Forest.{Forest, node, labels, joined, spread}
@@ -31,13 +32,13 @@ use Rattle.relabel.proofs.Rows.{SameNext, follow_same, along_same, relabel_keeps
 use Rattle.renumber.proofs.Parts.{relabel_joined, trees_keep_next, trees_moved}
 
 -- height 0: leaves
-pub path_leaves : (ws t : List ℕ) (j c e a x k : ℕ) → j ≡ 0 → leaves_numbered ws (entry (widths_in t) 0) a x k ≡ path_numbered ws t j c e a x k
+pub path_leaves : (ws : List ℕ) (t : by_height.Tables) (j c e a x k : ℕ) → j ≡ 0 → leaves_numbered ws (entry (widths_in t) 0) a x k ≡ path_numbered ws t j c e a x k
 unfolding leaves_numbered path_numbered
 path_leaves ws t j c e a x k z =
     rw (z, path_zero (s_in t) (r_in t) c e (follow k ws x), leaf_widths (follow k ws x) (λ i. entry (widths_in t) 0) (entry (widths_in t)) a refl)
 
 -- HIGHER: in three parts of the row
-module _ (ws t : List ℕ) (i c e a x before own after : ℕ) (r_least : 2 ≤ r_in t) (h : PathFits (r_in t) (suc i) c e (before + (own + after)))
+module _ (ws : List ℕ) (t : by_height.Tables) (i c e a x before own after : ℕ) (r_least : 2 ≤ r_in t) (h : PathFits (r_in t) (suc i) c e (before + (own + after)))
     (is_before : before ≡ path_before (r_in t) i c) (is_own : own ≡ r_in t ^ suc i + e) where
   abbrev r : ℕ
   r = r_in t
@@ -180,7 +181,7 @@ row_behind {ws} {vs} {x} {y} a b h same long e =
     }
 
 -- whole trees, which may be none
-whole_fit : {j a count c e : ℕ} {t : List ℕ} → PathFit j count c e t → NumbersFit j a t → (number k m : ℕ) → number < label_limit → m ≡ k * r_in t ^ j → TreesFit j number m t
+whole_fit : {j a count c e : ℕ} {t : by_height.Tables} → PathFit j count c e t → NumbersFit j a t → (number k m : ℕ) → number < label_limit → m ≡ k * r_in t ^ j → TreesFit j number m t
 whole_fit {j} {t = t} h n number k m small is =
     record {
       degree = h.splits.degree_r;
@@ -196,16 +197,16 @@ whole_fit {j} {t = t} h n number k m small is =
     least (suc k) is some = omega (arith, suc-mul k (r_in t ^ j))
 
 -- a path moves no more tags than there are, and leaves next as it is
-pub path_keeps_next : (ws t : List ℕ) (j c e a x k : ℕ) → SameNext (path_numbered ws t j c e a x k).words ws
+pub path_keeps_next : (ws : List ℕ) (t : by_height.Tables) (j c e a x k : ℕ) → SameNext (path_numbered ws t j c e a x k).words ws
 unfolding path_numbered
 path_keeps_next ws t j c e a x k = relabel_keeps_next (follow k ws x) _ ws
 
-pub path_moved : (ws t : List ℕ) (j c e a x k : ℕ) → (path_numbered ws t j c e a x k).moved ≤ k
+pub path_moved : (ws : List ℕ) (t : by_height.Tables) (j c e a x k : ℕ) → (path_numbered ws t j c e a x k).moved ≤ k
 unfolding path_numbered
 path_moved ws t j c e a x k =
     omega (arith, length_follow k ws x, moved_most (follow k ws x) (map cut (labels (path (s_in t) (r_in t) j c e (follow k ws x)) (entry (widths_in t)) j a)) ws)
 
-module _ {ws t : List ℕ} {j a x count c e : ℕ} (row : RowThere ws x count) (h : PathFit j count c e t) (n : NumbersFit j a t) (low : 1 ≤ j)
+module _ {ws : List ℕ} {t : by_height.Tables} {j a x count c e : ℕ} (row : RowThere ws x count) (h : PathFit j count c e t) (n : NumbersFit j a t) (low : 1 ≤ j)
     {q : PathParts} (p : PartsAre (s_in t) (r_in t) j count c e q) where
   -- the parts by the height below
   lower : {G : Type 0} → ((i : ℕ) → j ≡ suc i → PathCut (s_in t) (r_in t) i c e count → G) → G
@@ -287,7 +288,7 @@ pub cut_fits : {q : ℕ} (y : ℕ) → q ≡ cut y → q ≤ entry_limit
 cut_fits y e = rw e (omega (arith, cut_small y))
 
 -- and it can be
-pub trees_small : {j count c e : ℕ} {t : List ℕ} {q : PathParts} → PathFit j count c e t → 1 ≤ j → PartsAre (s_in t) (r_in t) j count c e q → (v : ℕ) → v ≤ entry_limit → q.trees * v < 2 ^ 64
+pub trees_small : {j count c e : ℕ} {t : by_height.Tables} {q : PathParts} → PathFit j count c e t → 1 ≤ j → PartsAre (s_in t) (r_in t) j count c e q → (v : ℕ) → v ≤ entry_limit → q.trees * v < 2 ^ 64
 trees_small {j} {count} {c} {e} {t} {q} h low p v narrow =
     let some = some_power (r_in t) j h.splits.degree_r in
     let few : q.trees ≤ 200000 = omega (arith, p.trees, div-le_self (pred c) (r_in t ^ j), h.path.high, h.path.whole, h.most) in

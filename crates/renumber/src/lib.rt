@@ -8,7 +8,7 @@ ghost use Rattle.splits.specs.Needs.{PathFit};
 ghost use Rattle.renumber.specs.Needs.{TreesFit, PartSize, NumbersFit, trees_numbered, path_numbered};
 
 use relabel::{Numbered, number_leaves};
-use shape::PACKED_LENGTH;
+use shape::Tables;
 use splits::path_parts;
 use store_types::TagId;
 
@@ -27,30 +27,29 @@ pub fn number(
     a: u64,
     x: TagId,
     count: u64,
-    tables: &[u64; PACKED_LENGTH],
+    tables: &Tables,
 ) -> Numbered
     requires { RowThere words.old x.0 count × TreesFit j a count tables.now }
     ensures { RowNumbered words.old words.new (trees_numbered words.old (widths_in tables.now) (r_in tables.now) j a x.0 count) x.0 count result.next.0 result.moved }
 {
     if j == 0 {
-        return number_leaves(words, a, x, count, shape::tables::width(tables, 0));
+        return number_leaves(words, a, x, count, tables.widths[0]);
     }
     let below = j - 1;
-    let width = shape::tables::width(tables, j);
-    let each = shape::tables::low(tables, j);
-    let mut parts = count / each;
+    let width = tables.widths[j];
+    let each = tables.lows[j];
+    let parts = count / each;
     let mut at = a;
     let mut tag = x;
     let mut left = count;
     let mut moved: u32 = 0;
-    while 0 < parts {
-        let size = part_size(parts, each, left);
+    for done in 0..parts {
+        let size = part_size(parts - done, each, left);
         let q = number(words, below, at, tag, size, tables);
         moved += q.moved;
         tag = q.next;
         at = shape::sum(at, width);
         left -= size;
-        parts -= 1;
     }
     Numbered { next: tag, moved }
 }
@@ -72,15 +71,15 @@ pub fn number_path(
     x: TagId,
     count: u64,
     cursor: Cursor,
-    tables: &[u64; PACKED_LENGTH],
+    tables: &Tables,
 ) -> Numbered
     requires { RowThere words.old x.0 count × PathFit j count cursor.at cursor.rest tables.now × NumbersFit j a tables.now }
     ensures { RowNumbered words.old words.new (path_numbered words.old tables.now j cursor.at cursor.rest a x.0 count) x.0 count result.next.0 result.moved }
 {
     if j == 0 {
-        return number_leaves(words, a, x, count, shape::tables::width(tables, 0));
+        return number_leaves(words, a, x, count, tables.widths[0]);
     }
-    let width = shape::tables::width(tables, j);
+    let width = tables.widths[j];
     let parts = path_parts(j, count, cursor.at, cursor.rest, tables);
     let at = shape::sum(a, shape::times(parts.trees, width));
     let left = number(words, j, a, x, parts.before, tables);

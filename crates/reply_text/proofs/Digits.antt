@@ -1,7 +1,7 @@
 -- Decimal digits: all but the last are those of a tenth, and a word has at most ten. Assumes nothing.
 use mathlib.Core.Path.{◌≡◌, refl, ap, ◌∙◌}
 use mathlib.Core.Bool.{Bool, true, false, cond}
-use mathlib.Core.List.{List, [], ◌∷◌, ◌++◌}
+use mathlib.Core.List.{List, [], ◌∷◌, ◌++◌, append_assoc}
 use Prim.Native.Nat.{ℕ, zero, suc, ◌+◌, ◌/◌, ◌%◌, ◌^◌, ◌≤◌, ◌<◌}
 use native.Mathlib.Nat.{pow-succ'}
 use native.Mathlib.Omega.{arith}
@@ -55,3 +55,6 @@ decimal_more n l m = rw (le-ltb n 10 l) (from_append 19 (n / 10) [] ((48 + n % 1
 -- so that a tenth has at most nine
 pub tenth_short : (n : ℕ) → 10 ≤ n → n < word_limit → length (decimal (n / 10)) + 1 ≤ 10
 tenth_short n l m = omega (arith, decimal_short n m, ap length (decimal_more n l m) ∙ length-append (decimal (n / 10)) ((48 + n % 10) ∷ []))
+
+-- what `put_number` needs of these
+pub ruleset digit_steps = (decimal_one, decimal_more, tenth_short, append_assoc, length-append)

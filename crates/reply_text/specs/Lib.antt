@@ -1,3 +1,3 @@
 pub mod Text
-pub mod Post
+pub mod Room
 pub mod Specimens

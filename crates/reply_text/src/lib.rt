@@ -1,118 +1,88 @@
-// Replies as lines of text, written into a lent buffer. Each function writes at a place and returns the place behind.
+// Replies as lines of text. Each function writes at the end of a list of bytes.
 #![tactic(auto)]
 
-ghost use Rattle.std.specs.Prelude.{[], ◌∷◌, ◌++◌, ◌+◌, ◌≤◌, ◌<◌, length};
+ghost use Rattle.std.specs.Prelude.{◌≡◌, [], ◌∷◌, ◌++◌, ◌+◌, ◌*◌, ◌≤◌, length};
 ghost use Rattle.reply_text.specs.Text.{decimal, spaced, reply_line, tag_line, end_line, unknown_line};
-ghost use Rattle.reply_text.specs.Post.{Written, LineRoom};
+ghost use Rattle.reply_text.specs.Room.{LineRoom};
 
-fn put_byte(out: &mut [u8], at: usize, byte: u8) -> usize
-    requires { at < length out.old }
-    ensures { Written out.old at (byte ∷ []) out.new result }
-{
-    out[at] = byte;
-    at + 1
-}
-
-fn put_bytes(out: &mut [u8], at: usize, bytes: &[u8]) -> usize
-    requires { at + length bytes.now ≤ length out.old }
-    ensures { Written out.old at bytes.now out.new result }
-{
-    let end = at + bytes.len();
-    out[at..end].copy_from_slice(bytes);
-    end
-}
+use byte_list::ByteList;
 
 // The digits of a number, the highest first. A word has at most ten.
-pub fn put_number(out: &mut [u8], at: usize, n: u32) -> usize
-    requires { at + 10 ≤ length out.old }
-    ensures { Written out.old at (decimal n) out.new result }
+#[tactic(auto, using(crate::proofs::Digits::digit_steps))]
+pub fn put_number<const N: usize>(out: &mut ByteList<N>, n: u32)
+    requires { length out.old + 10 ≤ N }
+    ensures { out.new ≡ out.old ++ decimal n }
 {
     if n < 10 {
-        return put_byte(out, at, 48 + n as u8);
+        out.push(&[b'0' + n as u8]);
+        return;
     }
-    let e = put_number(out, at, n / 10);
-    put_byte(out, e, 48 + (n % 10) as u8)
+    put_number(out, n / 10);
+    out.push(&[b'0' + (n % 10) as u8]);
 }
 
-fn put_spaced(out: &mut [u8], at: usize, n: u32) -> usize
-    requires { at + 11 ≤ length out.old }
-    ensures { Written out.old at (32 ∷ decimal n) out.new result }
+// A word, some numbers, each after a space, and the line feed.
+#[tactic(auto, using(crate::proofs::Writes::line_steps))]
+fn put_line<const N: usize>(out: &mut ByteList<N>, word: &[u8], numbers: &[u32])
+    requires { length out.old + length word.now + 11 * length numbers.now + 1 ≤ N }
+    ensures { out.new ≡ out.old ++ (word.now ++ (spaced numbers.now ++ (10 ∷ []))) }
 {
-    let e = put_byte(out, at, 32);
-    put_number(out, e, n)
+    out.push(word);
+    for n in numbers {
+        out.push(b" ");
+        put_number(out, *n);
+    }
+    out.push(b"\n");
 }
 
-// The last number of a line, and the line feed.
-fn put_last(out: &mut [u8], at: usize, n: u32) -> usize
-    requires { at + 12 ≤ length out.old }
-    ensures { Written out.old at (spaced (n ∷ []) ++ (10 ∷ [])) out.new result }
+// The reply of a call that was made, with its values.
+#[tactic(auto, unfolding(crate::specs::Text::reply_line))]
+pub fn ok_line<const N: usize>(out: &mut ByteList<N>, values: &[u32])
+    requires room { LineRoom N out.old }
+    requires few { length values.now ≤ 5 }
+    ensures { out.new ≡ out.old ++ reply_line (0 ∷ values.now) }
 {
-    let e = put_spaced(out, at, n);
-    put_byte(out, e, 10)
-}
-
-// The reply to a mark.
-pub fn ok_one(out: &mut [u8], at: usize, a: u32) -> usize
-    requires { LineRoom at out.old }
-    ensures { Written out.old at (reply_line (0 ∷ a ∷ [])) out.new result }
-{
-    let e = put_bytes(out, at, b"ok");
-    put_last(out, e, a)
-}
-
-// The reply to a load.
-pub fn ok_two(out: &mut [u8], at: usize, a: u32, b: u32) -> usize
-    requires { LineRoom at out.old }
-    ensures { Written out.old at (reply_line (0 ∷ a ∷ b ∷ [])) out.new result }
-{
-    let e = put_bytes(out, at, b"ok");
-    let f = put_spaced(out, e, a);
-    put_last(out, f, b)
-}
-
-// The reply to an insertion.
-pub fn ok_three(out: &mut [u8], at: usize, a: u32, b: u32, c: u32) -> usize
-    requires { LineRoom at out.old }
-    ensures { Written out.old at (reply_line (0 ∷ a ∷ b ∷ c ∷ [])) out.new result }
-{
-    let e = put_bytes(out, at, b"ok");
-    let f = put_spaced(out, e, a);
-    let g = put_spaced(out, f, b);
-    put_last(out, g, c)
+    put_line(out, b"ok", values);
 }
 
 // A reply of one number: a refusal. None is 0, which would be an `ok` without values; it costs a test here, and spares
 // each caller the proof.
-pub fn no_line(out: &mut [u8], at: usize, refusal: u32) -> usize
-    requires { LineRoom at out.old }
-    ensures { Written out.old at (reply_line (refusal ∷ [])) out.new result }
+#[tactic(auto, unfolding(crate::specs::Text::reply_line))]
+pub fn no_line<const N: usize>(out: &mut ByteList<N>, refusal: u32)
+    requires { LineRoom N out.old }
+    ensures { out.new ≡ out.old ++ reply_line (refusal ∷ []) }
 {
     if refusal == 0 {
-        return put_bytes(out, at, b"ok\n");
+        ok_line(out, &[]);
+        return;
     }
-    let e = put_bytes(out, at, b"no");
-    put_last(out, e, refusal)
+    put_line(out, b"no", &[refusal]);
 }
 
-pub fn tag_line(out: &mut [u8], at: usize, tag: u32, label: u32) -> usize
-    requires { LineRoom at out.old }
-    ensures { Written out.old at (tag_line tag label) out.new result }
+// A tag of a listing, and its label.
+#[tactic(auto, using(crate::proofs::Writes::line_steps), unfolding(crate::specs::Text::tag_line))]
+pub fn tag_line<const N: usize>(out: &mut ByteList<N>, tag: u32, label: u32)
+    requires { LineRoom N out.old }
+    ensures { out.new ≡ out.old ++ tag_line tag label }
 {
-    let e = put_number(out, at, tag);
-    put_last(out, e, label)
+    put_number(out, tag);
+    put_line(out, b"", &[label]);
 }
 
-pub fn end_line(out: &mut [u8], at: usize, count: u32) -> usize
-    requires { LineRoom at out.old }
-    ensures { Written out.old at (end_line count) out.new result }
+// The last line of a listing: how many tags it has.
+#[tactic(auto, unfolding(crate::specs::Text::end_line))]
+pub fn end_line<const N: usize>(out: &mut ByteList<N>, count: u32)
+    requires { LineRoom N out.old }
+    ensures { out.new ≡ out.old ++ end_line count }
 {
-    let e = put_bytes(out, at, b"end");
-    put_last(out, e, count)
+    put_line(out, b"end", &[count]);
 }
 
-pub fn unknown_line(out: &mut [u8], at: usize) -> usize
-    requires { LineRoom at out.old }
-    ensures { Written out.old at unknown_line out.new result }
+// The reply to a line that asks for nothing.
+#[tactic(auto, unfolding(crate::specs::Text::unknown_line))]
+pub fn unknown_line<const N: usize>(out: &mut ByteList<N>)
+    requires { LineRoom N out.old }
+    ensures { out.new ≡ out.old ++ unknown_line }
 {
-    put_bytes(out, at, b"?\n")
+    out.push(b"?\n");
 }

@@ -17,10 +17,6 @@ use Rattle.store_types.specs.declared.Act.{Act}
 use Rattle.store_types.specs.declared.Answer.{Answer}
 use Rattle.store_types.specs.declared.Answer.TheVariants.{Yes, No, Stale}
 use Rattle.store_types.specs.declared.Grant.{Grant}
-use Rattle.store_types.specs.declared.InsertReply.TheVariants as inserting
-use Rattle.store_types.specs.declared.PartyReply.TheVariants as acting
-use Rattle.store_types.specs.declared.QuestionReply.{QuestionReply}
-use Rattle.store_types.specs.declared.QuestionReply.TheVariants as asking
 use Rattle.store_types.specs.declared.TagId.{TagId}
 use Rattle.calls.specs.Store.{Store, fact, count, place_of}
 use Rattle.calls.specs.Insert.{place_tests, insert_refusal}
@@ -33,6 +29,8 @@ use Rattle.calls_laws.proofs.Pairs.{pairs_right}
 use Rattle.calls_laws.proofs.Tests.{passes}
 use Rattle.calls_laws.proofs.WordSteps.{said_store, refusal_said, refusal_passed}
 use Rattle.rights.specs.Promise.{was_allowed, Given, Insertable, Allowed, AllowedExactly}
+use Rattle.std.specs.Prelude.{Result, Ok, Err}
+use Rattle.store_types.specs.Replies.{insert_made}
 
 -- A LIVE GRANT gives the right where a search finds one
 module _ (p x q : ℕ) where
@@ -64,30 +62,30 @@ module _ (p x q : ℕ) where
   held_of c gs h = rw h.stands (found h.before h.grant h.behind c h.lives h.right)
 
 -- WHAT IS TURNED AWAY was not allowed
-away : (q : QuestionReply) → was_allowed (turned_away q) ≡ false
+away : (q : Result Answer ℕ) → was_allowed (turned_away q) ≡ false
 unfolding was_allowed turned_away
-away (asking.Refused k) = refl
-away (asking.Answered Yes) = refl
-away (asking.Answered No) = refl
-away (asking.Answered Stale) = refl
+away (Err k) = refl
+away (Ok Yes) = refl
+away (Ok No) = refl
+away (Ok Stale) = refl
 
 -- and what is allowed was answered with yes, or with no right behind the section's begin
 abbrev AtBegin : Act → Type 0
 AtBegin a = (a.right ≡ insert_right) × (a.tag.0 ≡ a.pair.tag.0)
 
-allowed_by : (t : Bool) (a : Act) (q : QuestionReply) → is_allowed t a q ≡ true → (t ≡ true) × ((q ≡ asking.Answered Yes) ⊎ ((q ≡ asking.Answered No) × AtBegin a))
+allowed_by : (t : Bool) (a : Act) (q : Result Answer ℕ) → is_allowed t a q ≡ true → (t ≡ true) × ((q ≡ Ok Yes) ⊎ ((q ≡ Ok No) × AtBegin a))
 unfolding is_allowed
-allowed_by t a (asking.Refused k) e = absurd (false≢true e)
-allowed_by t a (asking.Answered Yes) e = (e, inl refl)
-allowed_by t a (asking.Answered No) e =
+allowed_by t a (Err k) e = absurd (false≢true e)
+allowed_by t a (Ok Yes) e = (e, inl refl)
+allowed_by t a (Ok No) e =
     let inserts = eqb a.right insert_right in
     let same = eqb a.tag.0 a.pair.tag.0 in
     let both = and_right t (inserts && same) e in
     (and_left t (inserts && same) e, inr (refl, (eqb-true _ _ (and_left inserts same both), eqb-true _ _ (and_right inserts same both))))
-allowed_by t a (asking.Answered Stale) e = absurd (false≢true e)
+allowed_by t a (Ok Stale) e = absurd (false≢true e)
 
 -- THE INSERTION of an allowed call
-inserted_told : (k : ℕ) (x : TagId) (m h : ℕ) → was_allowed (inserted_reply (replied inserting.Refused k (inserting.Inserted x m h))) ≡ true → k ≡ 0
+inserted_told : (k : ℕ) (x : TagId) (m h : ℕ) → was_allowed (inserted_reply (replied Err k (Ok (insert_made x m h)))) ≡ true → k ≡ 0
 unfolding was_allowed inserted_reply replied
 inserted_told zero x m h e = refl
 inserted_told (suc k) x m h e = absurd (false≢true e)
@@ -121,14 +119,14 @@ module _ (p : ℕ) (a : Act) (c : ℕ) (gs : List Grant) (ws : List ℕ) where
   abbrev d : ℕ
   d = a.tag.0
 
-  abbrev q : QuestionReply
+  abbrev q : Result Answer ℕ
   q = question_reply a.pair d ws
 
   -- an answer is that of the store
-  answered : (w : Answer) → q ≡ asking.Answered w → Says ws (said ws) × (question a.pair d (said ws) ≡ asking.Answered w)
+  answered : (w : Answer) → q ≡ Ok w → Says ws (said ws) × (question a.pair d (said ws) ≡ Ok w)
   unfolding question_reply
   answered w e =
-      let (z, same) = replied_accepted asking.Refused (refusal_over ws (λ st. 0)) (question a.pair d (said ws)) (asking.Answered w)
+      let (z, same) = replied_accepted Err (refusal_over ws (λ st. 0)) (question a.pair d (said ws)) (Ok w)
       (λ i f. let n : ◌≡◌ {A = ℕ} 0 1 = cc in omega arith) e in
       ((refusal_passed ws (λ st. 0) z).0, same)
 
@@ -154,7 +152,7 @@ module _ (p : ℕ) (a : Act) (c : ℕ) (gs : List Grant) (ws : List ℕ) where
         insertable = made e;
       }
 
-  by_answer : party_refused p a c (length gs) ≡ 0 → held p x a.right c gs ≡ true → was_allowed (allowed_reply a ws) ≡ true → (q ≡ asking.Answered Yes) ⊎ ((q ≡ asking.Answered No) × AtBegin a) → Allowed p a c gs ws
+  by_answer : party_refused p a c (length gs) ≡ 0 → held p x a.right c gs ≡ true → was_allowed (allowed_reply a ws) ≡ true → (q ≡ Ok Yes) ⊎ ((q ≡ Ok No) × AtBegin a) → Allowed p a c gs ws
   unfolding PairsRight
   by_answer range granted e (inl same) =
       let (says, same) = answered Yes same in
@@ -167,7 +165,7 @@ module _ (p : ℕ) (a : Act) (c : ℕ) (gs : List Grant) (ws : List ℕ) where
   unfolding party_reply act_reply allowed_reply replied was_allowed
   forward e = go (party_refused p a c (length gs)) refl e
     where
-      go : (k : ℕ) → party_refused p a c (length gs) ≡ k → was_allowed (replied acting.Refused k (act_reply (held p x a.right c gs) a ws)) ≡ true → Allowed p a c gs ws
+      go : (k : ℕ) → party_refused p a c (length gs) ≡ k → was_allowed (replied Err k (act_reply (held p x a.right c gs) a ws)) ≡ true → Allowed p a c gs ws
       go (suc k) range f = absurd (false≢true f)
       go zero range f =
           by_test (is_allowed (held p x a.right c gs) a q)
@@ -176,7 +174,7 @@ module _ (p : ℕ) (a : Act) (c : ℕ) (gs : List Grant) (ws : List ℕ) where
 
   -- and back, on any store that the words say
   module _ (st : Store) (says : Says ws st) (pair : Asked a.pair d st) (now : Current a.pair st) (free : (fact st d).marked ≡ false) where
-    answers : (w : Answer) → question a.pair d st ≡ asking.Answered w → q ≡ asking.Answered w
+    answers : (w : Answer) → question a.pair d st ≡ Ok w → q ≡ Ok w
     unfolding question_reply replied
     answers w e = rw (refusal_said ws st says (λ su. 0), said_store ws st says) e
 

@@ -8,14 +8,13 @@ use Prim.Native.Nat.{ℕ, suc, ◌+◌, ◌-◌, ◌≤◌, ◌<◌}
 use native.Mathlib.Omega.{arith}
 use borrow.Author.Tests.{ne_eqb}
 use lib.ListN.{length, length-append, get_or-append}
+use Rattle.lists.proofs.Replied.{replied_answer}
+use Rattle.store_types.proofs.Replies.{same_insert}
 use Rattle.lists.specs.Lists.{numbers}
 use Rattle.lists.proofs.Numbers.{length_numbers, getD_numbers}
 use Rattle.lists.specs.Fronts.{in_front, replied, written}
-use Rattle.lists.proofs.Replied.{replied_accepted}
 use Rattle.store_types.specs.Limits.{no_tag}
-use Rattle.store_types.specs.declared.InsertReply.TheVariants as inserting
 use Rattle.store_types.specs.declared.TagId.{TagId}
-use Rattle.store_types.specs.declared.PartyReply.TheVariants as acting
 use Rattle.tree.specs.Row.{place, insert_at}
 use Rattle.tree_laws.proofs.Rows.{distinct_numbers, not_number_below, place_before, place_behind, place_new}
 use Rattle.tree_laws.proofs.Insertion.{tags_inserted_row}
@@ -38,9 +37,12 @@ use Rattle.calls_laws.proofs.WordSteps.{said_store, refusal_said, says_in_front}
 use Rattle.calls_laws.proofs.Acts.{Acted, act_happened}
 use Rattle.rights.specs.Promise.{was_allowed, AllowedExactly, InsideOnly}
 use Rattle.rights.proofs.Allowed.{allowed_exactly}
+use Rattle.store_types.specs.declared.PartyAnswer.TheVariants as heard
+use Rattle.std.specs.Prelude.{Ok, Err}
+use Rattle.store_types.specs.Replies.{insert_made}
 
 -- ON STORES: k tags behind d, in a section that encloses d or whose begin it is
-module _ {st : Store} (h : Sound st) (w d x : ℕ) (ks : List Kind) (passed : row_refusal w ks d st ≡ 0) (x_Fits : x < count st) (d_fits : d < count st)
+module _ {st : Store} (h : Sound st) (w d x : ℕ) (ks : List Kind) (passed : row_refusal w ks d st ≡ 0) (x_fits : x < count st) (d_fits : d < count st)
     (begins : is_begin (fact st x).kind ≡ true) (inside : Encloses st x d ⊎ (d ≡ x)) where
   abbrev su : Store
   su = insert_store ks d st
@@ -63,7 +65,7 @@ module _ {st : Store} (h : Sound st) (w d x : ℕ) (ks : List Kind) (passed : ro
 
   mate_is : (fact su x).mate ≡ mate
   unfolding insert_store
-  mate_is = ap (λ f. f.mate) (get_or-append st.facts (new_facts (up_at d st) [] (depth_at d st) (count st) ks) _ x x_Fits)
+  mate_is = ap (λ f. f.mate) (get_or-append st.facts (new_facts (up_at d st) [] (depth_at d st) (count st) ks) _ x x_fits)
 
   around : (place_of st x ≤ place_of st d) × (place_of st d < place_of st mate)
   unfolding Encloses
@@ -71,7 +73,7 @@ module _ {st : Store} (h : Sound st) (w d x : ℕ) (ks : List Kind) (passed : ro
     where
       go : Encloses st x d ⊎ (d ≡ x) → (place_of st x ≤ place_of st d) × (place_of st d < place_of st mate)
       go (inl e) = (omega (arith, e.0), e.1)
-      go (inr e) = rw e (omega arith, begin_first h x x_Fits begins)
+      go (inr e) = rw e (omega arith, begin_first h x x_fits begins)
 
   counted : count su ≡ count st + length ks
   unfolding insert_store
@@ -91,9 +93,9 @@ module _ {st : Store} (h : Sound st) (w d x : ℕ) (ks : List Kind) (passed : ro
       let i = e - count st in
       let e_is : count st + i ≡ e = omega (arith, low) in
       let there = rw e_is at (new_place i (omega (arith, counted, high, low))) in
-      let begin_place : place_of su x ≡ place_of st x = ap (place x) row_is ∙ place_before x behind ns (row st) (in_row h x x_Fits) (omega (arith, around.0)) in
+      let begin_place : place_of su x ≡ place_of st x = ap (place x) row_is ∙ place_before x behind ns (row st) (in_row h x x_fits) (omega (arith, around.0)) in
       let end_place : place_of su mate ≡ length ns + place_of st mate = ap (place mate) row_is
-      ∙ place_behind mate behind ns (row st) (in_row h mate (mate_fits h x x_Fits)) (not_number_below mate (count st) (length ks) (mate_fits h x x_Fits)) (omega (arith, around.1)) in
+      ∙ place_behind mate behind ns (row st) (in_row h mate (mate_fits h x x_fits)) (not_number_below mate (count st) (length ks) (mate_fits h x x_fits)) (omega (arith, around.1)) in
       let many = length_numbers (count st) (length ks) in
       rw mate_is (omega (arith, there, begin_place, around.0), omega (arith, there, end_place, many, around.1, counted, high, low))
 
@@ -110,9 +112,9 @@ inside_only p a c x m h gs ws e =
     let allowed = (allowed_exactly p a c gs ws).0 (ap was_allowed e) in
     let st = allowed.store in
     let says = allowed.says in
-    let (reply, new) = act_happened p a c gs (acting.Inserted (record { 0 = x }) m h) ws (sym e) in
-    let (z, same) = replied_accepted inserting.Refused (insert_refused a.kind d ws) _ (inserting.Inserted (record { 0 = x }) m h) (λ i f. let n : ◌≡◌ {A = ℕ} 0 1 = cc in omega arith) (sym reply) in
-    let number : ◌≡◌ {A = TagId} (record { 0 = count (said ws) }) (record { 0 = x }) = cc in
+    let (reply, new) = act_happened p a c gs (Ok (heard.Inserted (insert_made (record { 0 = x }) m h))) ws (sym e) in
+    let (z, same) = replied_answer (insert_refused a.kind d ws) _ (insert_made (record { 0 = x }) m h) (sym reply) in
+    let number = (same_insert same).0 in
     let first : count st ≡ x = ap count (sym (said_store ws st says)) ∙ ap (λ t. t.0) number in
     let passes = sym (refusal_said ws st says (insert_refusal (length ws) a.kind d)) ∙ z in
     let front : party_words p a c gs ws ≡ in_front (words_of (insert_store ks d st)) ws = new ∙ rw (z, said_store ws st says) in

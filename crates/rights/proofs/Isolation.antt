@@ -11,13 +11,13 @@ use Rattle.lists.proofs.Those.{none_stronger}
 use Rattle.lists.specs.Fronts.{replied}
 use Rattle.store_types.specs.declared.Act.{Act}
 use Rattle.store_types.specs.declared.Answer.TheVariants.{Yes, No, Stale}
-use Rattle.store_types.specs.declared.QuestionReply.{QuestionReply}
-use Rattle.store_types.specs.declared.QuestionReply.TheVariants as asking
 use Rattle.calls.specs.Replies.{question_reply}
 use Rattle.calls.specs.Rights.{names, gives, held, is_allowed, act_words, party_refused, party_words}
 use Rattle.system.specs.System.{System, live, Call, reply, with_words, step}
 use Rattle.system.specs.Histories.{Entry, with_extras, without, afterwards, replies, shared_replies, AllPowerless}
 use Rattle.rights.specs.Promise.{Powerless, Isolation}
+use Rattle.std.specs.Prelude.{Result, Ok, Err}
+use Rattle.store_types.specs.declared.Answer.{Answer}
 
 -- ANY HISTORIES, where calls of a kind leave the system as it is
 module _ {C Y Q : Type 0} (step : C → Y → Y) (reply : C → Y → Q) (P : C → Y → Type 0) (still : (c : C) (y : Y) → P c y → step c y ≡ y) where
@@ -35,12 +35,12 @@ module _ {C Y Q : Type 0} (step : C → Y → Y) (reply : C → Y → Q) (P : C 
   isolated (e ∷ es) y p = one e.call e.extra es y p.0 (isolated es (step e.call y) p.1)
 
 -- A PARTY WITHOUT A GRANT is allowed nothing
-never : (a : Act) (q : QuestionReply) → is_allowed false a q ≡ false
+never : (a : Act) (q : Result Answer ℕ) → is_allowed false a q ≡ false
 unfolding is_allowed
-never a (asking.Refused k) = refl
-never a (asking.Answered Yes) = refl
-never a (asking.Answered No) = refl
-never a (asking.Answered Stale) = refl
+never a (Err k) = refl
+never a (Ok Yes) = refl
+never a (Ok No) = refl
+never a (Ok Stale) = refl
 
 not_held : (p x q : ℕ) (y : System) → some_holds (λ g. eqb g.party p) (live y) ≡ false → held p x q y.count y.grants ≡ false
 unfolding held gives names

@@ -1,13 +1,9 @@
 -- What is promised of rights (document 02, CR 6). Each statement is a type; docs/THEOREMS.md names its proof. Assumes nothing.
-use Rattle.std.specs.Prelude.{◌≡◌, Bool, true, false, not, List, [], ◌∷◌, ◌++◌, ◌↔◌, ◌⊎◌, ℕ, ◌+◌, ◌≤◌, ◌<◌, eqb, length}
+use Rattle.std.specs.Prelude.{◌≡◌, Bool, true, false, not, List, [], ◌∷◌, ◌++◌, ◌↔◌, ◌⊎◌, ℕ, ◌+◌, ◌≤◌, ◌<◌, eqb, length, Result, Ok, Err}
 use Rattle.lists.specs.Lists.{first, some_holds, those}
 use Rattle.store_types.specs.Limits.{insert_right}
 use Rattle.store_types.specs.declared.Act.{Act}
 use Rattle.store_types.specs.declared.Grant.{Grant}
-use Rattle.store_types.specs.declared.GrantReply.TheVariants.{Granted}
-use Rattle.store_types.specs.declared.PartyReply.{PartyReply}
-use Rattle.store_types.specs.declared.PartyReply.TheVariants as party
-use Rattle.store_types.specs.declared.RevokeReply.TheVariants.{Revoked}
 use Rattle.tree.specs.Book.{height}
 use Rattle.calls.specs.Store.{Store, fact, count, height_fits}
 use Rattle.calls.specs.Insert.{insert_kinds, labels_end, room_tests}
@@ -16,6 +12,9 @@ use Rattle.calls.specs.Rights.{names, gives, party_refused, party_reply, party_w
 use Rattle.calls.specs.Promise.{Encloses, Current, Asked}
 use Rattle.system.specs.System.{System, live, grant, revoke, Call, keeps, acts, load_with_grants, restore_with_grants, granted, revoked, kept, accepted, reply, step}
 use Rattle.system.specs.Histories.{Entry, with_extras, without, afterwards, replies, shared_replies, AllPowerless}
+use Rattle.store_types.specs.declared.PartyAnswer.TheVariants as heard
+use Rattle.store_types.specs.Replies.{insert_made}
+use Rattle.store_types.specs.declared.PartyAnswer.{PartyAnswer}
 
 -- TWO HISTORIES. A call of a party of which no live grant speaks
 pub record Powerless (c : Call) (y : System) : Type 0 where
@@ -33,11 +32,11 @@ unfoldable pub Isolation : Type 0
 Isolation = (y : System) (es : List (Entry Call)) → AllPowerless step Powerless es y → Alike es y
 
 -- A PARTY'S CALL is allowed: it replies yes or an insertion. A stale pair is no refusal, and not allowed
-unfoldable pub was_allowed : PartyReply → Bool
-was_allowed party.Yes = true
-was_allowed (party.Inserted x m h) = true
-was_allowed party.Stale = false
-was_allowed (party.Refused k) = false
+unfoldable pub was_allowed : Result PartyAnswer ℕ → Bool
+was_allowed (Ok heard.Yes) = true
+was_allowed (Ok (heard.Inserted i)) = true
+was_allowed (Ok heard.Stale) = false
+was_allowed (Err k) = false
 
 -- a live grant that gives a party a right on a section
 pub record Given (p x q c : ℕ) (gs : List Grant) : Type 0 where
@@ -81,13 +80,13 @@ pub record PutInside (x section : ℕ) (ws : List ℕ) : Type 0 where
 
 unfoldable pub InsideOnly : Type 0
 InsideOnly =
-    (p : ℕ) (a : Act) (c x m h : ℕ) (gs : List Grant) (ws : List ℕ) → party_reply p a c gs ws ≡ party.Inserted (record { 0 = x }) m h →
+    (p : ℕ) (a : Act) (c x m h : ℕ) (gs : List Grant) (ws : List ℕ) → party_reply p a c gs ws ≡ Ok (heard.Inserted (insert_made (record { 0 = x }) m h)) →
     PutInside x a.pair.tag.0 (party_words p a c gs ws)
 
 -- GRANTS BEGIN AND END. An accepted grant goes after the live ones
 unfoldable pub GrantedAdds : Type 0
 GrantedAdds =
-    (p x q n : ℕ) (y : System) → reply (keeps (grant p x q)) y ≡ kept (granted (Granted n)) →
+    (p x q n : ℕ) (y : System) → reply (keeps (grant p x q)) y ≡ kept (granted (Ok n)) →
     (live (step (keeps (grant p x q)) y) ≡ live y ++ (record { party = p; section = x; rights = q } ∷ [])) × (length (live (step (keeps (grant p x q)) y)) ≡ n)
 
 -- after an accepted revoke no live grant of that party on that section is left, and all others are, in order; n were taken out
@@ -97,7 +96,7 @@ pub record Ended (p x n : ℕ) (y : System) : Type 0 where
   pub taken_out : length (live y) ≡ n + length (live (step (keeps (revoke p x)) y))
 
 unfoldable pub RevokedEnds : Type 0
-RevokedEnds = (p x n : ℕ) (y : System) → reply (keeps (revoke p x)) y ≡ kept (revoked (Revoked n)) → Ended p x n y
+RevokedEnds = (p x n : ℕ) (y : System) → reply (keeps (revoke p x)) y ≡ kept (revoked (Ok n)) → Ended p x n y
 
 -- after an accepted load or file read to which the count is lent none is
 unfoldable pub EndsAll : Call → Type 0

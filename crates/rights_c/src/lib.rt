@@ -7,10 +7,10 @@ mod flat;
 
 ghost use Rattle.std.specs.Prelude.{◌≡◌};
 ghost use Rattle.calls.specs.Replies.{load_reply, load_words, read_reply, read_words};
-ghost use Rattle.c_replies.specs.Flat.{c_loaded, c_granted, c_revoked, c_party, act_of};
+ghost use Rattle.c_replies.specs.Flat.{c_loaded, c_places, c_party, act_of};
 ghost use Rattle.calls.specs.Rights.{emptied_by, grant_reply, grant_count, grant_list, revoke_reply, revoke_count, revoke_list, party_reply, party_words};
 
-use c_replies::{Granted, Loaded, Party, Revoked};
+use c_replies::{CountedPlaces, Loaded, Party};
 use store_types::Grant;
 
 #[unsafe(no_mangle)]
@@ -26,7 +26,7 @@ pub extern "C" fn vk_load_with_grants(
     ensures words { words.new ≡ load_words s r book kinds.now words.old }
     ensures count { count.new ≡ emptied_by (load_reply s r book kinds.now words.old) count.old }
 {
-    c_replies::of_load(store_party::load_with_grants(s, r, book, kinds, words, count))
+    store_party::load_with_grants(s, r, book, kinds, words, count).into()
 }
 
 #[unsafe(no_mangle)]
@@ -39,7 +39,7 @@ pub extern "C" fn vk_read_file_with_grants(
     ensures words { words.new ≡ read_words bytes.now words.old }
     ensures count { count.new ≡ emptied_by (read_reply bytes.now words.old) count.old }
 {
-    c_replies::of_load(store_party::read_file_with_grants(bytes, words, count))
+    store_party::read_file_with_grants(bytes, words, count).into()
 }
 
 // The three over a lent list of grants are straight lines.
@@ -51,8 +51,8 @@ pub extern "C" fn vk_grant_add(
     grants: &mut [Grant],
     count: &mut usize,
     words: &[u32],
-) -> Granted
-    ensures reply { result ≡ c_granted (grant_reply party section rights count.old grants.old words.now) }
+) -> CountedPlaces
+    ensures reply { result ≡ c_places (grant_reply party section rights count.old grants.old words.now) }
     ensures grants { grants.new ≡ grant_list party section rights count.old grants.old words.now }
     ensures count { count.new ≡ grant_count party section rights count.old grants.old words.now }
 {
@@ -68,25 +68,27 @@ pub extern "C" fn vk_grant_add(
     reply
 }
 
+#[tactic(auto, using(crate::proofs::GrantLaws::fitting), unfolding(calls::specs::Rights::revoke_refused))]
 #[unsafe(no_mangle)]
 pub extern "C" fn vk_grant_revoke(
     party: u32,
     section: u32,
     grants: &mut [Grant],
     count: &mut usize,
-) -> Revoked
-    ensures reply { result ≡ c_revoked (revoke_reply party section count.old grants.old) }
+) -> CountedPlaces
+    ensures reply { result ≡ c_places (revoke_reply party section count.old grants.old) }
     ensures grants { grants.new ≡ revoke_list party section count.old grants.old }
     ensures count { count.new ≡ revoke_count party section count.old grants.old }
 {
     let room = grants.len();
     let live = *count;
-    let refusal = party_rules::revoke_refused(party, live, room);
-    let looked = party_rules::looked_at(refusal, live);
+    let checked = party_rules::check_revoke(party, live, room);
+    let looked = party_rules::looked_at(checked, live);
     let kept = grant_list::close_gap(grants, looked, party, section);
-    flat::revoke(refusal, kept, count)
+    flat::revoke(checked, kept, count)
 }
 
+#[tactic(auto, using(crate::proofs::GrantLaws::looks_fit))]
 #[unsafe(no_mangle)]
 pub extern "C" fn vk_party_call(
     party: u32,
@@ -105,9 +107,9 @@ pub extern "C" fn vk_party_call(
     ensures words { words.new ≡ party_words party (act_of book tag start end d right kind) count grants.now words.old }
 {
     let room = grants.len();
-    let refusal = party_rules::party_refused(party, right, count, room);
-    let looked = party_rules::looked_at(refusal, count);
+    let checked = party_rules::check_party(party, right, count, room);
+    let looked = party_rules::looked_at(checked, count);
     let granted = grant_list::search(grants, looked, party, tag, right);
     let act = c_replies::act_of(book, tag, start, end, d, right, kind);
-    flat::party(refusal, granted, act, words)
+    flat::party(checked, granted, act, words)
 }

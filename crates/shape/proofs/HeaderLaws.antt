@@ -3,7 +3,7 @@ use mathlib.Core.Path.{◌≡◌, sym, ◌∙◌}
 use mathlib.Core.Bool.{Bool, true, false, not, and-false, and-eq-true_iff}
 use mathlib.Core.List.{List}
 use Prim.Native.Nat.{ℕ, ◌+◌, ◌*◌, ◌-◌, ◌^◌, ◌≤◌, ◌<◌}
-use native.Mathlib.Nat.{pow-suc, mul-le-mul, pow-le-pow_right}
+use native.Mathlib.Nat.{pow-suc, pow-le-pow_right}
 use native.Mathlib.Numerals.{add-one, sub-one}
 use native.Mathlib.Omega.{arith}
 use borrow.Author.Tests.{eq-eqb, ne_eqb, lt-ltb, le-ltb, le-leb, lt-leb, leb-true, not-true, not-false}
@@ -18,11 +18,8 @@ use Rattle.calls.specs.Words.{header_width, header_in_range}
 use Rattle.shape.specs.Needs.{root_passes, degree_fits, frame_passes}
 
 -- A POWER: p is b^i
-pub power_more : (b p i : ℕ) → p ≡ b ^ i → p * b ≡ b ^ (i + 1)
+power_more : (b p i : ℕ) → p ≡ b ^ i → p * b ≡ b ^ (i + 1)
 power_more b p i e = rw (e, add-one, pow-suc)
-
-pub product_fits : (b p : ℕ) → b ≤ 255 → p ≤ 4294967296 → p * b ≤ 1095216660480
-product_fits b p h q = mul-le-mul q h
 
 module _ (s r p i h : ℕ) (e : p ≡ (s * r - 1) ^ i) where
   pub power_over : 4 ≤ s * r → i < h → 4294967296 < p * (s * r - 1) → false ≡ power_fits s r h

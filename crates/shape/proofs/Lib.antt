@@ -1,5 +1,5 @@
 pub mod Fits
 pub mod HeaderLaws
 pub mod Sums
-pub mod PartLaws
 pub mod RoomLaws
+pub mod Parts

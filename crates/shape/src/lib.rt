@@ -2,20 +2,34 @@
 // (document 01, "The book in words", "The tree").
 #![tactic(auto)]
 
-pub mod tables;
-
 ghost use Rattle.std.specs.Prelude.{◌≡◌, ◌+◌, ◌*◌, ◌-◌, ◌^◌, ◌≤◌, ◌<◌};
-ghost use Rattle.powers.specs.Tables.{TableFits, entry_limit, table as power-table};
+ghost use Rattle.powers.specs.Tables.{TableFits, entry_limit, table as power_table};
 ghost use Rattle.shape.specs.Tables.{widths_of};
-ghost use Rattle.shape.specs.Sums.{cut as label-part};
+ghost use Rattle.shape.specs.Sums.{cut as label_part};
 ghost use Rattle.shape.specs.Packed.{Packed};
 ghost use Rattle.calls.specs.Store.{power_fits};
 ghost use Rattle.shape.specs.Needs.{RootFits, WidthsFit, SearchFits, LeastRoom, TablesFit, frame_passes, root_passes, degree_fits};
 
 pub use powers::TABLE_LENGTH;
 
-// Four tables in one array.
-pub const PACKED_LENGTH: usize = 4 * TABLE_LENGTH;
+// Four tables by height: the width of a node, its least leaves, its limit, and the number of a place's ancestor.
+#[derive(Clone, Copy)]
+pub struct Tables {
+    pub widths: [u64; TABLE_LENGTH],
+    pub lows: [u64; TABLE_LENGTH],
+    pub highs: [u64; TABLE_LENGTH],
+    pub numbers: [u64; TABLE_LENGTH],
+}
+
+impl Tables {
+    // Of no header and no place: what others are written over.
+    pub const EMPTY: Tables = Tables {
+        widths: [0; TABLE_LENGTH],
+        lows: [0; TABLE_LENGTH],
+        highs: [0; TABLE_LENGTH],
+        numbers: [0; TABLE_LENGTH],
+    };
+}
 
 // No sound store is higher: its tags would be more than 200,000.
 pub const MOST_LEVELS: u32 = 17;
@@ -28,10 +42,10 @@ const MOST_DEGREE: u32 = 16;
 // Powers by height, from v on: entries 0 to top.
 pub fn table(v: u64, b: u64, top: usize) -> [u64; TABLE_LENGTH]
     requires { TableFits v b top }
-    ensures { result ≡ power-table v b top }
+    ensures { result ≡ power_table v b top }
 {
     let mut t = [0u64; TABLE_LENGTH];
-    powers::fill(&mut t, powers::NO_DEGREE, v, b, top);
+    powers::fill(&mut t, None, v, b, top);
     t
 }
 
@@ -51,7 +65,7 @@ pub fn widths(words: &[u32]) -> [u64; TABLE_LENGTH]
 
 // A number by what a label holds of it: all, in a sound store.
 pub fn cut(number: u64) -> u64
-    ensures { result ≡ label-part number }
+    ensures { result ≡ label_part number }
 {
     number % store_types::LABEL_LIMIT
 }
@@ -59,7 +73,7 @@ pub fn cut(number: u64) -> u64
 // A label or the number of a node with a width added.
 pub fn sum(label: u64, width: u64) -> u64
     requires { (label ≤ entry_limit) × (width ≤ entry_limit) }
-    ensures { result ≡ label-part (label + width) }
+    ensures { result ≡ label_part (label + width) }
 {
     cut(label + width)
 }
@@ -67,7 +81,7 @@ pub fn sum(label: u64, width: u64) -> u64
 // How far so many nodes of a width reach.
 pub fn times(count: u64, width: u64) -> u64
     requires { count * width < 2 ^ 64 }
-    ensures { result ≡ label-part (count * width) }
+    ensures { result ≡ label_part (count * width) }
 {
     cut(count * width)
 }
@@ -77,19 +91,16 @@ pub fn height_fits(s: u32, r: u32, h: u32) -> bool
     requires { (4 ≤ s * r) × (s * r ≤ 256) }
     ensures { result ≡ power_fits s r h }
 {
-    let known = powers::heights(s, r);
-    if known != 0 {
+    if let Some(known) = powers::heights(s, r) {
         return (h as usize) < known;
     }
     let b = (s as u64) * (r as u64) - 1;
     let mut p: u64 = 1;
-    let mut i: u32 = 0;
-    while i < h {
-        p = p * b;
+    for _ in 0..h {
+        p *= b;
         if store_types::LABEL_LIMIT < p {
             return false;
         }
-        i += 1;
     }
     true
 }
@@ -108,17 +119,22 @@ pub fn height_for(n: u64, limit: u64, r: u64, h: u32) -> u32
     top
 }
 
-// The three tables of s and r up to a height.
-pub fn tables_for(s: u32, r: u32, top: usize) -> [u64; PACKED_LENGTH]
+// The three tables of s and r up to a height, and no numbers.
+pub fn tables_for(s: u32, r: u32, top: usize) -> Tables
     requires { TablesFit s r top }
-    ensures { Packed result (power-table 1 (s * r - 1) top) (power-table 1 r top) (power-table s r top) }
+    ensures { Packed result (power_table 1 (s * r - 1) top) (power_table 1 r top) (power_table s r top) }
 {
     let b = (s as u64) * (r as u64) - 1;
     let mut widths = [0u64; TABLE_LENGTH];
     powers::fill(&mut widths, powers::degree(s, r), 1, b, top);
     let lows = table(1, r as u64, top);
     let highs = table(s as u64, r as u64, top);
-    tables::packed(widths, lows, highs)
+    Tables {
+        widths,
+        lows,
+        highs,
+        numbers: [0; TABLE_LENGTH],
+    }
 }
 
 // Whether a degree, s or r, is in its range.

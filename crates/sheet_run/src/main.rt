@@ -3,21 +3,18 @@
 #![tactic(auto)]
 
 use std::io;
-use xml::SheetReply;
 
 fn number(rt: &impl Print, n: u64) -> io::Result<()> {
     print!(rt; " {n}")
 }
 
 fn kind(rt: &impl Print, k: u8) -> io::Result<()> {
-    number(rt, k as u64)
+    number(rt, u64::from(k))
 }
 
 fn show(rt: &impl Print, kinds: &[u8]) -> io::Result<()> {
-    let mut i: usize = 0;
-    while i < kinds.len() {
-        kind(rt, kinds[i])?;
-        i += 1;
+    for k in kinds {
+        kind(rt, *k)?;
     }
     Ok(())
 }
@@ -26,10 +23,10 @@ fn show(rt: &impl Print, kinds: &[u8]) -> io::Result<()> {
 fn sheet(rt: &impl Print, text: &[u8], kinds: &mut [u8]) -> io::Result<()> {
     print!(rt; "sheet")?;
     match xml_read::xml_kinds(text, kinds) {
-        SheetReply::Kinds(n) => number(rt, n as u64)?,
-        SheetReply::Refused(k) => {
+        Ok(n) => number(rt, n as u64)?,
+        Err(refusal) => {
             print!(rt; " no")?;
-            number(rt, k as u64)?;
+            number(rt, u64::from(refusal.number()))?;
         }
     }
     print!(rt; " :")?;
@@ -62,10 +59,8 @@ fn sheets(rt: &impl Print) -> io::Result<()> {
 // Start tags one in another, as far as the text has room.
 fn nest(text: &mut [u8]) {
     let tag = b"<a>";
-    let mut i: usize = 0;
-    while i < text.len() {
-        text[i] = tag[i % 3];
-        i += 1;
+    for (i, b) in text.iter_mut().enumerate() {
+        *b = tag[i % 3];
     }
 }
 

@@ -1,12 +1,12 @@
 -- What a split takes; and a path of trees cut up into what stands left of the cursor's, its own tree, and what stands behind it. Assumes
 -- nothing.
 use mathlib.Core.Path.{◌≡◌, ap, ◌∙◌}
-use mathlib.Core.List.{List}
 use Prim.Native.Nat.{ℕ, zero, suc, pred, ◌+◌, ◌*◌, ◌-◌, ◌/◌, ◌^◌, ◌≤◌}
 use native.Mathlib.Nat.{suc-mul, one-mul, mul-le-mul_right}
 use native.Mathlib.Omega.{arith}
 use Rattle.powers.specs.Tables.{entry}
 use Rattle.shape.specs.Packed.{lows_in, s_in, r_in}
+use Rattle.shape.specs.declared.Tables as by_height
 use Rattle.tree.specs.Grown.{in_splits}
 use Rattle.tree_laws.proofs.Spread.{some_power}
 use Rattle.tree_laws.proofs.PathLaws.{path_below}
@@ -34,7 +34,7 @@ pub record CutUp (s r j count c e each : ℕ) : Type 0 where
   pub split : in_splits s r (pred j) e ≤ e
   pub most : count ≤ 200000
 
-pub cut_up : {j count c e each : ℕ} {t : List ℕ} → 1 ≤ j → PathFit j count c e t → each ≡ entry (lows_in t) j → CutUp (s_in t) (r_in t) j count c e each
+pub cut_up : {j count c e each : ℕ} {t : by_height.Tables} → 1 ≤ j → PathFit j count c e t → each ≡ entry (lows_in t) j → CutUp (s_in t) (r_in t) j count c e each
 cut_up {j} {count} {c} {e} {each} {t} low h is = go j low h (is ∙ h.splits.lows j (omega arith))
   where
     go : (j : ℕ) → 1 ≤ j → PathFit j count c e t → each ≡ r_in t ^ j → CutUp (s_in t) (r_in t) j count c e each
@@ -52,7 +52,7 @@ cut_up {j} {count} {c} {e} {each} {t} low h is = go j low h (is ∙ h.splits.low
         }
 
 -- tables that suffice for a height do for those below it
-pub splits_lower : {j : ℕ} {t : List ℕ} → SplitsFit j t → (i : ℕ) → i ≤ j → SplitsFit i t
+pub splits_lower : {j : ℕ} {t : by_height.Tables} → SplitsFit j t → (i : ℕ) → i ≤ j → SplitsFit i t
 splits_lower h i l =
     record {
       degree_s = h.degree_s;

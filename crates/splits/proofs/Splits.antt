@@ -26,13 +26,12 @@ inside n x l b h = rw (lt-leb n x h) (opposite l b)
 
 -- A WALK LEFT: it has taken so many steps and stands at x; what it does from here comes to the whole
 pub record Leftward (whole : Border) (n : ℕ) (ws : List ℕ) (low x steps : ℕ) : Type 0 where
-  pub fits : steps ≤ n
   pub tag_comes : (left_border (n - steps) n ws low x).tag ≡ whole.tag
   pub steps_come : steps + (left_border (n - steps) n ws low x).steps ≡ whole.steps
 
 pub left_start : (n : ℕ) (ws : List ℕ) (low x : ℕ) → Leftward (left_border n n ws low x) n ws low x 0
 left_start n ws low x =
-    let all : n - 0 ≡ n = omega arith in record { fits = omega arith; tag_comes = rw all; steps_come = rw (all, zero-add) }
+    let all : n - 0 ≡ n = omega arith in record { tag_comes = rw all; steps_come = rw (all, zero-add) }
 
 -- t says whether x is one of n and its label is at least low
 module _ {whole : Border} {n : ℕ} {ws : List ℕ} {low x steps : ℕ} (a : Leftward whole n ws low x steps) where
@@ -53,7 +52,6 @@ module _ {whole : Border} {n : ℕ} {ws : List ℕ} {low x steps : ℕ} (a : Lef
     left_on e f =
         let goes = not-true (leb n x || ltb (label_at ws x) low) (sym test ∙ e) in
         record {
-          fits = omega arith;
           tag_comes = rw f (rw (further, goes) at a.tag_comes);
           steps_come = rw f (omega (arith, rw (further, goes) at a.steps_come));
         }
@@ -66,13 +64,11 @@ module _ {whole : Border} {n : ℕ} {ws : List ℕ} {low x steps : ℕ} (a : Lef
 
 -- HEIGHTS one by one: a loop has come to height h and found a height below it; what it does from here comes to the whole
 pub record Climbing (whole : ℕ) (hi sz : List ℕ) (k under h found : ℕ) : Type 0 where
-  pub from : 1 ≤ h
-  pub fits : h ≤ under + 1
   pub comes : highest_full hi sz k (under + 1 - h) h found ≡ whole
 
 pub climb_start : (hi sz : List ℕ) (k under : ℕ) → Climbing (highest_full hi sz k under 1 0) hi sz k under 1 0
 climb_start hi sz k under =
-    let all : under + 1 - 1 ≡ under = omega arith in record { from = omega arith; fits = omega arith; comes = rw all }
+    let all : under + 1 - 1 ≡ under = omega arith in record { comes = rw all }
 
 climb_turn : (hi sz : List ℕ) (k m h q : ℕ) → highest_full hi sz k (suc m) h q ≡ highest_full hi sz k m (suc h) (cond (leb (entry hi h) (entry sz h + k)) h q)
 unfolding highest_full
@@ -82,7 +78,7 @@ module _ {whole : ℕ} {hi sz : List ℕ} {k under h found : ℕ} (c : Climbing 
   pub climb_on : {t : Bool} {q : ℕ} → h ≤ under → t ≡ leb (entry hi h) (entry sz h + k) → q ≡ cond t h found → Climbing whole hi sz k under (h + 1) q
   climb_on more test e =
       let left : under + 1 - h ≡ suc (under + 1 - (h + 1)) = omega arith in
-      record { from = omega arith; fits = omega arith; comes = rw (e, test) (rw (left, climb_turn, ← add-one h) at c.comes) }
+      record { comes = rw (e, test) (rw (left, climb_turn, ← add-one h) at c.comes) }
 
   pub climb_end : under < h → found ≡ whole
   unfolding highest_full

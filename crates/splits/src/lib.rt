@@ -11,7 +11,7 @@ ghost use Rattle.edit_model.specs.Relabel.{issued};
 ghost use Rattle.edit_model.specs.Split.{highest_full, left_border};
 ghost use Rattle.splits.specs.Needs.{BorderIs, SplitsFit, PathFit, PartsAre};
 
-use shape::{PACKED_LENGTH, TABLE_LENGTH};
+use shape::{TABLE_LENGTH, Tables};
 use store_types::TagId;
 
 // Whether x is a tag of n with a label of at least low.
@@ -36,12 +36,13 @@ pub fn left_border(words: &[u32], low: u64, x: TagId) -> Border
 {
     let n = words::count_of(words);
     let mut tag = x;
-    let mut steps: u32 = 0;
-    while steps < n && at_least(words, n, tag, low) {
+    for steps in 0..n {
+        if !at_least(words, n, tag, low) {
+            return Border { tag, steps };
+        }
         tag = words::prior_of(words, tag);
-        steps += 1;
     }
-    Border { tag, steps }
+    Border { tag, steps: n }
 }
 
 // Whether a node of a size comes to its limit with k leaves more.
@@ -60,35 +61,24 @@ fn higher(lower: usize, here: usize, full: bool) -> usize
 
 // The height of the highest ancestor below the root that comes to its limit with k leaves more, by the sizes of the
 // ancestors; 0 if none does.
-pub fn highest_full(
-    k: u32,
-    under: usize,
-    tables: &[u64; PACKED_LENGTH],
-    sizes: &[u32; TABLE_LENGTH],
-) -> usize
+pub fn highest_full(k: u32, under: usize, tables: &Tables, sizes: &[u32; TABLE_LENGTH]) -> usize
     requires { under ≤ table_under }
     ensures { result ≡ highest_full (highs_in tables.now) sizes.now k under 1 0 }
 {
     let mut found: usize = 0;
-    let mut h: usize = 1;
-    while h <= under {
-        found = higher(
-            found,
-            h,
-            is_full(shape::tables::high(tables, h), sizes[h], k),
-        );
-        h += 1;
+    for h in 1..=under {
+        found = higher(found, h, is_full(tables.highs[h], sizes[h], k));
     }
     found
 }
 
 // Of so many tags behind a cursor in complete trees of height j, those that go in with splits at that height. A split takes as many
 // as a node's limit is above its least leaves.
-pub fn in_splits(rest: u64, j: usize, tables: &[u64; PACKED_LENGTH]) -> u64
+pub fn in_splits(rest: u64, j: usize, tables: &Tables) -> u64
     requires { SplitsFit j tables.now }
     ensures { result ≡ splits_of (s_in tables.now) (r_in tables.now) j rest }
 {
-    let each = shape::tables::high(tables, j) - shape::tables::low(tables, j);
+    let each = tables.highs[j] - tables.lows[j];
     rest / each * each
 }
 
@@ -104,17 +94,11 @@ pub struct PathParts {
     pub rest: u64,
 }
 
-pub fn path_parts(
-    j: usize,
-    count: u64,
-    at: u64,
-    rest: u64,
-    tables: &[u64; PACKED_LENGTH],
-) -> PathParts
+pub fn path_parts(j: usize, count: u64, at: u64, rest: u64, tables: &Tables) -> PathParts
     requires { (1 ≤ j) × PathFit j count at rest tables.now }
     ensures { PartsAre (s_in tables.now) (r_in tables.now) j count at rest result }
 {
-    let each = shape::tables::low(tables, j);
+    let each = tables.lows[j];
     let trees = (at - 1) / each;
     let before = trees * each;
     let own = each + rest;

@@ -6,32 +6,55 @@ use Prim.Native.Nat.{ℕ}
 use borrow.Author.Tests.{eq-eqb, ne_eqb}
 use Rattle.store_types.specs.Limits.{insert_right}
 use Rattle.store_types.specs.declared.Act.{Act}
-use Rattle.store_types.specs.declared.InsertReply.{InsertReply}
-use Rattle.store_types.specs.declared.PartyReply.{PartyReply}
-use Rattle.store_types.specs.declared.PartyReply.TheVariants as party
-use Rattle.store_types.specs.declared.QuestionReply.{QuestionReply}
 use Rattle.calls.specs.Replies.{refusal_over, question_reply, insert_reply, insert_words}
 use Rattle.calls.specs.Rights.{is_allowed, turned_away, inserted_reply, allowed_reply, allowed_words, act_reply, act_words}
-use Rattle.held_call.proofs.Pairs.{question_refused}
+use Rattle.lists.proofs.Replied.{replied_refused}
+use Rattle.store_refuse.proofs.Laws.{accepted_says}
+use Rattle.party_rules.proofs.Replied.{by_refusal}
+use Rattle.store_types.specs.declared.PartyAnswer.TheVariants as heard
+use Rattle.std.specs.Prelude.{Result, Ok, Err}
+use Rattle.store_types.specs.declared.Answer.{Answer}
 
 module _ (t : Bool) (a : Act) (ws : List ℕ) where
-  -- the words say no store
-  pub not_said : {k : ℕ} → k ≡ refusal_over ws (λ st. 0) → (k ≡ 0 → ⊥) → (party.Refused k ≡ act_reply t a ws) × (ws ≡ act_words t a ws)
-  unfolding act_reply act_words is_allowed turned_away
-  not_said {k} e n = rw (← question_refused ws a.pair a.tag.0 k e n) (refl, refl)
+  abbrev asked : Result Answer ℕ
+  asked = question_reply a.pair a.tag.0 ws
 
-  -- q is the question's reply, and u whether the call is allowed
-  module _ {q : QuestionReply} (asked : q ≡ question_reply a.pair a.tag.0 ws) {u : Bool} (judged : u ≡ is_allowed t a q) where
-    pub not_allowed : u ≡ false → {r : PartyReply} → r ≡ turned_away q → (r ≡ act_reply t a ws) × (ws ≡ act_words t a ws)
-    unfolding act_reply act_words
-    not_allowed left e = rw (← asked, ← judged, left) (e, refl)
+  -- the words say no store: k is their refusal
+  question_refused : {k : ℕ} → k ≡ refusal_over ws (λ st. 0) → (k ≡ 0 → ⊥) → Err k ≡ asked
+  unfolding question_reply
+  question_refused {k} e n = rw (← e) (replied_refused Err k _ n)
 
-    module _ (taken : u ≡ true) where
-      pub only_yes : (a.right ≡ insert_right → ⊥) → (party.Yes ≡ act_reply t a ws) × (ws ≡ act_words t a ws)
-      unfolding act_reply act_words allowed_reply allowed_words
-      only_yes n = rw (← asked, ← judged, taken, ne_eqb a.right insert_right n) (refl, refl)
+  pub unsaid_reply : {k : ℕ} → k ≡ refusal_over ws (λ st. 0) → (k ≡ 0 → ⊥) → Err k ≡ act_reply t a ws
+  unfolding act_reply is_allowed turned_away
+  unsaid_reply {k} e n = rw (← question_refused e n)
 
-      pub inserts : a.right ≡ insert_right → {i : InsertReply} {vs : List ℕ} → (i ≡ insert_reply a.kind a.tag.0 ws) × (vs ≡ insert_words a.kind a.tag.0 ws) →
-          {r : PartyReply} → r ≡ inserted_reply i → (r ≡ act_reply t a ws) × (vs ≡ act_words t a ws)
-      unfolding act_reply act_words allowed_reply allowed_words
-      inserts right done e = rw (← asked, ← judged, taken, eq-eqb a.right insert_right right, ← done.0, ← done.1) (e, refl)
+  pub unsaid_words : (refusal_over ws (λ st. 0) ≡ 0 → ⊥) → ws ≡ act_words t a ws
+  unfolding act_words is_allowed
+  unsaid_words n = rw (← question_refused refl n)
+
+  pub away_reply : is_allowed t a asked ≡ false → turned_away asked ≡ act_reply t a ws
+  unfolding act_reply
+  away_reply left = rw left
+
+  pub away_words : is_allowed t a asked ≡ false → ws ≡ act_words t a ws
+  unfolding act_words
+  away_words left = rw left
+
+  module _ (taken : is_allowed t a asked ≡ true) where
+    pub yes_reply : (a.right ≡ insert_right → ⊥) → Ok heard.Yes ≡ act_reply t a ws
+    unfolding act_reply allowed_reply
+    yes_reply n = rw (taken, ne_eqb a.right insert_right n)
+
+    pub yes_words : (a.right ≡ insert_right → ⊥) → ws ≡ act_words t a ws
+    unfolding act_words allowed_words
+    yes_words n = rw (taken, ne_eqb a.right insert_right n)
+
+    pub inserts_reply : a.right ≡ insert_right → inserted_reply (insert_reply a.kind a.tag.0 ws) ≡ act_reply t a ws
+    unfolding act_reply allowed_reply
+    inserts_reply right = rw (taken, eq-eqb a.right insert_right right)
+
+    pub inserts_words : a.right ≡ insert_right → insert_words a.kind a.tag.0 ws ≡ act_words t a ws
+    unfolding act_words allowed_words
+    inserts_words right = rw (taken, eq-eqb a.right insert_right right)
+
+pub ruleset of_a_party = (by_refusal, accepted_says, unsaid_reply, unsaid_words, away_reply, away_words, yes_reply, yes_words, inserts_reply, inserts_words)

@@ -2,36 +2,37 @@
 // What is decided on numbers is in party_rules.
 #![tactic(auto)]
 
-ghost use Rattle.std.specs.Prelude.{◌≡◌};
+ghost use Rattle.std.specs.Prelude.{◌≡◌, Err};
+ghost use Rattle.store_types.specs.Replies.{numbered, refusal_in};
 ghost use Rattle.lists.specs.Fronts.{replied};
 ghost use Rattle.calls.specs.Replies.{load_reply, load_words, read_reply, read_words};
 ghost use Rattle.calls.specs.Rights.{emptied_by, act_reply, act_words};
-ghost use Rattle.store_types.specs.declared.PartyReply.TheVariants as acting;
 
-use shape::{PACKED_LENGTH, TABLE_LENGTH};
-use store_types::{Act, INSERT, LoadReply, PartyReply};
+use shape::{TABLE_LENGTH, Tables};
+use store_types::{Act, INSERT, Loaded, PartyAnswer, Refusal};
 
-// A party's call, where `refusal` is 17 or 0 and `granted` says whether a live grant gives it the right on the pair's section. The
+// A party's call, where `checked` is 17 or none and `granted` says whether a live grant gives it the right on the pair's section. The
 // store is walked once, at the tag.
-pub fn party(refusal: u32, granted: bool, act: Act, words: &mut [u32]) -> PartyReply
-    ensures reply { result ≡ replied acting.Refused refusal (act_reply granted act words.old) }
-    ensures words { words.new ≡ replied (λ _. words.old) refusal (act_words granted act words.old) }
+#[tactic(auto, using(crate::proofs::Parties::of_a_party), unfolding(store_types::specs::Replies::refusal_in, store_types::specs::Replies::numbered))]
+pub fn party(
+    checked: Result<(), Refusal>,
+    granted: bool,
+    act: Act,
+    words: &mut [u32],
+) -> Result<PartyAnswer, Refusal>
+    ensures reply { numbered result ≡ replied Err (refusal_in checked) (act_reply granted act words.old) }
+    ensures words { words.new ≡ replied (λ _. words.old) (refusal_in checked) (act_words granted act words.old) }
 {
-    if refusal != 0 {
-        return PartyReply::Refused(refusal);
-    }
-    let mut tables = [0u64; PACKED_LENGTH];
+    checked?;
+    let mut tables = Tables::EMPTY;
     let mut sizes = [0u32; TABLE_LENGTH];
-    let first = store_refuse::words_refused_at(words, act.tag, &mut tables, &mut sizes);
-    if first != 0 {
-        return PartyReply::Refused(first);
-    }
+    store_refuse::check_words_at(words, act.tag, &mut tables, &mut sizes)?;
     let asked = held_call::asked(act.pair, act.tag, words);
     if !party_rules::allowed(granted, act, asked) {
         return party_rules::turned_away(asked);
     }
     if act.right != INSERT {
-        return PartyReply::Yes;
+        return Ok(PartyAnswer::Yes);
     }
     party_rules::inserted(insert_call::insert_said(act.kind, act.tag, words, &tables, &sizes))
 }
@@ -44,8 +45,8 @@ pub fn load_with_grants(
     kinds: &[u8],
     words: &mut [u32],
     count: &mut usize,
-) -> LoadReply
-    ensures reply { result ≡ load_reply s r book kinds.now words.old }
+) -> Result<Loaded, Refusal>
+    ensures reply { numbered result ≡ load_reply s r book kinds.now words.old }
     ensures words { words.new ≡ load_words s r book kinds.now words.old }
     ensures count { count.new ≡ emptied_by (load_reply s r book kinds.now words.old) count.old }
 {
@@ -55,8 +56,12 @@ pub fn load_with_grants(
 }
 
 // The reading of a file, and where it is accepted the end of all grants.
-pub fn read_file_with_grants(bytes: &[u8], words: &mut [u32], count: &mut usize) -> LoadReply
-    ensures reply { result ≡ read_reply bytes.now words.old }
+pub fn read_file_with_grants(
+    bytes: &[u8],
+    words: &mut [u32],
+    count: &mut usize,
+) -> Result<Loaded, Refusal>
+    ensures reply { numbered result ≡ read_reply bytes.now words.old }
     ensures words { words.new ≡ read_words bytes.now words.old }
     ensures count { count.new ≡ emptied_by (read_reply bytes.now words.old) count.old }
 {

@@ -10,6 +10,9 @@ use borrow.Author.Tests.{lt-ltb, le-ltb, le-leb, lt-leb, ne_eqb}
 use lib.Dec.{ltb, leb, eqb}
 use lib.ListN.{length}
 use Rattle.lists.specs.Lists.{first}
+use Rattle.std.specs.Prelude.{Result, Err}
+use Rattle.store_types.specs.declared.refusal.Refusal.{Refusal}
+use Rattle.store_types.specs.Replies.{refusal_in}
 use Rattle.store_types.specs.Layout.{at_count, header_words, at_kind, word_at, field, Room}
 use Rattle.lists.proofs.Tests.{by_test}
 use Rattle.words.proofs.Fields.{header_fits, record_room}
@@ -18,6 +21,7 @@ use Rattle.calls.specs.Store.{Store, fact, count}
 use Rattle.calls.specs.Mark.{section_tests, section_refusal}
 use Rattle.calls.specs.Words.{Says, read}
 use Rattle.calls.specs.Replies.{on_store, refusal_over, said}
+use Rattle.calls.proofs.Checks.{not_passed, check_told}
 use Rattle.calls_laws.proofs.Tests.{Sound, facts_of}
 use Rattle.calls_laws.proofs.Fields.{TagSays, tag_says}
 use Rattle.calls_laws.proofs.Sections.{mate_fits}
@@ -68,6 +72,10 @@ refused_first ws f g k same e n =
 -- above all, what the words alone refuse every call refuses
 pub words_first : (ws : List ℕ) (g : Store → ℕ) (k : ℕ) → k ≡ refusal_over ws (λ st. 0) → (k ≡ 0 → ⊥) → k ≡ refusal_over ws g
 words_first ws g k = refused_first ws (λ st. 0) g k (λ st n. absurd (n refl))
+
+pub words_told : (A : Type 0) (r : Refusal) (ws : List ℕ) (g : Store → ℕ) → refusal_in {A = A} (Err r) ≡ refusal_over ws (λ st. 0) → {B : Type 0} (p : Result B Refusal) →
+    p ≡ Err r → refusal_in p ≡ refusal_over ws g
+words_told A r ws g e p same = words_first ws g (refusal_in p) (check_told A r _ e p same) (λ z. not_passed A r _ e (sym (check_told A r _ e p same) ∙ z))
 
 -- THE KIND WORD
 pub record KindSays (c : ℕ) (k : Kind) (m : Bool) : Type 0 where

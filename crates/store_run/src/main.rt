@@ -3,131 +3,70 @@
 #![tactic(auto)]
 
 use std::io;
-use store_types::{
-    Answer, HeldPair, HoldReply, InsertReply, Label, ListReply, LoadReply, MarkReply,
-    QuestionReply, TagId, WriteReply, file,
-};
+use store_types::{Answer, HeldPair, Label, Refusal, TagId, file};
 
-fn number(rt: &impl Print, n: u32) -> io::Result<()> {
-    print!(rt; " {n}")
-}
-
-fn end(rt: &impl Print) -> io::Result<()> {
-    println!(rt; "")
-}
-
-fn refused(rt: &impl Print, k: u32) -> io::Result<()> {
-    print!(rt; " no")?;
-    number(rt, k)?;
-    end(rt)
+// Writes what a call replied: its numbers, or the refusal's.
+fn tell<const N: usize>(
+    rt: &impl Print,
+    call: &str,
+    reply: Result<[u32; N], Refusal>,
+) -> io::Result<()> {
+    print!(rt; "{call}")?;
+    match reply {
+        Ok(numbers) => {
+            for number in numbers {
+                print!(rt; " {number}")?;
+            }
+            println!(rt; "")
+        }
+        Err(refusal) => println!(rt; " no {}", refusal.number()),
+    }
 }
 
 fn load(rt: &impl Print, s: u32, r: u32, kinds: &[u8], words: &mut [u32]) -> io::Result<()> {
-    print!(rt; "load")?;
-    match store::load(s, r, 7, kinds, words) {
-        LoadReply::Loaded { tags, height } => {
-            number(rt, tags)?;
-            number(rt, height)?;
-            end(rt)
-        }
-        LoadReply::Refused(k) => refused(rt, k),
-    }
-}
-
-fn inserted(rt: &impl Print, reply: InsertReply) -> io::Result<()> {
-    match reply {
-        InsertReply::Inserted {
-            first,
-            moved,
-            split,
-        } => {
-            number(rt, first.0)?;
-            number(rt, moved)?;
-            number(rt, split)?;
-            end(rt)
-        }
-        InsertReply::Refused(k) => refused(rt, k),
-    }
+    let reply = store::load(s, r, 7, kinds, words);
+    tell(rt, "load", reply.map(|l| [l.tags, l.height]))
 }
 
 fn insert(rt: &impl Print, kind: u8, place: TagId, words: &mut [u32]) -> io::Result<()> {
-    print!(rt; "insert")?;
-    inserted(rt, store::insert(kind, place, words))
+    let reply = store::insert(kind, place, words);
+    tell(rt, "insert", reply.map(|i| [i.first.0, i.moved, i.split]))
 }
 
 fn insert_sheet(rt: &impl Print, kinds: &[u8], place: TagId, words: &mut [u32]) -> io::Result<()> {
-    print!(rt; "sheet")?;
-    inserted(rt, store::insert_sheet(kinds, place, words))
+    let reply = store::insert_sheet(kinds, place, words);
+    tell(rt, "sheet", reply.map(|i| [i.first.0, i.moved, i.split]))
 }
 
 fn mark(rt: &impl Print, tag: TagId, words: &mut [u32]) -> io::Result<()> {
-    print!(rt; "mark")?;
-    match store::mark(tag, words) {
-        MarkReply::Marked(n) => {
-            number(rt, n)?;
-            end(rt)
-        }
-        MarkReply::Refused(k) => refused(rt, k),
-    }
+    tell(rt, "mark", store::mark(tag, words).map(|n| [n]))
 }
 
 fn hold(rt: &impl Print, tag: TagId, words: &[u32]) -> io::Result<()> {
-    print!(rt; "hold")?;
-    match store::hold(tag, words) {
-        HoldReply::Held(p) => {
-            number(rt, p.book)?;
-            number(rt, p.tag.0)?;
-            number(rt, p.start.0)?;
-            number(rt, p.end.0)?;
-            end(rt)
-        }
-        HoldReply::Refused(k) => refused(rt, k),
-    }
+    let reply = store::hold(tag, words);
+    tell(
+        rt,
+        "hold",
+        reply.map(|p| [p.book, p.tag.0, p.start.0, p.end.0]),
+    )
 }
 
-fn ask(
-    rt: &impl Print,
-    book: u32,
-    tag: u32,
-    start: u32,
-    last: u32,
-    d: u32,
-    words: &[u32],
-) -> io::Result<()> {
-    print!(rt; "ask")?;
-    let pair = HeldPair {
+fn pair(book: u32, tag: u32, start: u32, end: u32) -> HeldPair {
+    HeldPair {
         book,
         tag: TagId(tag),
         start: Label(start),
-        end: Label(last),
-    };
-    match store::question(pair, TagId(d), words) {
-        QuestionReply::Answered(a) => {
-            match a {
-                Answer::Yes => print!(rt; " yes"),
-                Answer::No => print!(rt; " no, not inside"),
-                Answer::Stale => print!(rt; " stale"),
-            }?;
-            end(rt)
-        }
-        QuestionReply::Refused(k) => refused(rt, k),
+        end: Label(end),
     }
 }
 
-fn show(rt: &impl Print, tags: &[u32], labels: &[u32], n: usize) -> io::Result<()> {
-    let mut i: usize = 0;
-    while i < n {
-        if tags.len() <= i {
-            return Ok(());
-        }
-        if labels.len() <= i {
-            return Ok(());
-        }
-        number(rt, tags[i])?;
-        number(rt, labels[i])?;
-        i += 1;
+fn ask(rt: &impl Print, pair: HeldPair, tag: TagId, words: &[u32]) -> io::Result<()> {
+    match store::question(pair, tag, words) {
+        Ok(Answer::Yes) => println!(rt; "ask yes"),
+        Ok(Answer::No) => println!(rt; "ask no, not inside"),
+        Ok(Answer::Stale) => println!(rt; "ask stale"),
+        Err(refusal) => println!(rt; "ask no {}", refusal.number()),
     }
-    Ok(())
 }
 
 fn list(
@@ -137,38 +76,25 @@ fn list(
     tags: &mut [u32],
     labels: &mut [u32],
 ) -> io::Result<()> {
-    print!(rt; "list")?;
     match store::list(begin, words, tags, labels) {
-        ListReply::Listed(n) => {
-            number(rt, n)?;
-            show(rt, tags, labels, n as usize)?;
-            end(rt)
+        Ok(n) => {
+            print!(rt; "list {n}")?;
+            for (tag, label) in tags.iter().zip(labels.iter()).take(n as usize) {
+                print!(rt; " {tag} {label}")?;
+            }
+            println!(rt; "")
         }
-        ListReply::Refused(k) => refused(rt, k),
+        Err(refusal) => println!(rt; "list no {}", refusal.number()),
     }
 }
 
 fn write(rt: &impl Print, words: &[u32], bytes: &mut [u8]) -> io::Result<()> {
-    print!(rt; "write")?;
-    match store::write_file(words, bytes) {
-        WriteReply::Written(n) => {
-            number(rt, n)?;
-            end(rt)
-        }
-        WriteReply::Refused(k) => refused(rt, k),
-    }
+    tell(rt, "write", store::write_file(words, bytes).map(|n| [n]))
 }
 
 fn read(rt: &impl Print, bytes: &[u8], words: &mut [u32]) -> io::Result<()> {
-    print!(rt; "read")?;
-    match store::read_file(bytes, words) {
-        LoadReply::Loaded { tags, height } => {
-            number(rt, tags)?;
-            number(rt, height)?;
-            end(rt)
-        }
-        LoadReply::Refused(k) => refused(rt, k),
-    }
+    let reply = store::read_file(bytes, words);
+    tell(rt, "read", reply.map(|l| [l.tags, l.height]))
 }
 
 // Specimens H, I and J: pairs held before the printed case of document 01.
@@ -182,11 +108,11 @@ fn holds(rt: &impl Print, words: &mut [u32]) -> io::Result<()> {
 // Its two insertions, and what the pairs then get.
 fn insertions(rt: &impl Print, words: &mut [u32]) -> io::Result<()> {
     insert(rt, 3, TagId(2), words)?;
-    ask(rt, 7, 3, 4, 6, 6, words)?;
-    ask(rt, 7, 0, 0, 7, 6, words)?;
+    ask(rt, pair(7, 3, 4, 6), TagId(6), words)?;
+    ask(rt, pair(7, 0, 0, 7), TagId(6), words)?;
     insert(rt, 3, TagId(2), words)?;
-    ask(rt, 7, 1, 1, 3, 6, words)?;
-    ask(rt, 7, 0, 0, 7, 6, words)
+    ask(rt, pair(7, 1, 1, 3), TagId(6), words)?;
+    ask(rt, pair(7, 0, 0, 7), TagId(6), words)
 }
 
 // Words for the tags of each part: 8, 3, 128, 12 and 1,024; words and bytes of the printed load, and where the stamp is in its file.
@@ -240,13 +166,13 @@ fn tags_refused(rt: &impl Print, words: &mut [u32]) -> io::Result<()> {
 
 // Of pairs, and of tags that are marked.
 fn marks(rt: &impl Print, words: &mut [u32]) -> io::Result<()> {
-    ask(rt, 8, 0, 0, 2, 2, words)?;
-    ask(rt, 7, 0, 0, 2, 2, words)?;
+    ask(rt, pair(8, 0, 0, 2), TagId(2), words)?;
+    ask(rt, pair(7, 0, 0, 2), TagId(2), words)?;
     mark(rt, TagId(2), words)?;
-    ask(rt, 7, 0, 0, 2, 2, words)?;
+    ask(rt, pair(7, 0, 0, 2), TagId(2), words)?;
     mark(rt, TagId(2), words)?;
     mark(rt, TagId(0), words)?;
-    ask(rt, 7, 0, 0, 2, 1, words)?;
+    ask(rt, pair(7, 0, 0, 2), TagId(1), words)?;
     hold(rt, TagId(1), words)
 }
 
@@ -320,11 +246,8 @@ fn reads(rt: &impl Print, bytes: &[u8]) -> io::Result<()> {
 }
 
 // With a stamp above n, and with one that is n.
-fn stamps(rt: &impl Print, bytes: &mut [u8]) -> io::Result<()> {
+fn stamps(rt: &impl Print, bytes: &mut [u8; LOADED_BYTES]) -> io::Result<()> {
     let mut back = [0u32; PRINTED_WORDS];
-    if bytes.len() <= STAMP_BYTE {
-        return Ok(());
-    }
     bytes[STAMP_BYTE] = 7;
     read(rt, bytes, &mut back)?;
     bytes[STAMP_BYTE] = 6;

@@ -1,13 +1,24 @@
 // Where everything stands in a file (document 02, CR 3). Later requests add records and lengths, so each has its name.
 ghost use Rattle.std.specs.Prelude.{◌≡◌, ◌<◌};
-ghost use Rattle.store_types.specs.FileLayout.{file_bytes as bytes-of-file};
+ghost use Rattle.store_types.specs.FileLayout.{file_bytes as bytes_of_file};
+ghost use Rattle.store_types.specs.Records.{record_number};
 
 // The kinds of records: the header's, a tag's, the last.
-pub const HEADER_KIND: u16 = 1;
+#[derive(Clone, Copy, Debug, PartialEq, Eq)]
+pub enum RecordKind {
+    Header = 1,
+    Tag = 2,
+    End = 3,
+}
 
-pub const TAG_KIND: u16 = 2;
-
-pub const END_KIND: u16 = 3;
+impl RecordKind {
+    // Its number in a file.
+    pub fn number(self) -> u16
+        ensures { result ≡ record_number self }
+    {
+        self as u16
+    }
+}
 
 // Bytes of a length, of a kind and of a word; so of what stands before the words of a record.
 pub const LENGTH_BYTES: usize = 4;
@@ -38,7 +49,7 @@ pub const AT_LABEL: usize = 1;
 // How many bytes the file of n tags has.
 pub fn file_bytes(n: usize) -> usize
     requires { n < 4294967296 }
-    ensures { result ≡ bytes-of-file n }
+    ensures { result ≡ bytes_of_file n }
 {
     ROW_BYTES + ROW_BYTES * n + END_BYTES
 }

@@ -1,18 +1,20 @@
-// The two kinds of number, held pairs, and the replies of the calls.
+// The two kinds of number, held pairs, refusals, and what the calls reply.
 #![tactic(auto)]
 
 pub mod file;
-pub mod refusals;
+mod refusal;
 
 ghost use Rattle.std.specs.Prelude.{◌≡◌, eqb};
 ghost use Rattle.store_types.specs.Limits.{no_tag};
 
+pub use refusal::Refusal;
+
 // Document 01's tag number: it never changes. Only a tag number finds a record in the store.
-#[derive(Clone, Copy)]
+#[derive(Clone, Copy, Debug, PartialEq, Eq)]
 pub struct TagId(pub u32);
 
 // Document 01's label: it may change with any insertion. It is compared, and finds nothing.
-#[derive(Clone, Copy)]
+#[derive(Clone, Copy, Debug, PartialEq, Eq)]
 pub struct Label(pub u32);
 
 impl TagId {
@@ -22,22 +24,7 @@ impl TagId {
     pub fn is_none(self) -> bool
         ensures { result ≡ eqb self.0 no_tag }
     {
-        let none = TagId::NONE;
-        self.0 == none.0
-    }
-
-    pub fn same(self, other: TagId) -> bool
-        ensures { result ≡ eqb self.0 other.0 }
-    {
-        self.0 == other.0
-    }
-}
-
-impl Label {
-    pub fn same(self, other: Label) -> bool
-        ensures { result ≡ eqb self.0 other.0 }
-    {
-        self.0 == other.0
+        self == TagId::NONE
     }
 }
 
@@ -55,7 +42,7 @@ pub const MOST_TAGS: u32 = 200000;
 pub const LABEL_LIMIT: u64 = 4294967296;
 
 // Document 01's held pair: a section's book number, begin tag (or text) and two labels.
-#[derive(Clone, Copy)]
+#[derive(Clone, Copy, Debug, PartialEq, Eq)]
 pub struct HeldPair {
     pub book: u32,
     pub tag: TagId,
@@ -66,7 +53,7 @@ pub struct HeldPair {
 // Document 02, CR 6: what a party may do on a section, which is named by its begin tag's number. The rights are added up. A record
 // is the caller's, and may hold any words.
 #[repr(C)]
-#[derive(Clone, Copy)]
+#[derive(Clone, Copy, Debug, PartialEq, Eq)]
 pub struct Grant {
     pub party: u32,
     pub section: u32,
@@ -85,7 +72,7 @@ pub const INSERT: u32 = 4;
 pub const ALL_RIGHTS: u32 = READ + WRITE + INSERT;
 
 // What a party asks for: the pair that it shows, a tag, one right, and a kind, which only the right to insert looks at.
-#[derive(Clone, Copy)]
+#[derive(Clone, Copy, Debug, PartialEq, Eq)]
 pub struct Act {
     pub pair: HeldPair,
     pub tag: TagId,
@@ -93,79 +80,33 @@ pub struct Act {
     pub kind: u8,
 }
 
-#[derive(Clone, Copy)]
-pub enum LoadReply {
-    Loaded { tags: u32, height: u32 },
-    Refused(u32),
+// What the calls reply where they do not refuse. A load: how many tags the book has, and its height.
+#[derive(Clone, Copy, Debug, PartialEq, Eq)]
+pub struct Loaded {
+    pub tags: u32,
+    pub height: u32,
 }
 
-#[derive(Clone, Copy)]
-pub enum InsertReply {
-    Inserted {
-        first: TagId,
-        moved: u32,
-        split: u32,
-    },
-    Refused(u32),
+// An insertion: the first new tag, how many old ones have new labels, and the height of the split, 0 where there is none.
+#[derive(Clone, Copy, Debug, PartialEq, Eq)]
+pub struct Inserted {
+    pub first: TagId,
+    pub moved: u32,
+    pub split: u32,
 }
 
-#[derive(Clone, Copy)]
-pub enum MarkReply {
-    Marked(u32),
-    Refused(u32),
-}
-
-#[derive(Clone, Copy)]
-pub enum HoldReply {
-    Held(HeldPair),
-    Refused(u32),
-}
-
-#[derive(Clone, Copy)]
+// The held-pair question.
+#[derive(Clone, Copy, Debug, PartialEq, Eq)]
 pub enum Answer {
     Yes,
     No,
     Stale,
 }
 
-#[derive(Clone, Copy)]
-pub enum QuestionReply {
-    Answered(Answer),
-    Refused(u32),
-}
-
-#[derive(Clone, Copy)]
-pub enum ListReply {
-    Listed(u32),
-    Refused(u32),
-}
-
-#[derive(Clone, Copy)]
-pub enum WriteReply {
-    Written(u32),
-    Refused(u32),
-}
-
-#[derive(Clone, Copy)]
-pub enum GrantReply {
-    Granted(usize),
-    Refused(u32),
-}
-
-#[derive(Clone, Copy)]
-pub enum RevokeReply {
-    Revoked(usize),
-    Refused(u32),
-}
-
-#[derive(Clone, Copy)]
-pub enum PartyReply {
+// A party's call: it never hears a no.
+#[derive(Clone, Copy, Debug, PartialEq, Eq)]
+pub enum PartyAnswer {
     Yes,
     Stale,
-    Inserted {
-        first: TagId,
-        moved: u32,
-        split: u32,
-    },
-    Refused(u32),
+    Inserted(Inserted),
 }

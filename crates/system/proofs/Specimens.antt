@@ -2,6 +2,7 @@
 use mathlib.Core.Path.{◌≡◌, refl}
 use mathlib.Core.Bool.{true}
 use mathlib.Core.List.{head_d, flat_map}
+use Rattle.store_types.specs.Replies.{count_numbers}
 use Rattle.lists.specs.Lists.{some_holds, those, first, same, how_many, all_hold, numbers}
 use Rattle.lists.specs.Fronts.{starts_with, in_front, written, replied}
 use Rattle.store_types.specs.Layout.{records_at, words_for, field, label_at}
@@ -19,8 +20,8 @@ use Rattle.calls.specs.Mark.{within, mark_facts, mark_store, new_marks, mark_cou
 use Rattle.calls.specs.Held.{hold_pair, encloses, current, question_tests, question}
 use Rattle.calls.specs.Listing.{is_listed, listed_tags, listed_labels, inside_tests, list_refusal}
 use Rattle.calls.specs.Words.{header, tag_record, words_of, follow, read_fact, header_width, read_book, read_store, header_in_range, read_in_range, read}
-use Rattle.calls.specs.Replies.{on_store, refusal_over, store_or, said, load_reply, load_words, insert_refused, insert_reply, insert_words, mark_reply, mark_words, hold_reply, question_reply, list_refused, list_reply, list_tags, list_labels, load_numbers, insert_numbers, mark_numbers, hold_numbers, answer_number, question_numbers, list_numbers}
-use Rattle.calls.specs.Rights.{emptied_by, names, gives, held, others, range_refusal, grant_tests, grant_refused, grant_reply, grant_count, grant_list, revoke_refused, revoke_reply, revoke_count, revoke_list, is_allowed, turned_away, inserted_reply, allowed_reply, allowed_words, act_reply, act_words, is_right, party_refused, party_reply, party_words, grant_numbers, revoke_numbers, party_numbers}
+use Rattle.calls.specs.Replies.{on_store, refusal_over, store_or, said, load_reply, load_words, insert_refused, insert_reply, insert_words, mark_reply, mark_words, hold_reply, question_reply, list_refused, list_reply, list_tags, list_labels, load_numbers, insert_numbers, hold_numbers, answer_number, question_numbers}
+use Rattle.calls.specs.Rights.{emptied_by, names, gives, held, others, range_refusal, grant_tests, grant_refused, grant_reply, grant_count, grant_list, revoke_refused, revoke_reply, revoke_count, revoke_list, is_allowed, turned_away, inserted_reply, allowed_reply, allowed_words, act_reply, act_words, is_right, party_refused, party_reply, party_words, party_numbers}
 use Rattle.calls.specs.Reference.{reference_load, reference_position, raised_by, reference_insert, reference_change, reference_told, reference_after}
 use Rattle.calls.specs.Specimens.{pair}
 use Rattle.system.specs.System.{finding_numbers, keeping_numbers, numbers_of, refusal_in, accepted, change_reply, change_words, finding, reading_lists, keeping, kept_grants, kept_count, reply, with_words, ended_by, step}
@@ -29,9 +30,9 @@ use Rattle.system.specs.Feed.{party_inserted, acted_in, told_of, told, total_aft
 use Rattle.system.specs.Specimens.{record_numbers, exchanges_hold, specimen_holds, specimen_table, feed_right}
 
 pub specimens : all_hold specimen_holds specimen_table ≡ true
-unfolding head_d numbers member place insert_at all_below leaves labels joined leaf_row parts spread put split_height within_limits label_of base power_width under_from load_under loaded root_full root_split put_inside inserted split_of inserted_row split_of_row moved_among root_within book_within front_below spelled_nodes spelled first same how_many code is_kind kind_of kind_word word_kind own_depth opens_after depth_after is_begin is_end next_in prior_in labels_fit nests closing new_facts fits opened nested depths_right degrees_fit tree_sound row_sound stamp_sound sound words_for all_kinds kinds_tests early_tests load_refusal load_store insert_kinds position up_at depth_at book_after insert_store insert_moved insert_split labels_end place_tests room_tests insert_refusal within mark_facts mark_store new_marks mark_count section_tests section_refusal hold_pair encloses current question_tests question is_listed listed_tags listed_labels inside_tests list_refusal header tag_record flat_map words_of records_at field follow read_fact label_at header_width read_book read_store starts_with header_in_range read_in_range read in_front on_store refusal_over store_or said written replied load_reply load_words insert_refused insert_reply insert_words mark_reply mark_words hold_reply question_reply list_refused list_reply list_tags list_labels load_numbers insert_numbers mark_numbers hold_numbers answer_number question_numbers list_numbers emptied_by some_holds those names gives held others range_refusal grant_tests grant_refused grant_reply grant_count grant_list revoke_refused revoke_reply revoke_count revoke_list is_allowed turned_away inserted_reply allowed_reply allowed_words act_reply act_words is_right party_refused party_reply party_words grant_numbers revoke_numbers party_numbers pair finding_numbers keeping_numbers numbers_of refusal_in accepted change_reply change_words finding reading_lists keeping kept_grants kept_count reply with_words ended_by step record_numbers exchanges_hold specimen_holds all_hold
+unfolding head_d numbers member place insert_at all_below leaves labels joined leaf_row parts spread put split_height within_limits label_of base power_width under_from load_under loaded root_full root_split put_inside inserted split_of inserted_row split_of_row moved_among root_within book_within front_below spelled_nodes spelled first same how_many code is_kind kind_of kind_word word_kind own_depth opens_after depth_after is_begin is_end next_in prior_in labels_fit nests closing new_facts fits opened nested depths_right degrees_fit tree_sound row_sound stamp_sound sound words_for all_kinds kinds_tests early_tests load_refusal load_store insert_kinds position up_at depth_at book_after insert_store insert_moved insert_split labels_end place_tests room_tests insert_refusal within mark_facts mark_store new_marks mark_count section_tests section_refusal hold_pair encloses current question_tests question is_listed listed_tags listed_labels inside_tests list_refusal header tag_record flat_map words_of records_at field follow read_fact label_at header_width read_book read_store starts_with header_in_range read_in_range read in_front on_store refusal_over store_or said written replied load_reply load_words insert_refused insert_reply insert_words mark_reply mark_words hold_reply question_reply list_refused list_reply list_tags list_labels load_numbers insert_numbers count_numbers hold_numbers answer_number question_numbers emptied_by some_holds those names gives held others range_refusal grant_tests grant_refused grant_reply grant_count grant_list revoke_refused revoke_reply revoke_count revoke_list is_allowed turned_away inserted_reply allowed_reply allowed_words act_reply act_words is_right party_refused party_reply party_words party_numbers pair finding_numbers keeping_numbers numbers_of refusal_in accepted change_reply change_words finding reading_lists keeping kept_grants kept_count reply with_words ended_by step record_numbers exchanges_hold specimen_holds all_hold
 specimens = refl
 
 pub feed : feed_right ≡ true
-unfolding head_d numbers member place insert_at all_below leaves labels joined leaf_row parts spread put split_height within_limits label_of base power_width under_from load_under loaded root_full root_split put_inside inserted split_of inserted_row split_of_row moved_among root_within book_within front_below spelled_nodes spelled first same how_many code is_kind kind_of kind_word word_kind own_depth opens_after depth_after is_begin is_end next_in prior_in labels_fit nests closing new_facts fits opened nested depths_right degrees_fit tree_sound row_sound stamp_sound sound words_for all_kinds kinds_tests early_tests load_refusal load_store insert_kinds position up_at depth_at book_after insert_store insert_moved insert_split labels_end place_tests room_tests insert_refusal within mark_facts mark_store new_marks mark_count section_tests section_refusal hold_pair encloses current question_tests question is_listed listed_tags listed_labels inside_tests list_refusal header tag_record flat_map words_of records_at field follow read_fact label_at header_width read_book read_store starts_with header_in_range read_in_range read in_front on_store refusal_over store_or said written replied load_reply load_words insert_refused insert_reply insert_words mark_reply mark_words hold_reply question_reply list_refused list_reply list_tags list_labels load_numbers insert_numbers mark_numbers hold_numbers answer_number question_numbers list_numbers emptied_by some_holds those names gives held others range_refusal grant_tests grant_refused grant_reply grant_count grant_list revoke_refused revoke_reply revoke_count revoke_list is_allowed turned_away inserted_reply allowed_reply allowed_words act_reply act_words is_right party_refused party_reply party_words grant_numbers revoke_numbers party_numbers pair finding_numbers keeping_numbers numbers_of refusal_in accepted change_reply change_words finding reading_lists keeping kept_grants kept_count reply with_words ended_by step record_numbers raised reference_load reference_position raised_by reference_insert reference_change reference_told reference_after replies party_inserted acted_in told_of told total_after_insert total_after_act total_after total_moved feed_right
+unfolding head_d numbers member place insert_at all_below leaves labels joined leaf_row parts spread put split_height within_limits label_of base power_width under_from load_under loaded root_full root_split put_inside inserted split_of inserted_row split_of_row moved_among root_within book_within front_below spelled_nodes spelled first same how_many code is_kind kind_of kind_word word_kind own_depth opens_after depth_after is_begin is_end next_in prior_in labels_fit nests closing new_facts fits opened nested depths_right degrees_fit tree_sound row_sound stamp_sound sound words_for all_kinds kinds_tests early_tests load_refusal load_store insert_kinds position up_at depth_at book_after insert_store insert_moved insert_split labels_end place_tests room_tests insert_refusal within mark_facts mark_store new_marks mark_count section_tests section_refusal hold_pair encloses current question_tests question is_listed listed_tags listed_labels inside_tests list_refusal header tag_record flat_map words_of records_at field follow read_fact label_at header_width read_book read_store starts_with header_in_range read_in_range read in_front on_store refusal_over store_or said written replied load_reply load_words insert_refused insert_reply insert_words mark_reply mark_words hold_reply question_reply list_refused list_reply list_tags list_labels load_numbers insert_numbers count_numbers hold_numbers answer_number question_numbers emptied_by some_holds those names gives held others range_refusal grant_tests grant_refused grant_reply grant_count grant_list revoke_refused revoke_reply revoke_count revoke_list is_allowed turned_away inserted_reply allowed_reply allowed_words act_reply act_words is_right party_refused party_reply party_words party_numbers pair finding_numbers keeping_numbers numbers_of refusal_in accepted change_reply change_words finding reading_lists keeping kept_grants kept_count reply with_words ended_by step record_numbers raised reference_load reference_position raised_by reference_insert reference_change reference_told reference_after replies party_inserted acted_in told_of told total_after_insert total_after_act total_after total_moved feed_right
 feed = refl

@@ -1,20 +1,20 @@
 -- What a history of calls tells beside what it leaves: the changes that the reference list is fed, with whether each was accepted, and
 -- the total of moved numbers (document 01, "The bare list"; document 02, CR 4 to 6). Assumes nothing: these are definitions.
-use Rattle.std.specs.Prelude.{◌≡◌, Bool, true, false, cond, List, [], ◌∷◌, ◌++◌, ℕ, ◌+◌}
-use Rattle.store_types.specs.declared.InsertReply.{InsertReply}
-use Rattle.store_types.specs.declared.InsertReply.TheVariants as insert_said
-use Rattle.store_types.specs.declared.PartyReply.{PartyReply}
-use Rattle.store_types.specs.declared.PartyReply.TheVariants as party_said
+use Rattle.std.specs.Prelude.{◌≡◌, Bool, true, false, cond, List, [], ◌∷◌, ◌++◌, ℕ, ◌+◌, Result, Ok, Err}
 use Rattle.calls.specs.Rights.{emptied_by}
 use Rattle.calls.specs.Changes.{load, insert, Told}
 use Rattle.system.specs.System.{System, Call, changes, reads, keeps, acts, restores, load_with_grants, restore_with_grants, Reply, loaded, inserted, marked, found, kept, acted, accepted, reply, step}
+use Rattle.store_types.specs.declared.PartyAnswer.TheVariants as heard
+use Rattle.store_types.specs.Replies.{insert_made}
+use Rattle.store_types.specs.declared.Inserted.{Inserted}
+use Rattle.store_types.specs.declared.PartyAnswer.{PartyAnswer}
 
 -- whether a party's call inserted
-unfoldable pub party_inserted : PartyReply → Bool
-party_inserted party_said.Yes = false
-party_inserted party_said.Stale = false
-party_inserted (party_said.Inserted x m h) = true
-party_inserted (party_said.Refused k) = false
+unfoldable pub party_inserted : Result PartyAnswer ℕ → Bool
+party_inserted (Ok heard.Yes) = false
+party_inserted (Ok heard.Stale) = false
+party_inserted (Ok (heard.Inserted i)) = true
+party_inserted (Err k) = false
 
 unfoldable pub acted_in : Reply → Bool
 acted_in (loaded q) = false
@@ -39,15 +39,15 @@ told [] y = []
 told (c ∷ cs) y = told_of c (reply c y) ++ told cs (step c y)
 
 -- T: the moved numbers that accepted insertions, of sheets and by parties too, replied since the last accepted load
-unfoldable pub total_after_insert : InsertReply → (total : ℕ) → ℕ
-total_after_insert (insert_said.Inserted x m h) t = t + m
-total_after_insert (insert_said.Refused k) t = t
+unfoldable pub total_after_insert : Result Inserted ℕ → (total : ℕ) → ℕ
+total_after_insert (Ok i) t = t + i.moved
+total_after_insert (Err k) t = t
 
-unfoldable pub total_after_act : PartyReply → (total : ℕ) → ℕ
-total_after_act party_said.Yes t = t
-total_after_act party_said.Stale t = t
-total_after_act (party_said.Inserted x m h) t = t + m
-total_after_act (party_said.Refused k) t = t
+unfoldable pub total_after_act : Result PartyAnswer ℕ → (total : ℕ) → ℕ
+total_after_act (Ok heard.Yes) t = t
+total_after_act (Ok heard.Stale) t = t
+total_after_act (Ok (heard.Inserted i)) t = t + i.moved
+total_after_act (Err k) t = t
 
 unfoldable pub total_after : Reply → (total : ℕ) → ℕ
 total_after (loaded q) t = emptied_by q t

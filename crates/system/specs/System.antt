@@ -1,23 +1,18 @@
 -- The system: the words of a store, a lent list of grants and their count. Every entry is a call on it: what it replies, and what it
 -- leaves (document 01, "Calls and their replies"; document 02, CR 3, 5 and 6). Assumes nothing: these are definitions.
-use Rattle.std.specs.Prelude.{Bool, ℕ, eqb, take}
+use Rattle.store_types.specs.Replies.{count_numbers}
+use Rattle.std.specs.Prelude.{Bool, ℕ, eqb, take, Result}
 use mathlib.Core.List.{List, [], ◌∷◌, head_d}
 use Rattle.store_types.specs.declared.Act.{Act}
 use Rattle.store_types.specs.declared.Grant.{Grant}
-use Rattle.store_types.specs.declared.GrantReply.{GrantReply}
 use Rattle.store_types.specs.declared.HeldPair.{HeldPair}
-use Rattle.store_types.specs.declared.HoldReply.{HoldReply}
-use Rattle.store_types.specs.declared.InsertReply.{InsertReply}
-use Rattle.store_types.specs.declared.ListReply.{ListReply}
-use Rattle.store_types.specs.declared.LoadReply.{LoadReply}
-use Rattle.store_types.specs.declared.MarkReply.{MarkReply}
-use Rattle.store_types.specs.declared.PartyReply.{PartyReply}
-use Rattle.store_types.specs.declared.QuestionReply.{QuestionReply}
-use Rattle.store_types.specs.declared.RevokeReply.{RevokeReply}
-use Rattle.store_types.specs.declared.WriteReply.{WriteReply}
-use Rattle.calls.specs.Replies.{load_reply, load_words, insert_reply, insert_words, insert_sheet_reply, insert_sheet_words, mark_reply, mark_words, hold_reply, question_reply, list_reply, list_tags, list_labels, write_reply, write_bytes, read_reply, read_words, load_numbers, insert_numbers, mark_numbers, hold_numbers, question_numbers, list_numbers, write_numbers}
-use Rattle.calls.specs.Rights.{grant_reply, grant_count, grant_list, revoke_reply, revoke_count, revoke_list, party_reply, party_words, emptied_by, grant_numbers, revoke_numbers, party_numbers}
+use Rattle.calls.specs.Replies.{load_reply, load_words, insert_reply, insert_words, insert_sheet_reply, insert_sheet_words, mark_reply, mark_words, hold_reply, question_reply, list_reply, list_tags, list_labels, write_reply, write_bytes, read_reply, read_words, load_numbers, insert_numbers, hold_numbers, question_numbers}
+use Rattle.calls.specs.Rights.{grant_reply, grant_count, grant_list, revoke_reply, revoke_count, revoke_list, party_reply, party_words, emptied_by, party_numbers}
 use Rattle.calls.specs.Changes.{Change, load, insert, sheet, mark}
+use Rattle.store_types.specs.declared.Loaded.{Loaded}
+use Rattle.store_types.specs.declared.Inserted.{Inserted}
+use Rattle.store_types.specs.declared.PartyAnswer.{PartyAnswer}
+use Rattle.store_types.specs.declared.Answer.{Answer}
 
 pub record System : Type 0 where
   pub words : List ℕ
@@ -54,42 +49,42 @@ pub data Call : Type 0 where
 
 -- THE REPLIES. What a reading found
 pub data Finding : Type 0 where
-  held : HoldReply → Finding
-  answered : QuestionReply → Finding
-  listed : ListReply → Finding
-  filed : WriteReply → Finding
+  held : Result HeldPair ℕ → Finding
+  answered : Result Answer ℕ → Finding
+  listed : Result ℕ ℕ → Finding
+  filed : Result ℕ ℕ → Finding
 
 -- what became of the grants
 pub data KeepingReply : Type 0 where
-  granted : GrantReply → KeepingReply
-  revoked : RevokeReply → KeepingReply
+  granted : Result ℕ ℕ → KeepingReply
+  revoked : Result ℕ ℕ → KeepingReply
   lent : KeepingReply
 
 -- a reading's reply comes with what the lists then hold that its caller lent
 pub data Reply : Type 0 where
-  loaded : LoadReply → Reply
-  inserted : InsertReply → Reply
-  marked : MarkReply → Reply
+  loaded : Result Loaded ℕ → Reply
+  inserted : Result Inserted ℕ → Reply
+  marked : Result ℕ ℕ → Reply
   found : Finding → (lists : List (List ℕ)) → Reply
   kept : KeepingReply → Reply
-  acted : PartyReply → Reply
+  acted : Result PartyAnswer ℕ → Reply
 
 -- the papers' numbers of a reply: 0 and its values, or the refusal alone
 unfoldable pub finding_numbers : Finding → List ℕ
 finding_numbers (held q) = hold_numbers q
 finding_numbers (answered q) = question_numbers q
-finding_numbers (listed q) = list_numbers q
-finding_numbers (filed q) = write_numbers q
+finding_numbers (listed q) = count_numbers q
+finding_numbers (filed q) = count_numbers q
 
 unfoldable pub keeping_numbers : KeepingReply → List ℕ
-keeping_numbers (granted q) = grant_numbers q
-keeping_numbers (revoked q) = revoke_numbers q
+keeping_numbers (granted q) = count_numbers q
+keeping_numbers (revoked q) = count_numbers q
 keeping_numbers lent = 0 ∷ []
 
 unfoldable pub numbers_of : Reply → List ℕ
 numbers_of (loaded q) = load_numbers q
 numbers_of (inserted q) = insert_numbers q
-numbers_of (marked q) = mark_numbers q
+numbers_of (marked q) = count_numbers q
 numbers_of (found q ls) = finding_numbers q
 numbers_of (kept q) = keeping_numbers q
 numbers_of (acted q) = party_numbers q
@@ -157,7 +152,7 @@ reply (restore_with_grants bs) y = loaded (read_reply bs y.words)
 unfoldable pub with_words : (words : List ℕ) → System → System
 with_words ws y = record { words = ws; grants = y.grants; count = y.count }
 
-unfoldable pub ended_by : LoadReply → (words : List ℕ) → System → System
+unfoldable pub ended_by : Result Loaded ℕ → (words : List ℕ) → System → System
 ended_by q ws y = record { words = ws; grants = y.grants; count = emptied_by q y.count }
 
 unfoldable pub step : Call → System → System

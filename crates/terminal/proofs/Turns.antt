@@ -1,11 +1,13 @@
 -- One step more of a piece, and one piece more of an input: what is printed of them all was written. Assumes nothing.
-use Rattle.std.proofs.Common.{◌≡◌, ℕ, List, [], ◌∷◌, ◌++◌, Option, IfSome, Result, Ok, Err, OnOk, sym, ap, ◌∙◌, append_assoc, append-nil, take, drop}
+use Rattle.std.proofs.Common.{◌≡◌, ℕ, List, [], ◌∷◌, ◌++◌, Option, IfSome, Result, Ok, Err, OnOk, sym, ap, ◌∙◌, append_assoc, append-nil, length, take, drop, ◌-◌, arith}
+use lib.ListN.{length-drop}
+use lib.Seq.{take_all}
 use Rattle.std.specs.Io.KnownBytes.{Appends, Consumes, IsAtEnd}
 use Rattle.std.proofs.KnownBytes.{Appends-nil, Appends-trans, Consumes-nil, Consumes-trans, Consumes-whole}
 use Rattle.line_reader.specs.Lines.{lines}
 use Rattle.line_reader.specs.Reads.{whole, last_line}
-use Rattle.interpreter.specs.Session.{texts, step_text, Steps, Passes, over, Passed, Talks, ends, piece}
-use Rattle.interpreter.proofs.Steps.{steps_pass, text_written}
+use Rattle.interpreter.specs.Session.{texts, Steps, Passes, over, Passed, Talks, ends, piece}
+use Rattle.interpreter.proofs.Steps.{steps_pass}
 use Rattle.interpreter.proofs.Sessions.{pieces_printed}
 use Rattle.terminal.specs.Talk.{PassedOut, Told}
 
@@ -18,19 +20,21 @@ pub record Going (held words piece h ws rest : List ℕ) (before after : Option 
 pub going_first : (h ws p : List ℕ) (out : Option (List ℕ)) → Going h ws p h ws p out out
 going_first h ws p out = record { said = []; passes = λ a b t x. x; written = Appends-nil out }
 
-pub going_on : {held words h ws line ws' out out' : List ℕ} {at h' text : ℕ} {before mid after : Option (List ℕ)} (p : List ℕ) (from : ℕ) →
-    Going held words p h ws (drop from p) before mid → Steps h (drop from p) ws from line ws' out out' at h' text → Appends mid after (take text out') →
-    Going held words p (take h' line) ws' (drop at p) before after
-going_on {h = h} {ws = ws} p from g s w =
-    let t : List ℕ = step_text h (drop from p) ws in
-    record {
-      said = g.said ++ t;
-      passes = λ a b u x. rw (append_assoc g.said t u) (g.passes a b (t ++ u) (steps_pass p from s x));
-      written = Appends-trans _ _ _ g.said t g.written (rw (text_written s.printed) at w);
-    }
+pub going_on : {held words piece h ws rest line ws' text : List ℕ} {taken : ℕ} {before mid after : Option (List ℕ)} →
+    Going held words piece h ws rest before mid → Steps h rest ws line ws' text taken → Appends mid after text →
+    Going held words piece line ws' (take (length rest - taken) (drop taken rest)) before after
+going_on {rest = rest} {text = text} {taken = taken} g s w = record {
+  said = g.said ++ text;
+  passes = λ a b u x. rw (append_assoc g.said text u) (g.passes a b (text ++ u) (steps_pass s (rw (left rest taken) at x)));
+  written = Appends-trans _ _ _ g.said text g.written w;
+}
+  where
+    left : (xs : List ℕ) (k : ℕ) → take (length xs - k) (drop k xs) ≡ drop k xs
+    left xs k = take_all (length xs - k) (drop k xs) (omega (arith, length-drop k xs))
 
-pub going_over : {held words p h ws : List ℕ} {before after : Option (List ℕ)} → Going held words p h ws [] before after → PassedOut held words p h ws before after
-going_over g = record { printed = g.said ++ []; passes = g.passes _ _ [] over; written = rw (append-nil g.said) g.written }
+pub going_over : {held words p h ws : List ℕ} (rest : List ℕ) {before after : Option (List ℕ)} → length rest ≡ 0 → Going held words p h ws rest before after → PassedOut held words p h ws before after
+going_over [] e g = record { printed = g.said ++ []; passes = g.passes _ _ [] over; written = rw (append-nil g.said) g.written }
+going_over (c ∷ rest) e g = absurd (omega arith)
 
 pub passed_of : {held words p h ws : List ℕ} {before after : Option (List ℕ)} → PassedOut held words p h ws before after → Passed held words p h ws
 passed_of o = record { printed = o.printed; passes = o.passes }

@@ -11,7 +11,7 @@ ghost use Rattle.interpreter.specs.Answer.{first_words};
 ghost use Rattle.interpreter.specs.Session.{texts, Passed, Led};
 ghost use Rattle.terminal.specs.Talk.{PassedOut, Told};
 
-use interpreter::{BOOK_WORDS, LINE_BUFFER, OUT_SIZE};
+use interpreter::{BOOK_WORDS, Session};
 use std::fmt;
 use std::io::{self, ErrorKind, Read, Write};
 use std::process::ExitCode;
@@ -35,26 +35,21 @@ impl fmt::Display for Stopped {
     }
 }
 
-// The front of a buffer, written whole; where that fails, some of it may have gone out.
-fn print<W: Write>(output: &mut W, out: &[u8], count: usize) -> Result<(), Stopped>
-    requires { count ≤ length out.now }
-    ensures { OnOk result (Appends (W.contents output.old) (W.contents output.new) (take count out.now)) }
+// Bytes, written whole; where that fails, some of them may have gone out.
+fn print<W: Write>(output: &mut W, bytes: &[u8]) -> Result<(), Stopped>
+    ensures { OnOk result (Appends (W.contents output.old) (W.contents output.new) bytes.now) }
 {
-    match output.write_all(&out[..count]) {
-        Ok(()) => Ok(()),
-        Err(e) => Err(Stopped::Output(e)),
-    }
+    output.write_all(bytes).map_err(Stopped::Output)
 }
 
 // One piece of the input; none at its end. Where it cannot be read, nothing was. A read that a signal interrupts is made again:
-// a proved loop has to end, so that the tries are counted down from a number that no run uses up.
+// a proved loop has to end, so that the tries are counted, to a number that no run uses up.
 fn read_piece<R: Read>(input: &mut R, buffer: &mut [u8]) -> Result<usize, Stopped>
     ensures bound { ReadsAtMost result buffer.new }
     ensures bytes { IfOk result (λ n. Consumes (R.remaining input.old) (R.remaining input.new) (take n buffer.new)) }
     ensures end { IfOk result (λ n. n ≡ 0 → 0 < length buffer.old → IsAtEnd (R.remaining input.new)) }
 {
-    let mut tries = u64::MAX;
-    while tries > 0 {
+    for _ in 0..u64::MAX {
         match input.read(buffer) {
             Ok(n) => return Ok(n),
             Err(e) => {
@@ -63,76 +58,57 @@ fn read_piece<R: Read>(input: &mut R, buffer: &mut [u8]) -> Result<usize, Stoppe
                 }
             }
         }
-        tries -= 1;
     }
     Err(Stopped::Input(io::Error::from(ErrorKind::Interrupted)))
 }
 
-// Every line that ends in a piece is answered. How many bytes of a line are then in hand; what they and the store are is what
-// the session's steps leave. Where a reply cannot be printed, no further line is answered.
-fn serve<W: Write>(
-    piece: &[u8],
-    line: &mut [u8; LINE_BUFFER],
-    held: usize,
-    words: &mut [u32],
-    out: &mut [u8; OUT_SIZE],
-    output: &mut W,
-) -> Result<usize, Stopped>
-    ensures passed { IfOk result (λ h. Passed (take held line.old) words.old piece.now (take h line.new) words.new) }
-    ensures printed { IfOk result (λ h. PassedOut (take held line.old) words.old piece.now (take h line.new) words.new (W.contents output.old) (W.contents output.new)) }
+// Every line that ends in a piece is answered. What is then in hand, and the store, are what the session's steps leave. Where a
+// reply cannot be printed, no further line is answered.
+fn serve<W: Write>(piece: &[u8], session: &mut Session<'_>, output: &mut W) -> Result<(), Stopped>
+    ensures passed { OnOk result (Passed session.old.line session.old.words.now piece.now session.new.line session.new.words.now) }
+    ensures printed { OnOk result (PassedOut session.old.line session.old.words.now piece.now session.new.line session.new.words.now (W.contents output.old) (W.contents output.new)) }
 {
-    let mut at: usize = 0;
-    let mut h = held;
-    while at < piece.len() {
-        let s = interpreter::step(piece, at, line, h, words, out);
-        h = s.held;
-        at = s.at;
-        print(output, out, s.text)?;
+    let mut rest = piece;
+    while !rest.is_empty() {
+        let taken = session.step(rest);
+        print(output, session.text.as_slice())?;
+        rest = &rest[taken..];
     }
-    Ok(h)
+    Ok(())
 }
 
-// Piece by piece to the end of the input. How many bytes of a last line are in hand; some pieces have led from the words at
-// first to what is in hand and in the store. Where a read fails, the lines that ended before it are answered.
+// Piece by piece to the end of the input. Some pieces have led from the words at first to what is in hand and in the store; a
+// last line is still in hand. Where a read fails, the lines that ended before it are answered.
 fn serve_all<R: Read, W: Write>(
     input: &mut R,
-    line: &mut [u8; LINE_BUFFER],
-    words: &mut [u32],
-    out: &mut [u8; OUT_SIZE],
+    session: &mut Session<'_>,
     output: &mut W,
-) -> Result<usize, Stopped>
-    ensures led { IfOk result (λ h. Led [] words.old (take h line.new) words.new) }
-    ensures told { IfOk result (λ h. Told words.old (take h line.new) words.new (R.remaining input.old) (R.remaining input.new) (W.contents output.old) (W.contents output.new)) }
+) -> Result<(), Stopped>
+    ensures led { OnOk result (Led [] session.old.words.now session.new.line session.new.words.now) }
+    ensures told { OnOk result (Told session.old.words.now session.new.line session.new.words.now (R.remaining input.old) (R.remaining input.new) (W.contents output.old) (W.contents output.new)) }
 {
+    session.line.clear();
     let mut buffer = [0u8; PIECE];
-    let mut held: usize = 0;
-    let mut pieces = u64::MAX;
-    while pieces > 0 {
+    for _ in 0..u64::MAX {
         let n = read_piece(input, &mut buffer)?;
         if n == 0 {
-            return Ok(held);
+            return Ok(());
         }
-        held = serve(&buffer[..n], line, held, words, out, output)?;
-        pieces -= 1;
+        serve(&buffer[..n], session, output)?;
     }
     Err(Stopped::Input(io::Error::from(ErrorKind::Other)))
 }
 
 // The end of the input: a last line that lacks its line feed.
-fn serve_last<W: Write>(
-    line: &[u8; LINE_BUFFER],
-    held: usize,
-    words: &mut [u32],
-    out: &mut [u8; OUT_SIZE],
-    output: &mut W,
-) -> Result<(), Stopped>
-    ensures { OnOk result (Appends (W.contents output.old) (W.contents output.new) (texts words.old (last_line (take held line.now)))) }
+fn serve_last<W: Write>(session: &mut Session<'_>, output: &mut W) -> Result<(), Stopped>
+    ensures { OnOk result (Appends (W.contents output.old) (W.contents output.new) (texts session.old.words.now (last_line session.old.line))) }
 {
-    let n = interpreter::finish(line, held, words, out);
-    print(output, out, n)
+    session.finish();
+    print(output, session.text.as_slice())
 }
 
 // The store that a run starts from: all words 0.
+#[tactic(auto, unfolding(interpreter::specs::Answer::first_words))]
 fn first_words() -> [u32; BOOK_WORDS]
     ensures { result ≡ first_words }
 {
@@ -146,10 +122,9 @@ pub fn run<R: Read, W: Write>(input: &mut R, output: &mut W) -> Result<(), Stopp
         (λ xs. Appends (W.contents output.old) (W.contents output.new) (texts first_words (lines xs)))) }
 {
     let mut words = first_words();
-    let mut line = [0u8; LINE_BUFFER];
-    let mut out = [0u8; OUT_SIZE];
-    let held = serve_all(input, &mut line, &mut words, &mut out, output)?;
-    serve_last(&line, held, &mut words, &mut out, output)
+    let mut session = Session::new(&mut words);
+    serve_all(input, &mut session, output)?;
+    serve_last(&mut session, output)
 }
 
 // How a program ends behind a run: with status 0; where the run was stopped, with 1, and a message on standard error.

@@ -22,6 +22,7 @@ use Rattle.walk_model.specs.Walk.{shape_of, start, walk, header_passes, words_pa
 use Rattle.words.specs.Places.{watched_label}
 use Rattle.walk_model.specs.Watch.{ancestor_numbers, watched_numbers, TablesAt, walk_sizes, sizes_at}
 use Rattle.shape.specs.Packed.{Packed, widths_in, numbers_in}
+use Rattle.shape.specs.declared.Tables as by_height
 use Rattle.walk_levels.specs.Needs.{AncestorsFit, tables_of, levels_of}
 use Rattle.shape.specs.Needs.{RootFits, WidthsFit, frame_passes, root_passes}
 use Rattle.walk.specs.Needs.{PassFits, shape_with, shape_in, start_with}
@@ -100,7 +101,7 @@ module _ (ws lo : List ℕ) (a : Frame ws) (of_lo : lo ≡ table 1 (r_of ws) (h_
   pub root_fits : RootFits (h_of ws) lo
   root_fits = record { low = a.low; high = omega (arith, a.high); lows = entries_fit (lows_fit (framed_fits ws a)) of_lo }
 
-  pub pass_fits : {w hi ns t : List ℕ} {l : ℕ} → Packed t w lo hi → numbers_in t ≡ ns → w ≡ table 1 (s_of ws * r_of ws - 1) (h_of ws) → hi ≡ table (s_of ws) (r_of ws) (h_of ws) → ns ≡ ancestor_numbers w (h_of ws - 1) l 0 (replicate table_length 0) → l < word_limit → PassFits ws (n_of ws) (h_of ws - 1) t
+  pub pass_fits : {w hi ns : List ℕ} {t : by_height.Tables} {l : ℕ} → Packed t w lo hi → numbers_in t ≡ ns → w ≡ table 1 (s_of ws * r_of ws - 1) (h_of ws) → hi ≡ table (s_of ws) (r_of ws) (h_of ws) → ns ≡ ancestor_numbers w (h_of ws - 1) l 0 (replicate table_length 0) → l < word_limit → PassFits ws (n_of ws) (h_of ws - 1) t
   pass_fits {w} p numbers of_w of_hi of_ns fits =
       let b = s_of ws * r_of ws - 1 in
       record {
@@ -138,7 +139,7 @@ module _ (ws : List ℕ) where
       unfolding words_pass
       root_refuses e p = simp (header_split, ← of_lo, ← of_hi, sym e ∙ not-true t p, and-false)
 
-      pub pass_decides : {w tables : List ℕ} {q r : Bool} → Packed tables w lo hi → w ≡ table 1 (s_of ws * r_of ws - 1) (h_of ws) → q ≡ frame_passes ws → not q ≡ false → r ≡ root_passes (n_of ws) (h_of ws) lo hi → not r ≡ false →
+      pub pass_decides : {w : List ℕ} {tables : by_height.Tables} {q r : Bool} → Packed tables w lo hi → w ≡ table 1 (s_of ws * r_of ws - 1) (h_of ws) → q ≡ frame_passes ws → not q ≡ false → r ≡ root_passes (n_of ws) (h_of ws) lo hi → not r ≡ false →
           t ≡ walk ws (shape_in tables (h_of ws - 1) (n_of ws)) (n_of ws) 0 (start_with ws (widths_in tables)) → t ≡ words_pass ws
       unfolding words_pass shape_of widths_of lows_of highs_of start shape_with start_with tables_of levels_of
       pass_decides p of_w a b c d e =
@@ -147,7 +148,7 @@ module _ (ws : List ℕ) where
 
 -- WHERE THEY PASS, the sizes and the tables: l is the label at the place y, and ns are the numbers of its ancestors
 module _ (ws lo hi w : List ℕ) (of_lo : lo ≡ table 1 (r_of ws) (h_of ws)) (of_hi : hi ≡ table (s_of ws) (r_of ws) (h_of ws)) (of_w : w ≡ table 1 (s_of ws * r_of ws - 1) (h_of ws))
-    (y l : ℕ) (ns : List ℕ) {tables : List ℕ} (p : Packed tables w lo hi) (numbers_are : numbers_in tables ≡ ns) (label : l ≡ watched_label ws y) (numbers : ns ≡ ancestor_numbers w (h_of ws - 1) l 0 (replicate table_length 0)) where
+    (y l : ℕ) (ns : List ℕ) {tables : by_height.Tables} (p : Packed tables w lo hi) (numbers_are : numbers_in tables ≡ ns) (label : l ≡ watched_label ws y) (numbers : ns ≡ ancestor_numbers w (h_of ws - 1) l 0 (replicate table_length 0)) where
   pub sizes_taken : (sz : List ℕ) {sz' : List ℕ} → sz' ≡ walk_sizes ws (shape_in tables (h_of ws - 1) (n_of ws)) (numbers_in tables) (n_of ws) 0 (start_with ws (widths_in tables)) sz → sz' ≡ sizes_at ws y sz
   unfolding sizes_at watched_numbers shape_of start shape_with start_with tables_of levels_of widths_of lows_of highs_of
   sizes_taken sz e =

@@ -10,8 +10,9 @@ ghost use Rattle.shape.specs.Packed.{widths_in, lows_in, highs_in, numbers_in};
 ghost use Rattle.walk_levels.specs.Needs.{levels_of};
 ghost use Rattle.walk.specs.Needs.{PassFits, Standing, EndsFit, Behind, ends_from, label_passes, shape_in, label_due, first_state, state_with, start_with};
 
-use shape::{PACKED_LENGTH, TABLE_LENGTH};
+use shape::{TABLE_LENGTH, Tables};
 use store_types::TagId;
+use walk_levels::Levels;
 use words::Offset;
 
 // How many tags the book has, and the height of the root's children.
@@ -57,15 +58,14 @@ fn label_fits(
     words: &[u32],
     size: Extent,
     v: State,
-    tables: &[u64; PACKED_LENGTH],
-    ends: &mut [u64; TABLE_LENGTH],
-    firsts: &mut [u32; TABLE_LENGTH],
+    tables: &Tables,
+    levels: &mut Levels,
     sizes: &mut [u32; TABLE_LENGTH],
 ) -> bool
-    requires { PassFits words.now size.n size.under tables.now × Standing words.now size.n ends.old v }
-    ensures ok { result ≡ label_passes words.now (shape_in tables.now size.under size.n) v.place (state_with words.now v ends.old firsts.old) }
-    ensures left { result ≡ true → levels_of ends.new firsts.new ≡ (placed words.now (shape_in tables.now size.under size.n) v.place (state_with words.now v ends.old firsts.old)).levels }
-    ensures sizes { result ≡ true → sizes.new ≡ place_sizes (widths_in tables.now) (numbers_in tables.now) size.under (label_due words.now v.prior.0) (label_at words.now v.tag.0) v.place (levels_of ends.old firsts.old) sizes.old }
+    requires { PassFits words.now size.n size.under tables.now × Standing words.now size.n levels.old v }
+    ensures ok { result ≡ label_passes words.now (shape_in tables.now size.under size.n) v.place (state_with words.now v levels.old) }
+    ensures left { result ≡ true → levels_of levels.new ≡ (placed words.now (shape_in tables.now size.under size.n) v.place (state_with words.now v levels.old)).levels }
+    ensures sizes { result ≡ true → sizes.new ≡ place_sizes (widths_in tables.now) (numbers_in tables.now) size.under (label_due words.now v.prior.0) (label_at words.now v.tag.0) v.place (levels_of levels.old) sizes.old }
 {
     if size.n <= v.tag.0 {
         return false;
@@ -74,7 +74,7 @@ fn label_fits(
     if label.0 as u64 == v.expect {
         return true;
     }
-    walk_levels::settle(label, v.place, size.under, tables, ends, firsts, sizes)
+    levels.settle(label, v.place, size.under, tables, sizes)
 }
 
 // Behind a tag that passes: end is where the open node of height 1 ends.
@@ -108,14 +108,13 @@ pub fn ends_well(
     words: &[u32],
     size: Extent,
     v: State,
-    tables: &[u64; PACKED_LENGTH],
-    ends: &[u64; TABLE_LENGTH],
-    firsts: &[u32; TABLE_LENGTH],
+    tables: &Tables,
+    levels: &Levels,
     sizes: &mut [u32; TABLE_LENGTH],
 ) -> bool
     requires { EndsFit words.now size.n size.under v.marks tables.now }
-    ensures ok { result ≡ ends_from words.now size.n size.under (lows_in tables.now) (highs_in tables.now) firsts.now v.tag.0 v.parent.0 v.marks }
-    ensures sizes { result ≡ true → sizes.new ≡ close_sizes (widths_in tables.now) (numbers_in tables.now) size.under 1 size.n (levels_of ends.now firsts.now) sizes.old }
+    ensures ok { result ≡ ends_from words.now size.n size.under (lows_in tables.now) (highs_in tables.now) levels.now v.tag.0 v.parent.0 v.marks }
+    ensures sizes { result ≡ true → sizes.new ≡ close_sizes (widths_in tables.now) (numbers_in tables.now) size.under 1 size.n (levels_of levels.now) sizes.old }
 {
     if !v.tag.is_none() {
         return false;
@@ -123,7 +122,7 @@ pub fn ends_well(
     if !v.parent.is_none() {
         return false;
     }
-    if !walk_levels::all_close(size.n, size.under, tables, ends, firsts, sizes) {
+    if !levels.all_close(size.n, size.under, tables, sizes) {
         return false;
     }
     words[words::AT_STAMP] <= size.n + v.marks
@@ -131,14 +130,8 @@ pub fn ends_well(
 
 // The pass: one tag after the other along next. The first test says nothing that the loop does not; but where its record
 // stands is then known before the loop, and the compiler carries it.
-fn pass(
-    words: &[u32],
-    size: Extent,
-    widths: [u64; TABLE_LENGTH],
-    tables: &[u64; PACKED_LENGTH],
-    sizes: &mut [u32; TABLE_LENGTH],
-) -> bool
-    requires { PassFits words.now size.n size.under tables.now × (widths ≡ widths_in tables.now) }
+fn pass(words: &[u32], size: Extent, tables: &Tables, sizes: &mut [u32; TABLE_LENGTH]) -> bool
+    requires { PassFits words.now size.n size.under tables.now }
     ensures ok { result ≡ walk words.now (shape_in tables.now size.under size.n) size.n 0 (start_with words.now (widths_in tables.now)) }
     ensures sizes { result ≡ true → sizes.new ≡ walk_sizes words.now (shape_in tables.now size.under size.n) (numbers_in tables.now) size.n 0 (start_with words.now (widths_in tables.now)) sizes.old }
 {
@@ -148,11 +141,10 @@ fn pass(
         return false;
     }
     let pairs = walk_tags::pairs();
-    let mut ends = widths;
-    let mut firsts = [0u32; TABLE_LENGTH];
+    let mut levels = Levels::new(&tables.widths);
     let mut v = started(first, at);
     while v.place < size.n {
-        if !label_fits(words, size, v, tables, &mut ends, &mut firsts, sizes) {
+        if !label_fits(words, size, v, tables, &mut levels, sizes) {
             return false;
         }
         if !walk_tags::tag_fits(&pairs, words, size.n, v.tag, v.at, v.prior, v.parent) {
@@ -161,9 +153,9 @@ fn pass(
         if !walk_tags::depth_fits(words, v.tag, v.at, v.depth) {
             return false;
         }
-        v = passed(words, size.n, ends[1], v);
+        v = passed(words, size.n, levels.ends[1], v);
     }
-    ends_well(words, size, v, tables, &ends, &firsts, sizes)
+    ends_well(words, size, v, tables, &levels, sizes)
 }
 
 // Whether words say a store: refusal 2 where they do not. Where they do, `tables` has then the tables of their header with
@@ -171,7 +163,7 @@ fn pass(
 pub fn sound_at(
     words: &[u32],
     place: TagId,
-    tables: &mut [u64; PACKED_LENGTH],
+    tables: &mut Tables,
     sizes: &mut [u32; TABLE_LENGTH],
 ) -> bool
     ensures ok { result ≡ words_pass words.now }
@@ -192,9 +184,13 @@ pub fn sound_at(
         return false;
     }
     let label = words::places::watched_label(words, place);
-    let header = shape::tables::packed(widths, lows, highs);
-    let numbers = walk_levels::ancestors::numbers(label, h - 1, &header);
-    *tables = shape::tables::with_numbers(header, numbers);
+    let numbers = walk_levels::ancestors::numbers(label, h - 1, &widths);
+    *tables = Tables {
+        widths,
+        lows,
+        highs,
+        numbers,
+    };
     let size = Extent { n, under: h - 1 };
-    pass(words, size, widths, tables, sizes)
+    pass(words, size, tables, sizes)
 }

@@ -1,16 +1,23 @@
 -- What the tests of labels ask of their callers, and the parts of the walk that each decides.
 -- Assumes nothing: these are definitions.
-use Rattle.std.specs.Prelude.{Bool, false, cond, List, ℕ, ◌≤◌, eqb, get_or}
+use Rattle.std.specs.Prelude.{Bool, false, cond, List, ℕ, ◌≤◌, eqb, get_or, replicate}
 use Rattle.store_types.specs.Limits.{label_limit}
-use Rattle.powers.specs.Tables.{entry_limit, entry, table_under}
+use Rattle.powers.specs.Tables.{entry_limit, entry, table_length, table_under}
 use Rattle.shape.specs.Packed.{widths_in, lows_in, highs_in, numbers_in}
+use Rattle.shape.specs.declared.Tables as by_height
+use Rattle.walk_levels.specs.declared.Levels as kept
 use Rattle.walk_model.specs.Levels.{Tables, Levels, Settled, closes, settle, place_label, all_close}
 
 unfoldable pub tables_of : (widths lows highs : List ℕ) → Tables
 tables_of w lo hi = record { widths = w; lows = lo; highs = hi }
 
-unfoldable pub levels_of : (ends firsts : List ℕ) → Levels
-levels_of ends firsts = record { ends = ends; firsts = firsts }
+-- the open nodes that the code keeps
+unfoldable pub levels_of : kept.Levels → Levels
+levels_of v = record { ends = v.ends; firsts = v.firsts }
+
+-- before the first leaf, by the widths
+abbrev pub first_levels : (widths : List ℕ) → kept.Levels
+first_levels w = record { ends = w; firsts = replicate table_length 0 }
 
 pub record LevelsFit (under : ℕ) (w lo hi : List ℕ) : Type 0 where
   pub height : under ≤ table_under
@@ -22,7 +29,7 @@ pub record LevelsFit (under : ℕ) (w lo hi : List ℕ) : Type 0 where
 abbrev pub NumbersSmall : List ℕ → Type 0
 NumbersSmall ns = (h : ℕ) → get_or ns h 0 ≤ entry_limit
 
-abbrev pub TablesFit : (under : ℕ) → List ℕ → Type 0
+abbrev pub TablesFit : (under : ℕ) → by_height.Tables → Type 0
 TablesFit u t = LevelsFit u (widths_in t) (lows_in t) (highs_in t) × NumbersSmall (numbers_in t)
 
 -- the ancestors below the root: each has a width
@@ -35,16 +42,16 @@ unfoldable pub closes_from : (lows highs : List ℕ) → (h from i : ℕ) → Bo
 closes_from lo hi h from i = closes (tables_of lo lo hi) h from i
 
 -- one label at a place, closing nodes from height 1 on
-unfoldable pub settle_from : (tables : List ℕ) → (under label i : ℕ) → (ends firsts : List ℕ) → Settled
-settle_from t u l i ends firsts = settle (tables_of (widths_in t) (lows_in t) (highs_in t)) u 1 false l i (levels_of ends firsts)
+unfoldable pub settle_from : (tables : by_height.Tables) → (under label i : ℕ) → kept.Levels → Settled
+settle_from t u l i v = settle (tables_of (widths_in t) (lows_in t) (highs_in t)) u 1 false l i (levels_of v)
 
-unfoldable pub place_from : (tables : List ℕ) → (under expect label i : ℕ) → (ends firsts : List ℕ) → Settled
-place_from t u expect l i ends firsts = place_label (tables_of (widths_in t) (lows_in t) (highs_in t)) u expect l i (levels_of ends firsts)
+unfoldable pub place_from : (tables : by_height.Tables) → (under expect label i : ℕ) → kept.Levels → Settled
+place_from t u expect l i v = place_label (tables_of (widths_in t) (lows_in t) (highs_in t)) u expect l i (levels_of v)
 
 -- the label that is waited for where `next` comes next: none where the open node of height 1 ends there
 unfoldable pub expected_label : (next end : ℕ) → ℕ
 expected_label next end = cond (eqb next end) label_limit next
 
--- neither the widths nor the ends matter where all open nodes close
-unfoldable pub close_from : (lows highs : List ℕ) → (under i : ℕ) → (firsts : List ℕ) → Bool
-close_from lo hi u i firsts = all_close (tables_of lo lo hi) u 1 i (levels_of firsts firsts)
+-- the widths do not matter where all open nodes close
+unfoldable pub close_from : (lows highs : List ℕ) → (under i : ℕ) → kept.Levels → Bool
+close_from lo hi u i v = all_close (tables_of lo lo hi) u 1 i (levels_of v)

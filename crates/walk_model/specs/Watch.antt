@@ -7,6 +7,7 @@ use Rattle.words.specs.Places.{watched_label}
 use Rattle.powers.specs.Tables.{entry, entry_limit, table_length}
 use Rattle.shape.specs.Tables.{widths_of, lows_of, highs_of}
 use Rattle.shape.specs.Packed.{Packed, numbers_in}
+use Rattle.shape.specs.declared.Tables as by_height
 use Rattle.shape.specs.Sums.{cut}
 use Rattle.walk_model.specs.Levels.{Levels}
 use Rattle.walk_model.specs.Walk.{Shape, State, passed, shape_of, start}
@@ -47,8 +48,8 @@ walk_sizes ws shape ns (suc m) i v sz =
 unfoldable pub watched_numbers : List ℕ → (place : ℕ) → List ℕ
 watched_numbers ws y = ancestor_numbers (shape_of ws).tables.widths (pred (word_at ws at_height)) (watched_label ws y) 0 (replicate table_length 0)
 
--- four tables in one array: those of the words, and the numbers of the ancestors of a place
-pub record TablesAt (ws : List ℕ) (y : ℕ) (tables : List ℕ) : Type 0 where
+-- four tables: those of the words, and the numbers of the ancestors of a place
+pub record TablesAt (ws : List ℕ) (y : ℕ) (tables : by_height.Tables) : Type 0 where
   pub packed : Packed tables (widths_of ws) (lows_of ws) (highs_of ws)
   pub numbers : numbers_in tables ≡ watched_numbers ws y
   pub fit : (h : ℕ) → entry (numbers_in tables) h ≤ entry_limit

@@ -39,14 +39,14 @@ entry_right c k = same (bit_of (get_or pair_table c 0) k) (pair_fits c k)
 row_right : (c : ℕ) → Bool
 row_right c = entry_right c 1 && (entry_right c 17 && entry_right c c)
 
-table_right : all_below 32 row_right ≡ true
+table_classes : all_below 32 row_right ≡ true
 unfolding bit_of pair_table pair_fits is_kind_word all_below row_right entry_right same
-table_right = refl
+table_classes = refl
 
 pub pair_right : (c k : ℕ) → c < 32 → BeginWord k ⊎ (k ≡ c) → bit_of (get_or pair_table c 0) k ≡ pair_fits c k
 unfolding row_right entry_right
 pair_right c k p w =
-    let row = at_below 32 row_right table_right c p in
+    let row = at_below 32 row_right table_classes c p in
     let rest = and_right (entry_right c 1) (entry_right c 17 && entry_right c c) row in
     ⊎_elim
     (⊎_elim (λ e. rw e (same_true _ _ (and_left (entry_right c 1) (entry_right c 17 && entry_right c c) row)))

@@ -3,6 +3,8 @@
 use Rattle.std.specs.Prelude.{Bool, ◌&&◌, ◌||◌, not, cond, List, [], ◌∷◌, ℕ, ltb, leb, eqb}
 use Rattle.lists.specs.Fronts.{starts_with}
 use Rattle.lists.specs.Texts.{bytes}
+use Rattle.xml.specs.declared.Class.{Class}
+use Rattle.xml.specs.declared.Class.TheVariants.{Forbidden, Space, NameStart, NameOnly, Other}
 
 -- production 2, Char: tab, line feed, carriage return, and 32 to 127; from 128 on all are forbidden here
 unfoldable pub is_char : ℕ → Bool
@@ -20,10 +22,11 @@ is_name_start c = eqb c 58 || (eqb c 95 || ((leb 65 c && leb c 90) || (leb 97 c 
 unfoldable pub is_name_char : ℕ → Bool
 is_name_char c = is_name_start c || (eqb c 45 || (eqb c 46 || (leb 48 c && leb c 57)))
 
--- 0 forbidden, 1 space, 2 name start, 3 name only, 4 other
-unfoldable pub class_of : ℕ → ℕ
+-- the class of a byte
+unfoldable pub class_of : ℕ → Class
 class_of c =
-    cond (not (is_char c)) 0 (cond (is_space c) 1 (cond (is_name_start c) 2 (cond (is_name_char c) 3 4)))
+    cond (not (is_char c)) Forbidden
+    (cond (is_space c) Space (cond (is_name_start c) NameStart (cond (is_name_char c) NameOnly Other)))
 
 -- the bytes that markup is made of
 abbrev pub less_than : ℕ

@@ -1,6 +1,6 @@
 -- What is promised of sheets (document 02, CR 1). Each statement is a type; its proof stands in crate xml_laws.
 -- Assumes nothing: these are definitions.
-use Rattle.std.specs.Prelude.{◌≡◌, true, false, List, [], ◌++◌, map, ◌↔◌, ◌⊎◌, ℕ, ◌≤◌, ◌<◌, length}
+use Rattle.std.specs.Prelude.{◌≡◌, true, false, List, [], ◌++◌, map, ◌↔◌, ◌⊎◌, ℕ, ◌≤◌, ◌<◌, length, Ok, Err}
 use Rattle.lists.specs.Fronts.{in_front}
 use Rattle.calls.specs.Kind.{kind_of}
 use Rattle.calls.specs.Load.{all_kinds}
@@ -8,7 +8,6 @@ use Rattle.calls.specs.Nesting.{nests}
 use Rattle.xml.specs.Grammar.{Construct, start, empty_element, text_of, texts, Tag, is_tag, Place, top, may_stand, all_stand, place_after_all, kinds_from, most_depth, refused_opener, not_a_sheet, too_deep, not_read}
 use Rattle.xml.specs.Content.{Content, constructs, content_right, data_right}
 use Rattle.xml.specs.Reader.{accepted, refused, read_sheet}
-use Rattle.xml.specs.declared.SheetReply.TheVariants.{Kinds, Refused}
 use Rattle.xml.specs.Replies.{list_short, sheet_reply, sheet_list}
 
 -- IN THE GRAMMAR, with these kinds: a row of constructs, each where it may stand, with no element open at the end
@@ -92,14 +91,14 @@ pub record TooShort (text list : List ℕ) : Type 0 where
 -- was; 14, 13, 12 and 11 each exactly under its condition, and nothing changed; no other refusal; and a list of as many bytes as the
 -- text is never too short
 pub record SheetRight (text list : List ℕ) : Type 0 where
-  pub accepts : (count : ℕ) → (sheet_reply text list ≡ Kinds count) ↔ Fits text list count
+  pub accepts : (count : ℕ) → (sheet_reply text list ≡ Ok count) ↔ Fits text list count
   pub writes : (count : ℕ) (fits : Fits text list count) → sheet_list text list ≡ in_front fits.kinds list
-  pub fourteen : (sheet_reply text list ≡ Refused not_read) ↔ Outside text not_read
-  pub thirteen : (sheet_reply text list ≡ Refused too_deep) ↔ Outside text too_deep
-  pub twelve : (sheet_reply text list ≡ Refused not_a_sheet) ↔ Outside text not_a_sheet
-  pub eleven : (sheet_reply text list ≡ Refused list_short) ↔ TooShort text list
-  pub leaves : (number : ℕ) → sheet_reply text list ≡ Refused number → sheet_list text list ≡ list
-  pub no_other : (number : ℕ) → sheet_reply text list ≡ Refused number → (number ≡ list_short) ⊎ ((number ≡ not_a_sheet) ⊎ ((number ≡ too_deep) ⊎ (number ≡ not_read)))
+  pub fourteen : (sheet_reply text list ≡ Err not_read) ↔ Outside text not_read
+  pub thirteen : (sheet_reply text list ≡ Err too_deep) ↔ Outside text too_deep
+  pub twelve : (sheet_reply text list ≡ Err not_a_sheet) ↔ Outside text not_a_sheet
+  pub eleven : (sheet_reply text list ≡ Err list_short) ↔ TooShort text list
+  pub leaves : (number : ℕ) → sheet_reply text list ≡ Err number → sheet_list text list ≡ list
+  pub no_other : (number : ℕ) → sheet_reply text list ≡ Err number → (number ≡ list_short) ⊎ ((number ≡ not_a_sheet) ⊎ ((number ≡ too_deep) ⊎ (number ≡ not_read)))
   pub as_many : length (sheet_list text list) ≡ length list
   pub suffices : length text ≤ length list → TooShort text list → ⊥
 

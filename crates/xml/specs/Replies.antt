@@ -1,9 +1,7 @@
 -- What the call on a sheet replies, and what the lent list then holds, for every text and list (document 02, CR 1).
 -- Assumes nothing: these are definitions.
-use Rattle.std.specs.Prelude.{cond, List, [], ◌∷◌, ℕ, ltb, length}
+use Rattle.std.specs.Prelude.{cond, List, [], ℕ, ltb, length, Result, Ok, Err}
 use Rattle.lists.specs.Fronts.{replied, written}
-use Rattle.xml.specs.declared.SheetReply.{SheetReply}
-use Rattle.xml.specs.declared.SheetReply.TheVariants.{Kinds, Refused}
 use Rattle.xml.specs.Reader.{Reading, accepted, refused, read_sheet}
 
 -- a lent list that is shorter than the count
@@ -19,15 +17,10 @@ unfoldable pub kinds_in : Reading → List ℕ
 kinds_in (accepted ks) = ks
 kinds_in (refused n) = []
 
-unfoldable pub sheet_reply : (text list : List ℕ) → SheetReply
+unfoldable pub sheet_reply : (text list : List ℕ) → Result ℕ ℕ
 sheet_reply bs ls =
     let q = read_sheet bs in
-    replied Refused (sheet_refusal (length ls) q) (Kinds (length (kinds_in q)))
+    replied Err (sheet_refusal (length ls) q) (Ok (length (kinds_in q)))
 
 unfoldable pub sheet_list : (text list : List ℕ) → List ℕ
 sheet_list bs ls = let q = read_sheet bs in written (sheet_refusal (length ls) q) (kinds_in q) ls
-
--- the numbers of a reply: 0 (ok) and the count, or the refusal alone
-unfoldable pub sheet_numbers : SheetReply → List ℕ
-sheet_numbers (Kinds n) = 0 ∷ n ∷ []
-sheet_numbers (Refused k) = k ∷ []

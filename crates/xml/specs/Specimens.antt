@@ -4,7 +4,8 @@ use Rattle.std.specs.Prelude.{Bool, ◌&&◌, List, [], ◌∷◌, ◌++◌, ℕ
 use Rattle.lists.specs.Lists.{same}
 use Rattle.lists.specs.Texts.{bytes}
 use Rattle.xml.specs.Grammar.{most_depth}
-use Rattle.xml.specs.Replies.{sheet_reply, sheet_list, sheet_numbers}
+use Rattle.store_types.specs.Replies.{count_numbers}
+use Rattle.xml.specs.Replies.{sheet_reply, sheet_list}
 
 -- a text and its kinds, or its refusal; or, with a lent list, the reply's numbers and the list afterwards
 pub data Specimen : Type 0 where
@@ -13,7 +14,7 @@ pub data Specimen : Type 0 where
   lends : (text list numbers after : List ℕ) → Specimen
 
 unfoldable pub answers : (text list numbers after : List ℕ) → Bool
-answers bs ls ns after = same (sheet_numbers (sheet_reply bs ls)) ns && same (sheet_list bs ls) after
+answers bs ls ns after = same (count_numbers (sheet_reply bs ls)) ns && same (sheet_list bs ls) after
 
 -- kinds are looked at in a list of just their number
 unfoldable pub specimen_holds : Specimen → Bool

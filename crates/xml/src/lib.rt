@@ -2,11 +2,14 @@
 // stand in specs/.
 #![tactic(auto)]
 
-// How many kinds a sheet gives, or the refusal.
-#[derive(Clone, Copy)]
-pub enum SheetReply {
-    Kinds(usize),
-    Refused(u32),
+// What a byte may be in a sheet: nothing, a space, the first byte of a name or a later one, or any other byte of texts and values.
+#[derive(Clone, Copy, Debug, PartialEq, Eq)]
+pub enum Class {
+    Forbidden,
+    Space,
+    NameStart,
+    NameOnly,
+    Other,
 }
 
 // Elements stand inside one another to this depth, those at the top at 1.

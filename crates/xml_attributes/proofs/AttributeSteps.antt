@@ -6,6 +6,7 @@ use mathlib.Core.Option.{Option, none, some}
 use Prim.Native.Nat.{ℕ, suc, ◌+◌, ◌≤◌, ◌<◌}
 use native.Mathlib.Omega.{arith}
 use borrow.Author.Tests.{eqb-false, eq-eqb, ne_eqb}
+use Rattle.std.specs.Prelude.{Some, None}
 use lib.Dec.{eqb}
 use lib.ListN.{length, get_or, drop, length-drop, get_or-eq_default}
 use lib.Seq.{drop-drop, get_or-drop}
@@ -15,9 +16,9 @@ use Rattle.xml.specs.Bytes.{is_space, equals}
 use Rattle.xml.specs.Grammar.{is_quote}
 use Rattle.xml.specs.Scan.{Sized, run, name_length, value_length, sized, attribute_at}
 use Rattle.xml_scan.specs.Post.{found}
-use Rattle.xml_scan.specs.declared.Found.TheVariants.{At, Nothing}
+use Rattle.xml_scan.proofs.Seeks.{found_none, found_some}
 use Rattle.xml_attributes.specs.Next.{attribute_found}
-use Rattle.xml_attributes.specs.declared.AttributeRead.TheVariants as attribute
+use Rattle.xml_attributes.specs.declared.AttributeRead.{AttributeRead}
 use Rattle.xml_laws.proofs.Bounds.{value_within}
 
 -- WHERE THE PARTS STAND, from the attribute's first byte: = and the quote
@@ -66,17 +67,11 @@ attribute_fits cs z e =
     (value_within (get_or cs (quote_at cs) 0) 0 (drop (suc (quote_at cs)) cs) s.0 s.1))
 
 -- WHAT WAS FOUND
-found_none : (a : ℕ) (o : Option ℕ) → Nothing ≡ found a o → o ≡ none
-unfolding found
-found_none a none e = refl
-found_none a (some n) e = absurd (let z : ◌≡◌ {A = ℕ} 0 1 = cc in omega arith)
+-- an attribute that was read, by its ends
+abbrev pub read_to : (name end : ℕ) → AttributeRead
+read_to m k = record { name = m; end = k }
 
-found_some : (a : ℕ) (o : Option ℕ) (i : ℕ) → At i ≡ found a o → (n : ℕ) × (o ≡ some n) × (i ≡ a + n)
-unfolding found
-found_some a none i e = absurd (let z : ◌≡◌ {A = ℕ} 0 1 = cc in omega arith)
-found_some a (some n) i e = (n, refl, cc)
-
-pub nothing : (a : ℕ) (cs : List ℕ) → attribute_at cs ≡ none → attribute.Nothing ≡ attribute_found a (attribute_at cs)
+pub nothing : (a : ℕ) (cs : List ℕ) → attribute_at cs ≡ none → None ≡ attribute_found a (attribute_at cs)
 unfolding attribute_found
 nothing a cs e = rw e
 
@@ -136,23 +131,23 @@ module _ (text : List ℕ) (at name equal : ℕ) (n : name ≡ at + name_length 
         rw (quote_is, from_place text at (suc (quote_at (drop at text))) (opens + 1) f)
 
     -- no value
-    pub no_value : Nothing ≡ found (opens + 1) (value_length (get_or text opens 0) 0 (drop (opens + 1) text)) → attribute_at (drop at text) ≡ none
+    pub no_value : None ≡ found (opens + 1) (value_length (get_or text opens 0) 0 (drop (opens + 1) text)) → attribute_at (drop at text) ≡ none
     unfolding sized
     no_value f = attribute_by (drop at text) ∙ rw (value_is ∙ found_none _ _ f) (either_way (lacks (drop at text)) none)
 
     -- a name, = and a value
     pub whole : (closes : ℕ) → starts_with (equals ∷ []) (drop equal text) ≡ true → is_quote (get_or text opens 0) ≡ true →
-        At closes ≡ found (opens + 1) (value_length (get_or text opens 0) 0 (drop (opens + 1) text)) →
-        attribute.Read name (closes + 1) ≡ attribute_found at (attribute_at (drop at text))
+        Some closes ≡ found (opens + 1) (value_length (get_or text opens 0) 0 (drop (opens + 1) text)) →
+        Some (read_to name (closes + 1)) ≡ attribute_found at (attribute_at (drop at text))
     unfolding sized attribute_found
     whole closes f q v =
-        let w = found_some _ _ closes v in
+        let w = found_some _ closes _ v in
         let lacks_none : lacks (drop at text) ≡ false =
         rw (is_named, (rw equals_text at f), quote_is, q) in
         let e : closes + 1 ≡ at + suc (suc (quote_at (drop at text) + w.0)) = ends closes w.0 w.2 in
-        rw (attribute_by (drop at text), lacks_none, value_is ∙ w.1) (ap₂ attribute.Read n e)
+        rw (attribute_by (drop at text), lacks_none, value_is ∙ w.1) (ap₂ (λ m k. Some (read_to m k)) n e)
 
 -- a closing quote stands within the text
-pub closes_within : (text : List ℕ) (a q closes : ℕ) → a ≤ length text → At closes ≡ found a (value_length q 0 (drop a text)) → closes < length text
+pub closes_within : (text : List ℕ) (a q closes : ℕ) → a ≤ length text → Some closes ≡ found a (value_length q 0 (drop a text)) → closes < length text
 closes_within text a q closes l v =
-    let w = found_some a _ closes v in omega (arith, value_within q 0 (drop a text) w.0 w.1, w.2, length-drop a text)
+    let w = found_some a closes _ v in omega (arith, value_within q 0 (drop a text) w.0 w.1, w.2, length-drop a text)

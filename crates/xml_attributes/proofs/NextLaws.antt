@@ -6,6 +6,7 @@ use mathlib.Core.Option.{Option, none, some}
 use Prim.Native.Nat.{ℕ, ◌+◌, ◌-◌, ◌≤◌, ◌<◌}
 use native.Mathlib.Omega.{arith}
 use borrow.Author.Tests.{eqb-false}
+use Rattle.std.specs.Prelude.{Some}
 use lib.Dec.{eqb}
 use lib.ListN.{length, take, drop, length-take, length-drop}
 use Rattle.lists.specs.Fronts.{starts_with}
@@ -28,10 +29,10 @@ record Next (text : List ℕ) (i begins name end : ℕ) : Type 0 where
   named : name ≡ begins + size.name
   ended : end ≡ begins + size.whole
 
-sized_at : (a : ℕ) (o : Option Sized) (b n e : ℕ) → next_attribute a o ≡ next.Attribute b n e →
+sized_at : (a : ℕ) (o : Option Sized) (b n e : ℕ) → next_attribute a o ≡ Some (next.Attribute b n e) →
     (z : Sized) × (o ≡ some z) × (b ≡ a) × (n ≡ a + z.name) × (e ≡ a + z.whole)
 unfolding next_attribute
-sized_at a none b n e q = absurd (let y : ◌≡◌ {A = ℕ} 0 1 = cc in omega arith)
+sized_at a none b n e q = cc
 sized_at a (some z) b n e q = (z, refl, cc, cc, cc)
 
 next_made : (text : List ℕ) (i a b n e : ℕ) (z : Sized) → a ≡ i + run is_space (drop i text) → i < a → attribute_at (drop a text) ≡ some z → b ≡ a → n ≡ a + z.name → e ≡ a + z.whole →
@@ -46,18 +47,18 @@ next_made text i a b n e z g l s p r t =
       ended = omega arith;
     }
 
-next_found : (text : List ℕ) (i b n e : ℕ) → next_in_tag i (drop i text) ≡ next.Attribute b n e → Next text i b n e
+next_found : (text : List ℕ) (i b n e : ℕ) → next_in_tag i (drop i text) ≡ Some (next.Attribute b n e) → Next text i b n e
 next_found text i b n e q =
     let a = i + run is_space (drop i text) in
     let by = sym (next_by text i a refl) ∙ q in
     by_test (starts_with tag_closes (drop a text))
-    (λ t. absurd (let y : ◌≡◌ {A = ℕ} 0 1 = cc (rw t at by) in omega arith))
+    (λ t. cc (rw t at by))
     (λ t.
     by_test (starts_with lone_closes (drop a text))
-    (λ u. absurd (let y : ◌≡◌ {A = ℕ} 0 1 = cc (rw (t, u) at by) in omega arith))
+    (λ u. cc (rw (t, u) at by))
     (λ u.
     by_test (eqb (run is_space (drop i text)) 0)
-    (λ v. absurd (let y : ◌≡◌ {A = ℕ} 0 1 = cc (rw (t, u, v) at by) in omega arith))
+    (λ v. cc (rw (t, u, v) at by))
     (λ v.
     let s = sized_at a (attribute_at (drop a text)) b n e (rw (t, u, v) at by) in
     let g = eqb-false (run is_space (drop i text)) 0 v in
@@ -70,7 +71,7 @@ pub record Order (size i begins name end : ℕ) : Type 0 where
   pub longer : name ≤ end
   pub within : end ≤ size
 
-pub next_order : (text : List ℕ) (i b n e : ℕ) → i ≤ length text → next_in_tag i (drop i text) ≡ next.Attribute b n e → Order (length text) i b n e
+pub next_order : (text : List ℕ) (i b n e : ℕ) → i ≤ length text → next_in_tag i (drop i text) ≡ Some (next.Attribute b n e) → Order (length text) i b n e
 next_order text i b n e l q =
     let h = next_found text i b n e q in
     let f = attribute_fits (drop b text) h.size h.stands in
@@ -83,11 +84,11 @@ next_order text i b n e l q =
     }
 
 -- it ends further on, wherever the text ends
-pub next_later : (text : List ℕ) (i b n e : ℕ) → next_in_tag i (drop i text) ≡ next.Attribute b n e → i < e
+pub next_later : (text : List ℕ) (i b n e : ℕ) → next_in_tag i (drop i text) ≡ Some (next.Attribute b n e) → i < e
 next_later text i b n e q = let h = next_found text i b n e q in omega (arith, h.apart, h.ended)
 
 -- its name, by where it ends
-pub next_name : (text : List ℕ) (i b n e : ℕ) → next_in_tag i (drop i text) ≡ next.Attribute b n e → name_from text b ≡ take (n - b) (drop b text)
+pub next_name : (text : List ℕ) (i b n e : ℕ) → next_in_tag i (drop i text) ≡ Some (next.Attribute b n e) → name_from text b ≡ take (n - b) (drop b text)
 unfolding name_from
 next_name text i b n e q =
     let h = next_found text i b n e q in
@@ -96,7 +97,7 @@ next_name text i b n e q =
     rw z
 
 -- its name has a byte
-pub next_long : (text : List ℕ) (i b n e : ℕ) → next_in_tag i (drop i text) ≡ next.Attribute b n e → 1 ≤ length (take (n - b) (drop b text))
+pub next_long : (text : List ℕ) (i b n e : ℕ) → next_in_tag i (drop i text) ≡ Some (next.Attribute b n e) → 1 ≤ length (take (n - b) (drop b text))
 next_long text i b n e q =
     let h = next_found text i b n e q in
     let f = attribute_fits (drop b text) h.size h.stands in
@@ -118,12 +119,12 @@ chain_length {text} {k} {i} (on {begins = b} {name = n} {end = e} q h) =
 
 -- the attribute that it begins with
 pub chain_next : {text : List ℕ} {k i : ℕ} {row : List (List ℕ)} → Chain text k i row → i < k →
-    (b : ℕ) × (n : ℕ) × (e : ℕ) × (rest : List (List ℕ)) × (next_in_tag i (drop i text) ≡ next.Attribute b n e) × (row ≡ name_from text b ∷ rest) × Chain text k e rest
+    (b : ℕ) × (n : ℕ) × (e : ℕ) × (rest : List (List ℕ)) × (next_in_tag i (drop i text) ≡ Some (next.Attribute b n e)) × (row ≡ name_from text b ∷ rest) × Chain text k e rest
 chain_next here l = absurd (omega arith)
 chain_next (on {begins = b} {name = n} {end = e} {ns = rest} q h) l = (b, n, e, rest, q, refl, h)
 
 -- the same of an attribute that is found there
-pub chain_after : {text : List ℕ} {k i : ℕ} {row : List (List ℕ)} (b n e : ℕ) → next_in_tag i (drop i text) ≡ next.Attribute b n e → Chain text k i row → i < k →
+pub chain_after : {text : List ℕ} {k i : ℕ} {row : List (List ℕ)} (b n e : ℕ) → next_in_tag i (drop i text) ≡ Some (next.Attribute b n e) → Chain text k i row → i < k →
     (rest : List (List ℕ)) × (row ≡ name_from text b ∷ rest) × Chain text k e rest
 chain_after {text} {k} b n e q here l = absurd (omega arith)
 chain_after {text} {k} b n e q (on {begins = b'} {name = n'} {end = e'} {ns = rest} q' h) l =
@@ -141,7 +142,7 @@ chain_end {text} {k} h l = at_end h refl
         absurd (omega (arith, next_later text i b n a q, chain_order h l))
 
 -- one more at its end
-pub chain_last : {text : List ℕ} {k i : ℕ} {ns : List (List ℕ)} (b n e : ℕ) → Chain text k i ns → next_in_tag k (drop k text) ≡ next.Attribute b n e →
+pub chain_last : {text : List ℕ} {k i : ℕ} {ns : List (List ℕ)} (b n e : ℕ) → Chain text k i ns → next_in_tag k (drop k text) ≡ Some (next.Attribute b n e) →
     Chain text e i (ns ++ (name_from text b ∷ []))
 chain_last b n e here q = on q here
 chain_last b n e (on r h) q = on r (chain_last b n e h q)

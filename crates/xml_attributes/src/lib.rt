@@ -5,24 +5,22 @@
 ghost use Rattle.std.specs.Prelude.{◌≡◌, ◌≤◌, length, drop};
 ghost use Rattle.xml.specs.Grammar.{is_quote};
 ghost use Rattle.xml.specs.Scan.{attribute_at};
-ghost use Rattle.xml_classes.specs.Classes.{Classes};
 ghost use Rattle.xml_attributes.specs.Next.{attribute_found, next_in_tag};
 
-use xml_scan::Found;
 use xml_scan::bodies::value_end;
 use xml_scan::runs::{blank_end, name_end};
 use xml_scan::strings::stands;
 
 // Where an attribute's name ends, and the attribute.
-#[derive(Clone, Copy)]
-pub enum AttributeRead {
-    Read { name: usize, end: usize },
-    Nothing,
+#[derive(Clone, Copy, Debug)]
+struct AttributeRead {
+    name: usize,
+    end: usize,
 }
 
 // What stands next in a tag: its end, and whether it is an empty-element tag; or an attribute, by where it begins, where its name ends
 // and where it does.
-#[derive(Clone, Copy)]
+#[derive(Clone, Copy, Debug)]
 pub enum NextInTag {
     Closer {
         end: usize,
@@ -33,70 +31,63 @@ pub enum NextInTag {
         name: usize,
         end: usize,
     },
-    Broken,
 }
 
 fn is_quote(c: u8) -> bool
     ensures { result ≡ is_quote c }
 {
-    if c == b'"' { true } else { c == b'\'' }
+    c == b'"' || c == b'\''
 }
 
 // The attribute whose name begins at a place.
-fn read_attribute(text: &[u8], at: usize, classes: &[u8; 256]) -> AttributeRead
-    requires at_in_bounds { at ≤ length text.now }
-    requires classes { Classes classes.now }
+fn read_attribute(text: &[u8], at: usize) -> Option<AttributeRead>
+    requires { at ≤ length text.now }
     ensures { result ≡ attribute_found at (attribute_at (drop at text.now)) }
 {
-    let name = name_end(text, at, classes);
+    let name = name_end(text, at);
     if name == at {
-        return AttributeRead::Nothing;
+        return None;
     }
-    let equals = blank_end(text, name, classes);
+    let equals = blank_end(text, name);
     if !stands(text, equals, b"=") {
-        return AttributeRead::Nothing;
+        return None;
     }
-    let opens = blank_end(text, equals + 1, classes);
+    let opens = blank_end(text, equals + 1);
     if text.len() <= opens {
-        return AttributeRead::Nothing;
+        return None;
     }
     let quote = text[opens];
     if !is_quote(quote) {
-        return AttributeRead::Nothing;
+        return None;
     }
-    let Found::At(closes) = value_end(text, opens + 1, quote, classes) else {
-        return AttributeRead::Nothing;
-    };
-    AttributeRead::Read {
+    let closes = value_end(text, opens + 1, quote)?;
+    Some(AttributeRead {
         name,
         end: closes + 1,
-    }
+    })
 }
 
-// What stands next in a tag, from a place after its name on.
-pub fn next_in_tag(text: &[u8], at: usize, classes: &[u8; 256]) -> NextInTag
-    requires at_in_bounds { at ≤ length text.now }
-    requires classes { Classes classes.now }
+// What stands next in a tag, from a place after its name on, if the tag is right there.
+pub fn next_in_tag(text: &[u8], at: usize) -> Option<NextInTag>
+    requires { at ≤ length text.now }
     ensures { result ≡ next_in_tag at (drop at text.now) }
 {
-    let begins = blank_end(text, at, classes);
+    let begins = blank_end(text, at);
     if stands(text, begins, b">") {
-        return NextInTag::Closer {
+        return Some(NextInTag::Closer {
             end: begins + 1,
             lone: false,
-        };
+        });
     }
     if stands(text, begins, b"/>") {
-        return NextInTag::Closer {
+        return Some(NextInTag::Closer {
             end: begins + 2,
             lone: true,
-        };
+        });
     }
     if begins == at {
-        return NextInTag::Broken;
+        return None;
     }
-    let AttributeRead::Read { name, end } = read_attribute(text, begins, classes) else {
-        return NextInTag::Broken;
-    };
-    NextInTag::Attribute { begins, name, end }
+    let AttributeRead { name, end } = read_attribute(text, begins)?;
+    Some(NextInTag::Attribute { begins, name, end })
 }

@@ -1,15 +1,21 @@
 -- The classes of bytes: a table's entries, and the tests of a byte by its class, each by one test that is computed at all 256
 -- bytes. Assumes nothing.
 use mathlib.Core.Path.{◌≡◌, refl, sym, ◌∙◌}
-use mathlib.Core.Bool.{Bool, true, false, ◌&&◌, ◌||◌, not, cond, and-false, false≢true}
+use mathlib.Core.Bool.{Bool, true, false, ◌&&◌, not, cond, and-false, false≢true}
 use mathlib.Core.List.{List}
+use mathlib.Core.Logic.{◌⊎◌, ⊎_elim}
 use Prim.Native.Nat.{ℕ, zero, suc, ◌≤◌, ◌<◌}
 use native.Mathlib.Omega.{arith}
+use borrow.Author.Rules.{rules}
 use borrow.Author.Tests.{eqb-true, eqb-false, ne_eqb, not-true, ltb-true, ltb-false, le-ltb, lt-leb}
+use denote.Enum.Bare.{sameb, same_true}
 use lib.Dec.{eqb, leb, ltb}
 use lib.ListN.{get_or}
 use Rattle.lists.proofs.Tests.{by_test, and_left, and_right}
-use Rattle.xml_classes.specs.Classes.{Classes, is_usual}
+use Rattle.xml_classes.specs.Classes.{is_usual}
+use Rattle.xml.specs.contracts.Class.{the_type}
+use Rattle.xml.specs.declared.Class.{Class}
+use Rattle.xml.specs.declared.Class.TheVariants.{Forbidden, Space, NameStart, NameOnly, Other}
 use Rattle.xml.specs.Bytes.{class_of, is_char, is_space, is_name_start, is_name_char}
 
 -- EVERY NUMBER below a bound passes a test
@@ -40,35 +46,84 @@ agreed false u e = sym (not-true u e)
 pub same_below : (f g : ℕ → Bool) (n : ℕ) → all_below (λ k. agree (f k) (g k)) n ≡ true → (k : ℕ) → k < n → f k ≡ g k
 same_below f g n e k l = agreed (f k) (g k) (below (λ k. agree (f k) (g k)) n e k l)
 
+-- whether two classes are one, as the code compares them
+abbrev pub same_class : Class → Class → Bool
+same_class = sameb the_type
+
 -- THE TABLE: one test of all its entries
-pub table_classes : {xs : List ℕ} → all_below (λ k. eqb (get_or xs k 0) (class_of k)) 256 ≡ true → Classes xs
-table_classes {xs} e = record { right = equal_below (λ k. get_or xs k 0) class_of 256 e }
+pub table_classes : (classes : List Class) → all_below (λ b. same_class (get_or classes b Forbidden) (class_of b)) 256 ≡ true → (b : ℕ) → b < 256 → get_or classes b Forbidden ≡ class_of b
+table_classes cs e b l = same_true the_type (search rules) (get_or cs b Forbidden) (class_of b) (below (λ k. same_class (get_or cs k Forbidden) (class_of k)) 256 e b l)
 
 -- BY CLASS
-pub char_class : (b : ℕ) → b < 256 → not (eqb (class_of b) 0) ≡ is_char b
+pub char_class : (b : ℕ) → b < 256 → not (same_class (class_of b) Forbidden) ≡ is_char b
 unfolding all_below agree class_of is_char is_space is_name_start is_name_char
-char_class = same_below (λ b. not (eqb (class_of b) 0)) is_char 256 refl
+char_class = same_below (λ b. not (same_class (class_of b) Forbidden)) is_char 256 refl
 
-pub start_class : (b : ℕ) → b < 256 → eqb (class_of b) 2 ≡ is_name_start b
+pub start_class : (b : ℕ) → b < 256 → same_class (class_of b) NameStart ≡ is_name_start b
 unfolding all_below agree class_of is_char is_space is_name_start is_name_char
-start_class = same_below (λ b. eqb (class_of b) 2) is_name_start 256 refl
+start_class = same_below (λ b. same_class (class_of b) NameStart) is_name_start 256 refl
 
--- a usual byte is one of neither the last class nor the first
-usual_class : (b : ℕ) → b < 256 → not (eqb (class_of b) 4 || eqb (class_of b) 0) ≡ is_usual b
+pub space_class : (b : ℕ) → b < 256 → same_class (class_of b) Space ≡ is_space b
+unfolding all_below agree class_of is_char is_space is_name_start is_name_char
+space_class = same_below (λ b. same_class (class_of b) Space) is_space 256 refl
+
+-- by the classes of bytes of names, and of usual bytes
+unfoldable pub of_names : Class → Bool
+of_names Forbidden = false
+of_names Space = false
+of_names NameStart = true
+of_names NameOnly = true
+of_names Other = false
+
+pub name_class : (b : ℕ) → b < 256 → of_names (class_of b) ≡ is_name_char b
+unfolding all_below agree class_of is_char is_space is_name_start is_name_char of_names
+name_class = same_below (λ b. of_names (class_of b)) is_name_char 256 refl
+
+pub usual_class : (b : ℕ) → b < 256 → (not (same_class (class_of b) Other) && not (same_class (class_of b) Forbidden)) ≡ is_usual b
 unfolding all_below agree class_of is_char is_space is_name_start is_name_char is_usual
-usual_class = same_below (λ b. not (eqb (class_of b) 4 || eqb (class_of b) 0)) is_usual 256 refl
+usual_class = same_below (λ b. not (same_class (class_of b) Other) && not (same_class (class_of b) Forbidden)) is_usual 256 refl
 
-pub usual_not_other : (b k : ℕ) → b < 256 → k ≡ class_of b → k ≡ 4 → is_usual b ≡ false
-usual_not_other b k l e four = rw (← usual_class b l, ← e, four)
+pub usual_if : (b : ℕ) (k : Class) → b < 256 → k ≡ class_of b → not (same_class k Other) ≡ true → not (same_class k Forbidden) ≡ is_usual b
+usual_if b k l e o = rw (← usual_class b l, ← e, o)
 
-pub usual_not_forbidden : (b k : ℕ) → b < 256 → k ≡ class_of b → k ≡ 0 → is_usual b ≡ false
-usual_not_forbidden b k l e none = rw (← usual_class b l, ← e, none)
+pub usual_else : (b : ℕ) (k : Class) → b < 256 → k ≡ class_of b → not (same_class k Other) ≡ false → false ≡ is_usual b
+usual_else b k l e o = rw (← usual_class b l, ← e, o)
 
-pub usual_by_else : (b k : ℕ) → b < 256 → k ≡ class_of b → (k ≡ 4 → ⊥) → not (eqb k 0) ≡ is_usual b
-usual_by_else b k l e n = rw (← usual_class b l, ← e, ne_eqb k 4 n)
+-- one of two classes, or none of them
+pub names_yes : (k : Class) → (k ≡ NameStart) ⊎ (k ≡ NameOnly) → true ≡ of_names k
+unfolding of_names
+names_yes k = ⊎_elim (λ e. rw e) (λ e. rw e)
 
--- and every number that passes the test is a byte: all others are of class 0
-pub class_large : (c : ℕ) → 256 ≤ c → class_of c ≡ 0
+pub names_no : (k : Class) → (k ≡ NameStart → ⊥) → (k ≡ NameOnly → ⊥) → false ≡ of_names k
+unfolding of_names
+names_no Forbidden n o = refl
+names_no Space n o = refl
+names_no NameStart n o = absurd (n refl)
+names_no NameOnly n o = absurd (o refl)
+names_no Other n o = refl
+
+-- a byte is forbidden by its class alone, and a usual byte is neither forbidden nor of the last class
+pub char_no : (b : ℕ) → b < 256 → class_of b ≡ Forbidden → is_char b ≡ false
+char_no b l e = rw (← char_class b l, e)
+
+pub char_yes : (b : ℕ) → b < 256 → (class_of b ≡ Forbidden → ⊥) → is_char b ≡ true
+char_yes b l n =
+    by_test (same_class (class_of b) Forbidden) (λ t. absurd (n (same_true the_type (search rules) _ _ t))) (λ t. rw (← char_class b l, t))
+
+pub usual_not_forbidden : (b : ℕ) → b < 256 → is_usual b ≡ true → class_of b ≡ Forbidden → ⊥
+usual_not_forbidden b l u e = false≢true (sym (out b l e) ∙ u)
+  where
+    out : (b : ℕ) → b < 256 → class_of b ≡ Forbidden → is_usual b ≡ false
+    out b l e = rw (← usual_class b l, e)
+
+pub usual_not_other : (b : ℕ) → b < 256 → is_usual b ≡ true → class_of b ≡ Other → ⊥
+usual_not_other b l u e = false≢true (sym (out b l e) ∙ u)
+  where
+    out : (b : ℕ) → b < 256 → class_of b ≡ Other → is_usual b ≡ false
+    out b l e = rw (← usual_class b l, e)
+
+-- and every number that passes the test is a byte: all others are forbidden
+pub class_large : (c : ℕ) → 256 ≤ c → class_of c ≡ Forbidden
 unfolding class_of is_char
 class_large c l = rw (le-ltb c 128 (omega arith))
 

@@ -5,6 +5,7 @@ use mathlib.Core.List.{List, [], ◌∷◌, ◌++◌}
 use Prim.Native.Nat.{ℕ, suc, ◌+◌, ◌≤◌, ◌<◌}
 use native.Mathlib.Omega.{arith}
 use borrow.Author.Tests.{not-false}
+use Rattle.std.specs.Prelude.{Some, None, Ok, Err}
 use lib.ListN.{length, drop, set, length-drop, length-set}
 use lib.Seq.{drop-drop, drop-cons, drop-length}
 use Rattle.lists.specs.Fronts.{starts_with}
@@ -14,13 +15,13 @@ use Rattle.xml.specs.Grammar.{at_place, tail_of, not_a_sheet}
 use Rattle.xml.specs.Scan.{run}
 use Rattle.xml.specs.Reader.{Step, next, end_step, gives, past, of_text, used, refused, preceded, at_end, read_from}
 use Rattle.xml.specs.Reader as reader
-use Rattle.xml_scan.specs.declared.Found.TheVariants.{At, Nothing}
 use Rattle.xml_laws.specs.Steps.{is_stuck}
 use Rattle.xml_laws.proofs.Bounds.{stands_within}
 use Rattle.xml_laws.proofs.Dispatch.{step_read, step_refused, next_end}
 use Rattle.xml_laws.proofs.Within.{step_within}
 use Rattle.xml_pieces.specs.declared.Cursor.{Cursor}
-use Rattle.xml_pieces.specs.declared.Part.TheVariants.{On, Refused}
+use Rattle.store_types.specs.declared.refusal.Refusal.TheVariants.{NotASheet}
+use Rattle.store_types.specs.Replies.{number_of}
 use Rattle.xml_pieces.specs.Pieces.{goes_on, closing_found}
 use Rattle.xml_pieces.specs.Outcome.{in_text, finish, outcome, cursor_at, InText, Reached, Closes}
 use Rattle.xml_pieces.proofs.PieceLaws.{dropped, some_used}
@@ -69,21 +70,21 @@ module _ (bs n : List ℕ) (i : ℕ) where
       pub end_room : i ≤ length bs → spaced ≤ length bs
       end_room l = stands_within n bs (i + 2) (stands_within end_opens bs i l opens) same
 
-      pub end_closed : starts_with tag_closes (drop closed bs) ≡ true → At (closed + 1) ≡ closing_found i (end_step (n ∷ []) (drop i bs))
+      pub end_closed : starts_with tag_closes (drop closed bs) ≡ true → Some (closed + 1) ≡ closing_found i (end_step (n ∷ []) (drop i bs))
       unfolding whole closing_found
       end_closed e =
           let z : closed + 1 ≡ i + suc (named + run is_space (drop spaced bs)) = omega arith in
           rw (end_is, opens, same, e, z)
 
-      pub end_unclosed : starts_with tag_closes (drop closed bs) ≡ false → Nothing ≡ closing_found i (end_step (n ∷ []) (drop i bs))
+      pub end_unclosed : starts_with tag_closes (drop closed bs) ≡ false → None ≡ closing_found i (end_step (n ∷ []) (drop i bs))
       unfolding whole closing_found
       end_unclosed e = rw (end_is, opens, same, e)
 
-    pub end_other : starts_with n (drop (i + 2) bs) ≡ false → Nothing ≡ closing_found i (end_step (n ∷ []) (drop i bs))
+    pub end_other : starts_with n (drop (i + 2) bs) ≡ false → None ≡ closing_found i (end_step (n ∷ []) (drop i bs))
     unfolding whole closing_found
     end_other e = rw (end_is, opens, e)
 
-  pub end_none : starts_with end_opens (drop i bs) ≡ false → Nothing ≡ closing_found i (end_step (n ∷ []) (drop i bs))
+  pub end_none : starts_with end_opens (drop i bs) ≡ false → None ≡ closing_found i (end_step (n ∷ []) (drop i bs))
   unfolding whole closing_found
   end_none e = rw (end_is, e)
 
@@ -132,19 +133,19 @@ ended_read n os r cs u g e =
 
 -- the answers of the code's end tag
 module _ (bs n : List ℕ) (c : Cursor) (ls : List ℕ) (h : InText bs c) (g : goes_on (drop c.at bs) ≡ false) where
-  pub ending_missing : Nothing ≡ closing_found c.at (end_step (n ∷ []) (drop c.at bs)) → Closes bs n c ls ls (Refused not_a_sheet)
-  unfolding closing_found outcome finish Reached
+  pub ending_missing : None ≡ closing_found c.at (end_step (n ∷ []) (drop c.at bs)) → Closes bs n c ls ls (Err NotASheet)
+  unfolding closing_found outcome finish Reached number_of
   ending_missing e = go (end_told n (drop c.at bs))
     where
-      go : Told (end_step (n ∷ []) (drop c.at bs)) → Closes bs n c ls ls (Refused not_a_sheet)
+      go : Told (end_step (n ∷ []) (drop c.at bs)) → Closes bs n c ls ls (Err NotASheet)
       go (closes u is) = let z : ◌≡◌ {A = ℕ} 0 1 = cc (e ∙ ap (closing_found c.at) is) in absurd (omega arith)
       go (breaks is) = record { same = λ os. ap (finish c.count ls) (sym (ended_refused n os (in_text c) (drop c.at bs) g is)); reached = tt; long = refl }
 
-  pub ending_found : (e : ℕ) → At e ≡ closing_found c.at (end_step (n ∷ []) (drop c.at bs)) → Closes bs n c ls (set ls c.count 2) (On (cursor_at e (c.count + 1) 0))
+  pub ending_found : (e : ℕ) → Some e ≡ closing_found c.at (end_step (n ∷ []) (drop c.at bs)) → Closes bs n c ls (set ls c.count 2) (Ok (cursor_at e (c.count + 1) 0))
   unfolding closing_found outcome Reached used is_stuck
   ending_found e f = go (end_told n (drop c.at bs))
     where
-      go : Told (end_step (n ∷ []) (drop c.at bs)) → Closes bs n c ls (set ls c.count 2) (On (cursor_at e (c.count + 1) 0))
+      go : Told (end_step (n ∷ []) (drop c.at bs)) → Closes bs n c ls (set ls c.count 2) (Ok (cursor_at e (c.count + 1) 0))
       go (breaks is) = let z : ◌≡◌ {A = ℕ} 0 1 = cc (f ∙ ap (closing_found c.at) is) in absurd (omega arith)
       go (closes u is) =
           let far : e ≡ c.at + u = cc (f ∙ ap (closing_found c.at) is) in

@@ -3,14 +3,12 @@
 
 ghost use Rattle.std.specs.Prelude.{◌≡◌, false, [], ◌∷◌, ◌+◌, ◌^◌, ◌≤◌, ◌<◌, length, drop, set};
 ghost use Rattle.xml.specs.Reader.{end_step};
-ghost use Rattle.xml_classes.specs.Classes.{Classes};
 ghost use Rattle.xml_pieces.specs.Outcome.{cursor_at, InText, Closes};
 ghost use Rattle.xml_pieces.specs.Pieces.{goes_on, opens_element, closing_found};
 
-use store_types::{BEGIN, END, refusals};
+use store_types::{BEGIN, END, Refusal};
 use xml_pieces::kinds::put_kind;
-use xml_pieces::{Cursor, NOT_IN_TEXT, Part};
-use xml_scan::Found;
+use xml_pieces::{Cursor, NOT_IN_TEXT};
 use xml_scan::runs::blank_end;
 use xml_scan::strings::stands;
 
@@ -43,23 +41,22 @@ pub fn goes_on(text: &[u8], at: usize) -> bool
 }
 
 // Where the end tag at a place ends, which must have a given name.
-fn end_tag(text: &[u8], at: usize, name: &[u8], classes: &[u8; 256]) -> Found
-    requires at_in_bounds { at ≤ length text.now }
-    requires classes { Classes classes.now }
+fn end_tag(text: &[u8], at: usize, name: &[u8]) -> Option<usize>
+    requires { at ≤ length text.now }
     ensures { result ≡ closing_found at (end_step (name.now ∷ []) (drop at text.now)) }
 {
     if !stands(text, at, b"</") {
-        return Found::Nothing;
+        return None;
     }
     let from = at + END_OPENER;
     if !stands(text, from, name) {
-        return Found::Nothing;
+        return None;
     }
-    let e = blank_end(text, from + name.len(), classes);
+    let e = blank_end(text, from + name.len());
     if stands(text, e, b">") {
-        return Found::At(e + 1);
+        return Some(e + 1);
     }
-    Found::Nothing
+    None
 }
 
 // A begin tag's kind; content goes on after the tag.
@@ -77,28 +74,26 @@ pub fn opened(here: Cursor, end: usize, kinds: &mut [u8]) -> Cursor
 }
 
 // An end's kind: an end tag's, or the second of an empty-element tag's.
-pub fn closed(here: Cursor, end: usize, kinds: &mut [u8]) -> Part
+pub fn closed(here: Cursor, end: usize, kinds: &mut [u8]) -> Cursor
     requires { here.count + 1 < 2 ^ 64 }
-    ensures part { result ≡ Part.On (cursor_at end (here.count + 1) 0) }
+    ensures cursor { result ≡ cursor_at end (here.count + 1) 0 }
     ensures list { kinds.new ≡ set kinds.old here.count 2 }
 {
     let n = put_kind(kinds, here.count, END);
-    Part::On(Cursor {
+    Cursor {
         at: end,
         count: n,
         in_text: NOT_IN_TEXT,
-    })
+    }
 }
 
 // After the content of an element: its end tag, which has its name.
-pub fn ending(text: &[u8], here: Cursor, kinds: &mut [u8], name: &[u8], classes: &[u8; 256]) -> Part
-    requires in_text { InText text.now here × (goes_on (drop here.at text.now) ≡ false) }
-    requires classes { Classes classes.now }
+pub fn ending(text: &[u8], here: Cursor, kinds: &mut [u8], name: &[u8]) -> Result<Cursor, Refusal>
+    requires { InText text.now here × (goes_on (drop here.at text.now) ≡ false) }
     ensures { Closes text.now name.now here kinds.old kinds.new result }
 {
-    let at = here.at;
-    let Found::At(e) = end_tag(text, at, name, classes) else {
-        return Part::Refused(refusals::NOT_A_SHEET);
+    let Some(e) = end_tag(text, here.at, name) else {
+        return Err(Refusal::NotASheet);
     };
-    closed(here, e, kinds)
+    Ok(closed(here, e, kinds))
 }

@@ -16,7 +16,7 @@ use Rattle.lists.proofs.Replied.{replied_refused, written_refused}
 use Rattle.lists.proofs.Tests.{by_test}
 use Rattle.xml.specs.Bytes.{lone_closes}
 use Rattle.xml.specs.Grammar.{Construct, datum, reference, cdata, comment, start, empty_element, stop, Tag, text_of, texts, tag_text, kinds_from, not_a_sheet, too_deep, not_read}
-use Rattle.xml.specs.declared.SheetReply.TheVariants.{Kinds, Refused}
+use Rattle.std.specs.Prelude.{Result, Ok, Err}
 use Rattle.xml.specs.Reader.{Reading, accepted, refused, read_sheet}
 use Rattle.xml.specs.Replies.{list_short, sheet_refusal, kinds_in, sheet_reply, sheet_list}
 use Rattle.xml.specs.Promise.{InGrammar, Outside, Fits, TooShort, EverySheet, OneKinds, OneNumber, NotBoth}
@@ -54,9 +54,9 @@ room_enough text kinds g = omega (arith, kinds_fewer false g.row, ap length g.gi
 
 -- THE THREE ENDS of a call, each with what it replies and leaves
 data End (text list : List ℕ) : Type 0 where
-  taken : (kinds : List ℕ) → InGrammar text kinds → length kinds ≤ length list → sheet_reply text list ≡ Kinds (length kinds) → sheet_list text list ≡ in_front kinds list → End text list
-  short : (kinds : List ℕ) → InGrammar text kinds → length list < length kinds → sheet_reply text list ≡ Refused list_short → sheet_list text list ≡ list → End text list
-  outside : (number : ℕ) → Outside text number → sheet_reply text list ≡ Refused number → sheet_list text list ≡ list → End text list
+  taken : (kinds : List ℕ) → InGrammar text kinds → length kinds ≤ length list → sheet_reply text list ≡ Ok (length kinds) → sheet_list text list ≡ in_front kinds list → End text list
+  short : (kinds : List ℕ) → InGrammar text kinds → length list < length kinds → sheet_reply text list ≡ Err list_short → sheet_list text list ≡ list → End text list
+  outside : (number : ℕ) → Outside text number → sheet_reply text list ≡ Err number → sheet_list text list ≡ list → End text list
 
 ends : (text list : List ℕ) → End text list
 unfolding sheet_reply sheet_list sheet_refusal kinds_in replied written
@@ -70,13 +70,13 @@ ends bs ls = by_reading (read_sheet bs) refl
         (λ f. taken ks g (ltb-false (length ls) (length ks) f) (rw (e, f)) (rw (e, f)))
     by_reading (refused k) e =
         let o = (sheets_right.refuses bs k).0 e in
-        outside k o (rw e (sym (replied_refused Refused k _ (refused_some bs k e)))) (rw e (sym (written_refused k [] ls (refused_some bs k e))))
+        outside k o (rw e (sym (replied_refused Err k _ (refused_some bs k e)))) (rw e (sym (written_refused k [] ls (refused_some bs k e))))
 
-apart : {n k : ℕ} → Kinds n ≡ Refused k → ⊥
-apart e = let z : ◌≡◌ {A = ℕ} 0 1 = cc e in omega arith
+apart : {n k : ℕ} → ◌≡◌ {A = Result ℕ ℕ} (Ok n) (Err k) → ⊥
+apart e = cc e
 
 -- WHAT A REPLY SAYS. Accepted with a count
-told_accepted : (text list : List ℕ) (count : ℕ) → sheet_reply text list ≡ Kinds count → End text list → Fits text list count
+told_accepted : (text list : List ℕ) (count : ℕ) → sheet_reply text list ≡ Ok count → End text list → Fits text list count
 told_accepted text list n e (taken ks g l r w) =
     let same : length ks ≡ n = cc (e, r) in
     record { kinds = ks; sheet = g; counted = same; room = omega arith }
@@ -84,7 +84,7 @@ told_accepted text list n e (short ks g l r w) = absurd (apart (sym e ∙ r))
 told_accepted text list n e (outside k o r w) = absurd (apart (sym e ∙ r))
 
 -- refused: the text is outside with that number, or the list is too short
-told_refused : (text list : List ℕ) (number : ℕ) → sheet_reply text list ≡ Refused number → End text list →
+told_refused : (text list : List ℕ) (number : ℕ) → sheet_reply text list ≡ Err number → End text list →
     Outside text number ⊎ ((number ≡ list_short) × TooShort text list)
 told_refused text list n e (taken ks g l r w) = absurd (apart (sym r ∙ e))
 told_refused text list n e (short ks g l r w) =
@@ -94,23 +94,23 @@ told_refused text list n e (outside k o r w) =
 
 -- AND IS REPLIED WHERE IT IS SO
 fits_accepted : (text list : List ℕ) (count : ℕ) (fits : Fits text list count) → End text list →
-    (sheet_reply text list ≡ Kinds count) × (sheet_list text list ≡ in_front fits.kinds list)
+    (sheet_reply text list ≡ Ok count) × (sheet_list text list ≡ in_front fits.kinds list)
 unfolding OneKinds NotBoth
 fits_accepted text list n f (taken ks g l r w) =
     let same = one_kinds text ks f.kinds g f.sheet in
-    (r ∙ ap (λ m. Kinds m) (ap length same ∙ f.counted), w ∙ ap (λ l. in_front l list) same)
+    (r ∙ ap (λ (m : ℕ). Ok m) (ap length same ∙ f.counted), w ∙ ap (λ l. in_front l list) same)
 fits_accepted text list n f (short ks g l r w) =
     let same = ap length (one_kinds text ks f.kinds g f.sheet) in
     absurd (not-le_of_lt l (omega (arith, same, f.counted, f.room)))
 fits_accepted text list n f (outside k o r w) = absurd (not_both text f.kinds k f.sheet o)
 
-outside_refused : (text list : List ℕ) (number : ℕ) → Outside text number → End text list → sheet_reply text list ≡ Refused number
+outside_refused : (text list : List ℕ) (number : ℕ) → Outside text number → End text list → sheet_reply text list ≡ Err number
 unfolding OneNumber NotBoth
 outside_refused text list n o (taken ks g l r w) = absurd (not_both text ks n g o)
 outside_refused text list n o (short ks g l r w) = absurd (not_both text ks n g o)
-outside_refused text list n o (outside k p r w) = r ∙ ap (λ m. Refused m) (one_number text k n p o)
+outside_refused text list n o (outside k p r w) = r ∙ ap (λ (m : ℕ). Err m) (one_number text k n p o)
 
-short_refused : (text list : List ℕ) → TooShort text list → End text list → sheet_reply text list ≡ Refused list_short
+short_refused : (text list : List ℕ) → TooShort text list → End text list → sheet_reply text list ≡ Err list_short
 unfolding OneKinds NotBoth
 short_refused text list s (taken ks g l r w) =
     let same = ap length (one_kinds text ks s.kinds g s.sheet) in
@@ -118,7 +118,7 @@ short_refused text list s (taken ks g l r w) =
 short_refused text list s (short ks g l r w) = r
 short_refused text list s (outside k o r w) = absurd (not_both text s.kinds k s.sheet o)
 
-left : (text list : List ℕ) (number : ℕ) → sheet_reply text list ≡ Refused number → End text list → sheet_list text list ≡ list
+left : (text list : List ℕ) (number : ℕ) → sheet_reply text list ≡ Err number → End text list → sheet_list text list ≡ list
 left text list n e (taken ks g l r w) = absurd (apart (sym r ∙ e))
 left text list n e (short ks g l r w) = w
 left text list n e (outside k o r w) = w
@@ -133,7 +133,7 @@ outside_numbers : (text : List ℕ) (number : ℕ) → Outside text number → n
 outside_numbers text n o e =
     ⊎_elim (λ (a : n ≡ not_a_sheet). omega arith) (⊎_elim (λ (a : n ≡ too_deep). omega arith) (λ (a : n ≡ not_read). omega arith)) o.only
 
-own_number : (text list : List ℕ) (number : ℕ) → (number ≡ list_short → ⊥) → End text list → (sheet_reply text list ≡ Refused number) ↔ Outside text number
+own_number : (text list : List ℕ) (number : ℕ) → (number ≡ list_short → ⊥) → End text list → (sheet_reply text list ≡ Err number) ↔ Outside text number
 own_number text list n other q =
     ((λ e. ⊎_elim (λ o. o) (λ s. absurd (other s.0)) (told_refused text list n e q)), λ o. outside_refused text list n o q)
 

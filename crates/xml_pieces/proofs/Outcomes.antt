@@ -10,7 +10,9 @@ use Rattle.xml.specs.Grammar.{at_place}
 use Rattle.xml.specs.Reader.{Reading, accepted, refused, preceded, text_kind, read_from}
 use Rattle.xml_laws.proofs.Data.{none_preceded}
 use Rattle.xml_pieces.specs.declared.Cursor.{Cursor}
-use Rattle.xml_pieces.specs.declared.Part.TheVariants.{On, Refused}
+use Rattle.std.specs.Prelude.{Ok, Err}
+use Rattle.store_types.specs.declared.refusal.Refusal.{Refusal}
+use Rattle.store_types.specs.Replies.{number_of}
 use Rattle.xml_pieces.specs.declared.Piece.TheVariants as found
 use Rattle.xml_pieces.specs.Pieces.{PieceRight}
 use Rattle.xml_pieces.specs.Outcome.{in_text, finish, outcome, cursor_at, InText, Reached, ReadsOn}
@@ -37,8 +39,8 @@ text_long : (r : Bool) (ls : List ℕ) (n : ℕ) → length (cond r ls (set ls n
 text_long true ls n = refl
 text_long false ls n = length-set ls n 3
 
-pub text_on : (bs : List ℕ) (d : ℕ) (c : Cursor) (e n : ℕ) (ls ls' : List ℕ) → InText bs c → PieceRight bs c.at (found.Text e) →
-    n ≡ cond (in_text c) c.count (c.count + 1) → ls' ≡ cond (in_text c) ls (set ls c.count 3) → ReadsOn bs d c (suc c.at) ls ls' (On (cursor_at e n 1))
+pub text_on : (bs : List ℕ) (d : ℕ) (c : Cursor) (e n : ℕ) (ls ls' : List ℕ) → InText bs c → PieceRight bs c.at (Ok (found.Text e)) →
+    n ≡ cond (in_text c) c.count (c.count + 1) → ls' ≡ cond (in_text c) ls (set ls c.count 3) → ReadsOn bs d c (suc c.at) ls ls' (Ok (cursor_at e n 1))
 unfolding PieceRight outcome Reached
 text_on bs d c e n ls ls' h p is are =
     rw (is, are) (record {
@@ -47,8 +49,8 @@ text_on bs d c e n ls ls' h p is are =
       long = text_long (in_text c) ls c.count;
     })
 
-pub comment_on : (bs : List ℕ) (d : ℕ) (c : Cursor) (e : ℕ) (ls : List ℕ) → InText bs c → PieceRight bs c.at (found.Comment e) →
-    ReadsOn bs d c (suc c.at) ls ls (On (cursor_at e c.count 0))
+pub comment_on : (bs : List ℕ) (d : ℕ) (c : Cursor) (e : ℕ) (ls : List ℕ) → InText bs c → PieceRight bs c.at (Ok (found.Comment e)) →
+    ReadsOn bs d c (suc c.at) ls ls (Ok (cursor_at e c.count 0))
 unfolding PieceRight outcome Reached
 comment_on bs d c e ls h p =
     record {
@@ -57,11 +59,11 @@ comment_on bs d c e ls h p =
       long = refl;
     }
 
-pub refused_on : (bs : List ℕ) (d : ℕ) (c : Cursor) (k least : ℕ) (ls : List ℕ) → ((os : List (List ℕ)) → length os + d ≡ 64 → read_from (at_place os) (in_text c) 0 (drop c.at bs) ≡ refused k) →
-    ReadsOn bs d c least ls ls (Refused k)
+pub refused_on : (bs : List ℕ) (d : ℕ) (c : Cursor) (k : Refusal) (least : ℕ) (ls : List ℕ) → ((os : List (List ℕ)) → length os + d ≡ 64 → read_from (at_place os) (in_text c) 0 (drop c.at bs) ≡ refused (number_of k)) →
+    ReadsOn bs d c least ls ls (Err k)
 unfolding outcome Reached finish
 refused_on bs d c k least ls e = record { same = λ os w. ap (finish c.count ls) (sym (e os w)); reached = tt; long = refl }
 
-pub piece_refused : (bs : List ℕ) (d : ℕ) (c : Cursor) (k : ℕ) (ls : List ℕ) → PieceRight bs c.at (found.Refused k) → ReadsOn bs d c (suc c.at) ls ls (Refused k)
+pub piece_refused : (bs : List ℕ) (d : ℕ) (c : Cursor) (k : Refusal) (ls : List ℕ) → PieceRight bs c.at (Err k) → ReadsOn bs d c (suc c.at) ls ls (Err k)
 unfolding PieceRight
 piece_refused bs d c k ls p = refused_on bs d c k (suc c.at) ls (λ os _. p os (in_text c))

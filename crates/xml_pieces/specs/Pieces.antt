@@ -1,11 +1,11 @@
 -- What is said of the readers of single constructs, from a place of the text on. Assumes nothing: these are definitions.
-use Rattle.std.specs.Prelude.{◌≡◌, Bool, true, false, ◌&&◌, not, List, [], ◌∷◌, ℕ, ◌+◌, ◌≤◌, ◌<◌, length, drop}
+use Rattle.std.specs.Prelude.{◌≡◌, Bool, true, false, ◌&&◌, not, List, [], ◌∷◌, ℕ, ◌+◌, ◌≤◌, ◌<◌, length, drop, Option, Some, None, Result, Ok, Err}
 use Rattle.lists.specs.Fronts.{starts_with}
 use Rattle.xml.specs.Bytes.{less_than, end_opens, declaration_opens, instruction_opens}
 use Rattle.xml.specs.Grammar.{at_place}
 use Rattle.xml.specs.Reader.{Step, stuck, one_byte, piece, aside, opening, whole, closing, refused, preceded, text_kind, read_from}
-use Rattle.xml_scan.specs.declared.Found.{Found}
-use Rattle.xml_scan.specs.declared.Found.TheVariants.{At, Nothing}
+use Rattle.store_types.specs.declared.refusal.Refusal.{Refusal}
+use Rattle.store_types.specs.Replies.{number_of}
 use Rattle.xml_pieces.specs.declared.Piece.{Piece}
 use Rattle.xml_pieces.specs.declared.Piece.TheVariants as found
 
@@ -36,20 +36,20 @@ pub record Behind (bs : List ℕ) (i e : ℕ) : Type 0 where
 
 -- what a construct that is neither an element nor an end tag comes to, whatever is open and whether a text goes on: a piece of a
 -- text, a comment, or the refusal
-unfoldable pub PieceRight : (text : List ℕ) → (at : ℕ) → Piece → Type 0
-PieceRight bs i (found.Text e) =
+unfoldable pub PieceRight : (text : List ℕ) → (at : ℕ) → Result Piece Refusal → Type 0
+PieceRight bs i (Ok (found.Text e)) =
     Behind bs i e
     × ((os : List (List ℕ)) (r : Bool) → read_from (at_place os) r 0 (drop i bs) ≡ preceded (text_kind r) (read_from (at_place os) true 0 (drop e bs)))
-PieceRight bs i (found.Comment e) =
+PieceRight bs i (Ok (found.Comment e)) =
     Behind bs i e × ((os : List (List ℕ)) (r : Bool) → read_from (at_place os) r 0 (drop i bs) ≡ read_from (at_place os) false 0 (drop e bs))
-PieceRight bs i (found.Refused k) = (os : List (List ℕ)) (r : Bool) → read_from (at_place os) r 0 (drop i bs) ≡ refused k
+PieceRight bs i (Err k) = (os : List (List ℕ)) (r : Bool) → read_from (at_place os) r 0 (drop i bs) ≡ refused (number_of k)
 
 -- where an end tag ends, by the reader's step over it
-unfoldable pub closing_found : (from : ℕ) → Step → Found
-closing_found a (stuck k) = Nothing
-closing_found a (one_byte c) = Nothing
-closing_found a (piece u) = Nothing
-closing_found a (aside u) = Nothing
-closing_found a (opening n u) = Nothing
-closing_found a (whole u) = Nothing
-closing_found a (closing u) = At (a + u)
+unfoldable pub closing_found : (from : ℕ) → Step → Option ℕ
+closing_found a (stuck k) = None
+closing_found a (one_byte c) = None
+closing_found a (piece u) = None
+closing_found a (aside u) = None
+closing_found a (opening n u) = None
+closing_found a (whole u) = None
+closing_found a (closing u) = Some (a + u)

@@ -7,7 +7,7 @@ pub mod pieces;
 
 // Where a reader stands in the text, how many kinds it has given, and whether it stands in a text: IN_TEXT or NOT_IN_TEXT, a word
 // and no bool, because a struct with padding is slow to copy.
-#[derive(Clone, Copy)]
+#[derive(Clone, Copy, Debug)]
 pub struct Cursor {
     pub at: usize,
     pub count: usize,
@@ -18,17 +18,9 @@ pub const IN_TEXT: usize = 1;
 
 pub const NOT_IN_TEXT: usize = 0;
 
-// Where a reader has come to, or the refusal.
-#[derive(Clone, Copy)]
-pub enum Part {
-    On(Cursor),
-    Refused(u32),
-}
-
-// A construct that is neither an element nor an end tag: where it ends, or the refusal.
-#[derive(Clone, Copy)]
+// A construct that is neither an element nor an end tag: where it ends.
+#[derive(Clone, Copy, Debug)]
 pub enum Piece {
     Text(usize),
     Comment(usize),
-    Refused(u32),
 }

@@ -16,15 +16,15 @@ use Rattle.lists.proofs.Fronts.{sets_front}
 use Rattle.xml.specs.Grammar.{at_place, most_depth, not_a_sheet}
 use Rattle.xml.specs.Reader.{Reading, accepted, refused, read_from, read_sheet, at_end}
 use Rattle.xml.specs.Replies.{sheet_refusal, kinds_in, sheet_reply, sheet_list, list_short}
-use Rattle.xml.specs.declared.SheetReply.{SheetReply}
-use Rattle.xml.specs.declared.SheetReply.TheVariants as answer
+use Rattle.std.specs.Prelude.{Result, Ok, Err}
+use Rattle.store_types.specs.declared.refusal.Refusal.{Refusal}
+use Rattle.store_types.specs.declared.refusal.Refusal.TheVariants.{NotASheet, ListTooShort}
+use Rattle.store_types.specs.Replies.{number_of, numbered}
 use Rattle.xml_laws.proofs.Dispatch.{step_refused, next_unopened}
 use Rattle.xml_laws.proofs.Sheets.{refused_some}
 use Rattle.xml_pieces.specs.declared.Cursor.{Cursor}
-use Rattle.xml_pieces.specs.declared.Part.{Part}
-use Rattle.xml_pieces.specs.declared.Part.TheVariants.{On, Refused}
 use Rattle.xml_pieces.specs.Pieces.{goes_on}
-use Rattle.xml_pieces.specs.Outcome.{in_text, done, failed, finish, outcome, cursor_at, Reached, ReadsOn, Ended}
+use Rattle.xml_pieces.specs.Outcome.{Part, in_text, done, failed, finish, outcome, cursor_at, Reached, ReadsOn, Ended}
 use Rattle.xml_read.specs.Sure.{Sure, SureSheet}
 use Rattle.xml_read.specs.Whole.{whole_part, whole_reply, ReadWhole}
 
@@ -48,13 +48,13 @@ was_refused k ls (accepted ks) e = let z : ◌≡◌ {A = ℕ} 0 1 = cc in absur
 was_refused k ls (refused m) e = ap refused (cc)
 
 -- THE WHOLE TEXT from its first byte on
-whole_refused : (bs ls ns : List ℕ) (k : ℕ) → read_sheet bs ≡ refused k → length ns ≡ length ls → ReadWhole bs ls ns (answer.Refused k)
-unfolding whole_reply
+whole_refused : (bs ls ns : List ℕ) (k : Refusal) → read_sheet bs ≡ refused (number_of k) → length ns ≡ length ls → ReadWhole bs ls ns (Err k)
+unfolding whole_reply numbered
 whole_refused bs ls ns k e l =
     record { reply = rw e; list = λ ks f. let z : ◌≡◌ {A = ℕ} 0 1 = cc in absurd (omega arith); long = l }
 
-whole_accepted : (bs ls ns : List ℕ) (n : ℕ) → Accepted ls ns n (read_sheet bs) → length ns ≡ length ls → ReadWhole bs ls ns (answer.Kinds n)
-unfolding whole_reply
+whole_accepted : (bs ls ns : List ℕ) (n : ℕ) → Accepted ls ns n (read_sheet bs) → length ns ≡ length ls → ReadWhole bs ls ns (Ok n)
+unfolding whole_reply numbered
 whole_accepted bs ls ns n a l =
     record {
       reply = rw (a.is, a.count);
@@ -75,11 +75,11 @@ unfolding goes_on
 left_over r [] g l = absurd (omega arith)
 left_over r (c ∷ cs) g l = step_refused (at_place []) r c cs not_a_sheet (next_unopened (c ∷ cs) (not-false _ g))
 
-at_last : (bs : List ℕ) (c : Cursor) (ls : List ℕ) → c.at ≡ length bs → outcome bs [] ls (On c) ≡ done c.count ls
+at_last : (bs : List ℕ) (c : Cursor) (ls : List ℕ) → c.at ≡ length bs → outcome bs [] ls (Ok c) ≡ done c.count ls
 unfolding outcome finish read_from at_end
 at_last bs c ls e = rw (e, drop-length bs, add-zero c.count)
 
-over : (bs : List ℕ) (c : Cursor) (ls : List ℕ) → goes_on (drop c.at bs) ≡ false → c.at < length bs → outcome bs [] ls (On c) ≡ failed not_a_sheet
+over : (bs : List ℕ) (c : Cursor) (ls : List ℕ) → goes_on (drop c.at bs) ≡ false → c.at < length bs → outcome bs [] ls (Ok c) ≡ failed not_a_sheet
 unfolding outcome finish
 over bs c ls g l = ap (finish c.count ls) (left_over (in_text c) (drop c.at bs) g (omega (arith, length-drop c.at bs)))
 
@@ -87,11 +87,11 @@ ends : (bs : List ℕ) (c : Cursor) → c.at ≤ length bs → length bs ≤ c.a
 ends bs c h l = omega arith
 
 pub read_whole : (bs ls ns : List ℕ) (q : Part) → ReadsOn bs most_depth (cursor_at 0 0 0) 0 ls ns q → Ended bs q → ReadWhole bs ls ns (whole_part bs q)
-unfolding whole_part outcome read_sheet Ended Reached
-read_whole bs ls ns (Refused k) r e = whole_refused bs ls ns k (was_refused k ls _ (r.same [] refl)) r.long
-read_whole bs ls ns (On c) r e =
+unfolding whole_part outcome read_sheet Ended Reached number_of
+read_whole bs ls ns (Err k) r e = whole_refused bs ls ns k (was_refused (number_of k) ls _ (r.same [] refl)) r.long
+read_whole bs ls ns (Ok c) r e =
     by_test (ltb c.at (length bs))
-    (λ t. rw t (whole_refused bs ls ns not_a_sheet (was_refused not_a_sheet ls _ (sym (over bs c ns e (ltb-true _ _ t)) ∙ r.same [] refl)) r.long))
+    (λ t. rw t (whole_refused bs ls ns NotASheet (was_refused not_a_sheet ls _ (sym (over bs c ns e (ltb-true _ _ t)) ∙ r.same [] refl)) r.long))
     (λ t. rw t (whole_accepted bs ls ns c.count (was_accepted c.count ls ns _ (sym (at_last bs c ns (ends bs c r.reached.0.within (ltb-false _ _ t))) ∙ r.same [] refl)) r.long))
 
 -- THE REPLY, and the list behind the call. The first reading has an empty part of the list, and leaves it
@@ -99,48 +99,53 @@ nothing_written : (ms ls : List ℕ) → length ms ≡ 0 → ms ++ ls ≡ ls
 nothing_written [] ls e = refl
 nothing_written (m ∷ ms) ls e = absurd (omega arith)
 
-refused_reading : (q : Reading) (k : ℕ) → answer.Refused k ≡ whole_reply q → q ≡ refused k
+refused_reading : (q : Reading) (k : ℕ) → Err k ≡ whole_reply q → q ≡ refused k
 unfolding whole_reply
 refused_reading (accepted ks) k e = let z : ◌≡◌ {A = ℕ} 0 1 = cc in absurd (omega arith)
 refused_reading (refused m) k e = ap refused (cc)
 
-accepted_reading : (q : Reading) (n : ℕ) → answer.Kinds n ≡ whole_reply q → (ks : List ℕ) × (q ≡ accepted ks) × (n ≡ length ks)
+accepted_reading : (q : Reading) (n : ℕ) → Ok n ≡ whole_reply q → (ks : List ℕ) × (q ≡ accepted ks) × (n ≡ length ks)
 unfolding whole_reply
 accepted_reading (accepted ks) n e = (ks, refl, cc)
 accepted_reading (refused m) n e = let z : ◌≡◌ {A = ℕ} 0 1 = cc in absurd (omega arith)
 
-short_reply : (bs ls ks : List ℕ) → read_sheet bs ≡ accepted ks → length ls < length ks → (answer.Refused list_short ≡ sheet_reply bs ls) × (ls ≡ sheet_list bs ls)
+short_reply : (bs ls ks : List ℕ) → read_sheet bs ≡ accepted ks → length ls < length ks → (Err list_short ≡ sheet_reply bs ls) × (ls ≡ sheet_list bs ls)
 unfolding sheet_reply sheet_list sheet_refusal replied written
 short_reply bs ls ks is l = let short = lt-ltb (length ls) (length ks) l in (rw (is, short), rw (is, short))
 
-kinds_reply : (bs ls ks : List ℕ) → read_sheet bs ≡ accepted ks → length ks ≤ length ls → (answer.Kinds (length ks) ≡ sheet_reply bs ls) × (sets ls 0 ks ≡ sheet_list bs ls)
+kinds_reply : (bs ls ks : List ℕ) → read_sheet bs ≡ accepted ks → length ks ≤ length ls → (Ok (length ks) ≡ sheet_reply bs ls) × (sets ls 0 ks ≡ sheet_list bs ls)
 unfolding sheet_reply sheet_list sheet_refusal kinds_in replied written
 kinds_reply bs ls ks is l = let fits = le-ltb (length ls) (length ks) l in (rw (is, fits), rw (is, fits) (sets_front ks ls l))
 
-module _ (bs ls ms : List ℕ) (q : SheetReply) (first : ReadWhole bs [] ms q) where
+module _ (bs ls ms : List ℕ) (q : Result ℕ Refusal) (first : ReadWhole bs [] ms q) where
   kept : ms ++ ls ≡ ls
   kept = nothing_written ms ls first.long
 
-  pub reply_refused : (k : ℕ) → q ≡ answer.Refused k → (q ≡ sheet_reply bs ls) × (ms ++ ls ≡ sheet_list bs ls)
-  unfolding sheet_reply sheet_list sheet_refusal
+  pub reply_refused : (k : Refusal) → q ≡ Err k → (numbered {A = ℕ} (Err k) ≡ sheet_reply bs ls) × (ms ++ ls ≡ sheet_list bs ls)
+  unfolding sheet_reply sheet_list sheet_refusal numbered
   reply_refused k e =
-      let is = refused_reading (read_sheet bs) k (sym e ∙ first.reply) in
-      let some_number = refused_some bs k is in
-      (e ∙ rw is (replied_refused answer.Refused k _ some_number), kept ∙ rw is (written_refused k _ ls some_number))
+      let is = refused_reading (read_sheet bs) (number_of k) (rw e at first.reply) in
+      let some_number = refused_some bs (number_of k) is in
+      (rw is (replied_refused Err (number_of k) _ some_number), kept ∙ rw is (written_refused (number_of k) _ ls some_number))
 
-  module _ (n : ℕ) (e : q ≡ answer.Kinds n) where
-    pub reply_short : length (ms ++ ls) < n → (answer.Refused list_short ≡ sheet_reply bs ls) × (ms ++ ls ≡ sheet_list bs ls)
+  module _ (n : ℕ) (e : q ≡ Ok n) where
+    was : (ks : List ℕ) × (read_sheet bs ≡ accepted ks) × (n ≡ length ks)
+    unfolding numbered
+    was = accepted_reading (read_sheet bs) n (rw e at first.reply)
+
+    pub reply_short : length (ms ++ ls) < n → (numbered {A = ℕ} (Err ListTooShort) ≡ sheet_reply bs ls) × (ms ++ ls ≡ sheet_list bs ls)
+    unfolding numbered number_of
     reply_short l =
-        let (ks, is, count) = accepted_reading (read_sheet bs) n (sym e ∙ first.reply) in
+        let (ks, is, count) = was in
         let (reply, list) = short_reply bs ls ks is (omega (arith, ap length kept, count)) in
         (reply, kept ∙ list)
 
     pub sure_second : SureSheet bs (ms ++ ls)
-    sure_second l = let (ks, is, count) = accepted_reading (read_sheet bs) n (sym e ∙ first.reply) in (ks, is)
+    sure_second l = let (ks, is, count) = was in (ks, is)
 
-    pub reply_kinds : n ≤ length (ms ++ ls) → (ns : List ℕ) (w : SheetReply) → ReadWhole bs (ms ++ ls) ns w → (w ≡ sheet_reply bs ls) × (ns ≡ sheet_list bs ls)
+    pub reply_kinds : n ≤ length (ms ++ ls) → (ns : List ℕ) (w : Result ℕ Refusal) → ReadWhole bs (ms ++ ls) ns w → (numbered w ≡ sheet_reply bs ls) × (ns ≡ sheet_list bs ls)
     unfolding whole_reply
     reply_kinds l ns w second =
-        let (ks, is, count) = accepted_reading (read_sheet bs) n (sym e ∙ first.reply) in
+        let (ks, is, count) = was in
         let (reply, list) = kinds_reply bs ls ks is (omega (arith, ap length kept, count)) in
         (second.reply ∙ ap whole_reply is ∙ reply, second.list ks is ∙ ap (λ m. sets m 0 ks) kept ∙ list)

@@ -1,10 +1,9 @@
 -- What a reading that writes kinds is told: that the text is accepted. A reading that writes none is told nothing.
 -- Assumes nothing: these are definitions.
-use Rattle.std.specs.Prelude.{◌≡◌, List, ℕ, ◌+◌, ◌<◌, length}
+use Rattle.std.specs.Prelude.{◌≡◌, List, ℕ, ◌+◌, ◌<◌, length, Ok}
 use Rattle.xml.specs.Grammar.{most_depth}
 use Rattle.xml.specs.Reader.{accepted, read_sheet}
 use Rattle.xml_pieces.specs.declared.Cursor.{Cursor}
-use Rattle.xml_pieces.specs.declared.Part.TheVariants.{On}
 use Rattle.xml_pieces.specs.Outcome.{done, outcome}
 
 -- from a cursor on, with some elements open, the reading comes to kinds and not to a refusal
@@ -13,7 +12,7 @@ pub record Surely (bs : List ℕ) (depth : ℕ) (c : Cursor) (ls : List ℕ) : T
   pub deep : length opened + depth ≡ most_depth
   pub count : ℕ
   pub list : List ℕ
-  pub accepts : outcome bs opened ls (On c) ≡ done count list
+  pub accepts : outcome bs opened ls (Ok c) ≡ done count list
 
 -- where the list has room
 abbrev pub Sure : (text : List ℕ) → (depth : ℕ) → (from : Cursor) → (list : List ℕ) → Type 0

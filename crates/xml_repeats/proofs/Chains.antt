@@ -3,6 +3,7 @@ use mathlib.Core.Path.{◌≡◌, ap, sym, ◌∙◌}
 use mathlib.Core.List.{List, [], ◌∷◌}
 use Prim.Native.Nat.{ℕ, ◌≤◌, ◌<◌}
 use native.Mathlib.Omega.{arith}
+use Rattle.std.specs.Prelude.{Option, Some}
 use lib.ListN.{length, drop}
 use Rattle.xml_scan.specs.Post.{name_from}
 use Rattle.xml_attributes.specs.Next.{next_in_tag}
@@ -27,8 +28,8 @@ chain_same {text} {k} {i} (on {begins = b} {name = n} {end = e} q h) g w =
     ap (λ m. name_from text b ∷ m) (chain_same h r.2 w) ∙ sym r.1
 
 -- no attribute stands next
-abbrev pub Stopped : NextInTag → Type 0
-Stopped q = (b n e : ℕ) → q ≡ next.Attribute b n e → ⊥
+abbrev pub Stopped : Option NextInTag → Type 0
+Stopped q = (b n e : ℕ) → q ≡ Some (next.Attribute b n e) → ⊥
 
 pub chain_goes_on : {text : List ℕ} {k i : ℕ} {row : List (List ℕ)} → Chain text k i row → i < k → Stopped (next_in_tag i (drop i text)) → ⊥
 chain_goes_on h l s = let r = chain_next h l in s r.0 r.1 r.2 r.4

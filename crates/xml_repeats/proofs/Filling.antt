@@ -3,6 +3,7 @@ use mathlib.Core.Path.{◌≡◌, refl, ap, sym, ◌∙◌}
 use mathlib.Core.List.{List, [], ◌∷◌, ◌++◌, append_assoc}
 use Prim.Native.Nat.{ℕ, ◌+◌, ◌≤◌, ◌<◌}
 use native.Mathlib.Omega.{arith}
+use Rattle.std.specs.Prelude.{Some}
 use lib.ListN.{length, drop, set, length-append, length-set}
 use Rattle.xml_scan.specs.Post.{name_from}
 use Rattle.name_index.specs.Index.{places, Noted}
@@ -26,16 +27,14 @@ noted_next count b e n s f i = rw e (noted_more n s (omega arith) i)
 -- the loop, whatever the row is
 pub record Filling (text : List ℕ) (from to : ℕ) (ss : List ℕ) (count at : ℕ) : Type 0 where
   pub room : count ≤ places
-  pub starts : length ss ≡ places
   pub order : from ≤ at
   pub further : 0 < count → from < at
   pub parts : (row : List (List ℕ)) → Chain text to from row → Filled text to row ss (batch_of count at)
 
-pub filling_start : (text : List ℕ) (from to : ℕ) (ss : List ℕ) → length ss ≡ places → Filling text from to ss 0 from
-filling_start text from to ss l =
+pub filling_start : (text : List ℕ) (from to : ℕ) (ss : List ℕ) → Filling text from to ss 0 from
+filling_start text from to ss =
     record {
       room = omega arith;
-      starts = l;
       order = omega arith;
       further = λ z. absurd (omega arith);
       parts = λ row chain. record { early = []; late = row; split = refl; counted = refl; noted = noted_none text ss; rest = chain };
@@ -43,14 +42,13 @@ filling_start text from to ss l =
 
 module _ {text : List ℕ} {from to : ℕ} {ss : List ℕ} {count at : ℕ} (h : Filling text from to ss count at) where
   -- one attribute more
-  pub filling_turn : {b n e : ℕ} → next_in_tag at (drop at text) ≡ next.Attribute b n e → at < to → to ≤ length text → count < places →
+  pub filling_turn : {b n e : ℕ} → next_in_tag at (drop at text) ≡ Some (next.Attribute b n e) → at < to → to ≤ length text → count < places → length (set ss count b) ≡ places →
       Filling text from to (set ss count b) (count + 1) e
-  filling_turn {b} {n} {e} is l w r =
+  filling_turn {b} {n} {e} is l w r size =
       let o = next_order text at b n e (omega arith) is in
       let f = h.order in
       record {
         room = omega arith;
-        starts = length-set ss count b ∙ h.starts;
         order = omega arith;
         further = λ z. omega arith;
         parts = λ row chain.
@@ -61,7 +59,7 @@ module _ {text : List ℕ} {from to : ℕ} {ss : List ℕ} {count at : ℕ} (h :
               late = rest;
               split = p.split ∙ ap (λ m. p.early ++ m) cut ∙ sym (append_assoc p.early (name_from text b ∷ []) rest);
               counted = rw (p.counted, length-append p.early (name_from text b ∷ []));
-              noted = noted_next count b p.counted p.noted h.starts r (omega arith);
+              noted = noted_next count b p.counted p.noted (sym (length-set ss count b) ∙ size) r (omega arith);
               rest = later;
             };
       }

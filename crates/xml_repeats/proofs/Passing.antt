@@ -3,6 +3,7 @@ use mathlib.Core.Path.{◌≡◌, refl, ap, sym, ◌∙◌}
 use mathlib.Core.Bool.{Bool, true, false}
 use mathlib.Core.List.{List}
 use Prim.Native.Nat.{ℕ, ◌≤◌, ◌<◌}
+use Rattle.std.specs.Prelude.{Some}
 use lib.ListN.{length, drop}
 use Rattle.xml.specs.Grammar.{among}
 use Rattle.xml_laws.proofs.Names.{all_new}
@@ -31,7 +32,7 @@ abbrev pub Told : (text ss : List ℕ) (count b : ℕ) (t : Bool) → Type 0
 Told text ss count b t = (names : List (List ℕ)) → Holds text ss count names → t ≡ among (name_from text b) names
 
 module _ {text : List ℕ} {from to : ℕ} {ss : List ℕ} {count at : ℕ} (h : Passing text from to ss count at) where
-  module _ {b n e : ℕ} (is : next_in_tag at (drop at text) ≡ next.Attribute b n e) (l : at < to) {t : Bool} (told : Told text ss count b t) where
+  module _ {b n e : ℕ} (is : next_in_tag at (drop at text) ≡ Some (next.Attribute b n e)) (l : at < to) {t : Bool} (told : Told text ss count b t) where
     -- it is one of them
     pub passing_held : t ≡ true → (early late : List (List ℕ)) → Holds text ss count early → Chain text to from late → false ≡ all_new late early
     unfolding all_new

@@ -1,20 +1,17 @@
 -- Runs of bytes that pass a test: what is passed and what is left make up the whole run. Assumes nothing.
-use mathlib.Core.Path.{◌≡◌, refl, fun_ext}
-use mathlib.Core.Bool.{Bool, true, false, and-false}
+use mathlib.Core.Path.{◌≡◌, refl}
+use mathlib.Core.Bool.{Bool, true, false}
 use mathlib.Core.List.{List}
 use Prim.Native.Nat.{ℕ, suc, ◌+◌, ◌-◌, ◌≤◌, ◌<◌}
 use native.Mathlib.Numerals.{add-one}
 use native.Mathlib.Omega.{arith}
-use borrow.Author.Tests.{ltb-true, ltb-false, le-leb, lt-leb}
-use lib.Dec.{leb, ltb}
+use borrow.Author.Tests.{ltb-true, ltb-false}
+use lib.Dec.{ltb}
 use lib.ListN.{length, get_or, drop, drop_of_length-le}
 use lib.Seq.{drop-cons}
-use Rattle.lists.proofs.Tests.{by_test, or_left_false, or_right_false}
-use Rattle.xml.specs.Bytes.{class_of, is_char, is_space, is_name_start, is_name_char}
+use Rattle.lists.proofs.Tests.{by_test}
+use Rattle.xml.specs.Bytes.{is_name_start, is_name_char}
 use Rattle.xml.specs.Scan.{run, name_length}
-use Rattle.xml_classes.specs.Classes.{is_usual}
-use Rattle.xml_classes.proofs.ByteTests.{all_below, agree, same_below, class_large, usual_large}
-use Rattle.xml_scan.specs.Post.{class_within}
 
 -- at place i of a run that began at from
 pub record Running (test : ℕ → Bool) (text : List ℕ) (from i : ℕ) : Type 0 where
@@ -78,41 +75,6 @@ module _ {test : ℕ → Bool} {text : List ℕ} {from i : ℕ} (h : Running tes
       pub passed_4 : test (get_or text (i + 3) 0) ≡ true → Running test text from (i + 4)
       passed_4 e = running_next passed_3 (i + 4) (omega arith) (omega arith) e
 
--- CLASSES: a byte is of the classes from least to most or not, by its class
-module _ (l m c : ℕ) {k : ℕ} (e : k ≡ class_of c) where
-  pub class_low : k < l → class_within l m c ≡ false
-  unfolding class_within
-  class_low a = rw (← e, lt-leb l k a)
-
-  pub class_high : m < k → class_within l m c ≡ false
-  unfolding class_within
-  class_high a = rw (← e, lt-leb k m a, and-false (leb l k))
-
-  pub class_inside : l ≤ k → k ≤ m → class_within l m c ≡ true
-  unfolding class_within
-  class_inside a b = rw (← e, le-leb l k a, le-leb k m b)
-
--- a test that agrees with some classes from the second on at every byte, and holds of usual bytes only, is those classes
-by_classes : (l m : ℕ) (f : ℕ → Bool) → all_below (λ b. agree (class_within (suc l) m b) (f b)) 256 ≡ true →
-    ((c : ℕ) → is_usual c ≡ false → f c ≡ false) → class_within (suc l) m ≡ f
-unfolding class_within
-by_classes l m f e none =
-    fun_ext λ c.
-    by_test (ltb c 256) (λ q. same_below (class_within (suc l) m) f 256 e c (ltb-true c 256 q))
-    (λ q. let g = ltb-false c 256 q in rw (class_large c g, lt-leb (suc l) 0 (omega arith), none c (usual_large c g)))
-
-pub spaces : class_within 1 1 ≡ is_space
-unfolding all_below agree class_within class_of is_char is_space is_name_start is_name_char is_usual
-spaces = by_classes 0 1 is_space refl (λ c. or_left_false (is_space c) (is_name_char c))
-
-pub name_chars : class_within 2 3 ≡ is_name_char
-unfolding all_below agree class_within class_of is_char is_space is_name_start is_name_char is_usual
-name_chars = by_classes 1 3 is_name_char refl (λ c. or_right_false (is_space c) (is_name_char c))
-
-pub usual_bytes : class_within 1 3 ≡ is_usual
-unfolding all_below agree class_within class_of is_char is_space is_name_start is_name_char is_usual
-usual_bytes = by_classes 0 3 is_usual refl (λ c e. e)
-
 -- NAMES: none at the text's end, none at a byte that begins none, else a run behind the first byte
 pub name_none : (text : List ℕ) (from : ℕ) → length text ≤ from → from ≡ from + name_length (drop from text)
 unfolding name_length
@@ -123,6 +85,6 @@ unfolding name_length
 name_other text from l n = let e : from + 0 ≡ from = omega arith in rw (drop-cons text from 0 l, n, e)
 
 pub name_run : (text : List ℕ) (from : ℕ) {e : ℕ} → from < length text → is_name_start (get_or text from 0) ≡ true →
-    e ≡ from + 1 + run (class_within 2 3) (drop (from + 1) text) → e ≡ from + name_length (drop from text)
+    e ≡ from + 1 + run is_name_char (drop (from + 1) text) → e ≡ from + name_length (drop from text)
 unfolding name_length
-name_run text from l t r = rw (drop-cons text from 0 l, t, ← add-one from, ← name_chars) (omega (arith, r))
+name_run text from l t r = rw (drop-cons text from 0 l, t, ← add-one from) (omega (arith, r))

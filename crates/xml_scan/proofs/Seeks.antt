@@ -5,11 +5,11 @@ use mathlib.Core.List.{List}
 use mathlib.Core.Option.{Option, none, some}
 use Prim.Native.Nat.{ℕ, zero, suc, ◌+◌, ◌≤◌, ◌<◌}
 use native.Mathlib.Omega.{arith}
+use Rattle.std.specs.Prelude.{Some, None}
 use lib.ListN.{length, get_or, drop}
 use Rattle.xml.specs.Scan.{run, later}
 use Rattle.xml_scan.specs.Post.{found}
 use Rattle.xml_scan.proofs.RunSteps.{run_within, run_first, run_rest}
-use Rattle.xml_scan.specs.declared.Found.TheVariants.{At, Nothing}
 
 -- A SCAN that gives its answer on the text from a place on: at place i, where it began at from
 pub record Seeking (scan : List ℕ → Option ℕ) (text : List ℕ) (from i : ℕ) : Type 0 where
@@ -25,13 +25,24 @@ unfolding found later
 found_later i none = refl
 found_later i (some n) = let e : i + suc n ≡ i + 1 + n = omega arith in rw e
 
+-- what was found, taken apart
+pub found_none : (a : ℕ) (o : Option ℕ) → None ≡ found a o → o ≡ none
+unfolding found
+found_none a none e = refl
+found_none a (some n) e = cc
+
+pub found_some : (a i : ℕ) (o : Option ℕ) → Some i ≡ found a o → (n : ℕ) × (o ≡ some n) × (i ≡ a + n)
+unfolding found
+found_some a i none e = cc
+found_some a i (some n) e = (n, refl, cc)
+
 module _ {scan : List ℕ → Option ℕ} {text : List ℕ} {from i : ℕ} (h : Seeking scan text from i) where
   -- the answer is here
-  pub seeking_at : scan (drop i text) ≡ some 0 → At i ≡ found from (scan (drop from text))
+  pub seeking_at : scan (drop i text) ≡ some 0 → Some i ≡ found from (scan (drop from text))
   unfolding found
   seeking_at e = let z : i + 0 ≡ i = omega arith in sym (rw (e, z)) ∙ h.rest
 
-  pub seeking_none : scan (drop i text) ≡ none → Nothing ≡ found from (scan (drop from text))
+  pub seeking_none : scan (drop i text) ≡ none → None ≡ found from (scan (drop from text))
   unfolding found
   seeking_none e = rw e at h.rest
 

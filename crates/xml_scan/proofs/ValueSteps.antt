@@ -10,13 +10,14 @@ use borrow.Author.Tests.{eq-eqb, ne_eqb}
 use lib.Dec.{eqb}
 use lib.ListN.{length, get_or, drop, length-drop, drop_of_length-le}
 use lib.Seq.{drop-cons, drop-drop}
+use Rattle.std.specs.Prelude.{Some, None}
 use Rattle.lists.proofs.Tests.{by_test}
 use Rattle.lists.proofs.Fronts.{starts_fits}
 use Rattle.xml.specs.Bytes.{is_char, less_than, ampersand, lt_name, gt_name, amp_name, apos_name, quot_name}
 use Rattle.xml.specs.Grammar.{reference_text}
 use Rattle.xml.specs.Scan.{later, reference_length, value_step, value_length}
-use Rattle.xml_scan.specs.Post.{found, is_plain}
-use Rattle.xml_scan.proofs.References.{refers, is_lt, is_gt, is_amp, is_apos, is_quot, is_no_reference}
+use Rattle.xml_scan.specs.Post.{found, nonzero, is_plain}
+use Rattle.xml_scan.proofs.References.{refers, is_lt, is_gt, is_amp, is_apos, is_quot, is_no_reference, nonzero_none, nonzero_some}
 use Rattle.xml_scan.proofs.Seeks.{Seeking, found_later}
 
 -- bytes that are passed, and then the value behind them
@@ -46,20 +47,24 @@ module _ (q : ℕ) (text : List ℕ) (i : ℕ) where
     unfolding value_length
     value_on k n s z = rw (add-one i, drop-cons text i 0 l, ne_eqb _ _ n, sym (rw (drop-cons text i 0 l) at s), ne_eqb _ _ z)
 
+-- a reference of some length, by what stands there
+sized : (cs : List ℕ) (n : ℕ) → Some n ≡ nonzero (reference_length cs) → n ≤ length cs → reference_length cs ≤ length cs
+sized cs n e l = let q = nonzero_some _ n e in omega (arith, q.0)
+
 reference_within : (cs : List ℕ) → reference_length cs ≤ length cs
 unfolding reference_text
 reference_within cs =
     by_test (refers lt_name cs)
-    (λ t. omega (arith, is_lt cs t, starts_fits (reference_text lt_name) cs t))
+    (λ t. sized cs 4 (is_lt cs t) (starts_fits (reference_text lt_name) cs t))
     (λ lt. by_test (refers gt_name cs)
-    (λ t. omega (arith, is_gt cs lt t, starts_fits (reference_text gt_name) cs t))
+    (λ t. sized cs 4 (is_gt cs lt t) (starts_fits (reference_text gt_name) cs t))
     (λ gt. by_test (refers amp_name cs)
-    (λ t. omega (arith, is_amp cs lt gt t, starts_fits (reference_text amp_name) cs t))
+    (λ t. sized cs 5 (is_amp cs lt gt t) (starts_fits (reference_text amp_name) cs t))
     (λ amp. by_test (refers apos_name cs)
-    (λ t. omega (arith, is_apos cs lt gt amp t, starts_fits (reference_text apos_name) cs t))
+    (λ t. sized cs 6 (is_apos cs lt gt amp t) (starts_fits (reference_text apos_name) cs t))
     (λ apos. by_test (refers quot_name cs)
-    (λ t. omega (arith, is_quot cs lt gt amp apos t, starts_fits (reference_text quot_name) cs t))
-    (λ quot. omega (arith, is_no_reference cs lt gt amp apos quot))))))
+    (λ t. sized cs 6 (is_quot cs lt gt amp apos t) (starts_fits (reference_text quot_name) cs t))
+    (λ quot. let z = nonzero_none _ (is_no_reference cs lt gt amp apos quot) in omega arith)))))
 
 step_within : (cs : List ℕ) → value_step cs ≤ length cs
 unfolding value_step
@@ -86,9 +91,15 @@ seeking_past {q} {text} {from} {i} k h l n s z =
 
 -- THE BYTE OR REFERENCE of a value at a place, by its first byte
 module _ (text : List ℕ) (i : ℕ) (l : i < length text) where
-  pub part_reference : get_or text i 0 ≡ ampersand → reference_length (drop i text) ≡ value_step (drop i text)
+  part_reference : get_or text i 0 ≡ ampersand → reference_length (drop i text) ≡ value_step (drop i text)
   unfolding value_step
   part_reference e = rw (drop-cons text i 0 l, eq-eqb _ _ e)
+
+  pub part_found : {n : ℕ} → get_or text i 0 ≡ ampersand → Some n ≡ nonzero (reference_length (drop i text)) → (n ≡ value_step (drop i text)) × (n ≡ 0 → ⊥)
+  part_found e f = let q = nonzero_some _ _ f in (q.0 ∙ part_reference e, q.1)
+
+  pub part_missing : get_or text i 0 ≡ ampersand → None ≡ nonzero (reference_length (drop i text)) → 0 ≡ value_step (drop i text)
+  part_missing e f = sym (nonzero_none _ f) ∙ part_reference e
 
   pub part_byte : (get_or text i 0 ≡ ampersand → ⊥) → is_plain (get_or text i 0) ≡ true → 1 ≡ value_step (drop i text)
   unfolding value_step is_plain

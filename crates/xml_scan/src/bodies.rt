@@ -1,124 +1,109 @@
 // What runs up to a closer: the bodies of comments and CDATA sections, values of attributes, character data.
 ghost use Rattle.std.specs.Prelude.{◌≡◌, ◌≤◌, ◌<◌, length, drop};
-ghost use Rattle.xml_classes.specs.Classes.{Classes};
 ghost use Rattle.xml.specs.Scan.{body_length, value_length, data_length};
-ghost use Rattle.xml_scan.specs.Post.{found, is_plain, data_test};
+ghost use Rattle.xml_scan.specs.Post.{found, is_plain};
+ghost use Rattle.xml_scan.specs.Data.{data_test};
 
-use crate::Found;
 use crate::runs::words_end;
 use crate::strings::{reference, stands};
-use xml_classes::{FORBIDDEN, OTHER, class_of, is_char};
+use xml::Class;
+use xml_classes::{class_of, is_char};
 
 // Where the first closer stands, with no forbidden byte before it.
-pub fn body_end(text: &[u8], from: usize, closer: &[u8], classes: &[u8; 256]) -> Found
-    requires from_in_bounds { from ≤ length text.now }
-    requires classes { Classes classes.now }
+pub fn body_end(text: &[u8], from: usize, closer: &[u8]) -> Option<usize>
+    requires { from ≤ length text.now }
     ensures { result ≡ found from (body_length closer.now (drop from text.now)) }
 {
-    let mut i = from;
-    while i < text.len() {
+    for i in from..text.len() {
         if stands(text, i, closer) {
-            return Found::At(i);
+            return Some(i);
         }
-        if !is_char(text[i], classes) {
-            return Found::Nothing;
+        if !is_char(text[i]) {
+            return None;
         }
-        i += 1;
     }
-    Found::Nothing
+    None
 }
 
 // Whether a byte may stand in a value by itself, if it is not its quote and not &.
-fn is_plain(c: u8, classes: &[u8; 256]) -> bool
-    requires { Classes classes.now }
+fn is_plain(c: u8) -> bool
     ensures { result ≡ is_plain c }
 {
     if c == b'<' {
         return false;
     }
-    is_char(c, classes)
+    is_char(c)
 }
 
 // Where the closing quote of a value stands.
-pub fn value_end(text: &[u8], from: usize, quote: u8, classes: &[u8; 256]) -> Found
-    requires from_in_bounds { from ≤ length text.now }
-    requires classes { Classes classes.now }
+pub fn value_end(text: &[u8], from: usize, quote: u8) -> Option<usize>
+    requires { from ≤ length text.now }
     ensures { result ≡ found from (value_length quote 0 (drop from text.now)) }
 {
     let mut i = from;
     while i < text.len() {
         let c = text[i];
         if c == quote {
-            return Found::At(i);
+            return Some(i);
         }
         if c == b'&' {
-            let n = reference(text, i);
-            if n == 0 {
-                return Found::Nothing;
-            }
-            i += n;
+            i += reference(text, i)?;
         } else {
-            if !is_plain(c, classes) {
-                return Found::Nothing;
+            if !is_plain(c) {
+                return None;
             }
             i += 1;
         }
     }
-    Found::Nothing
+    None
 }
 
-// Whether character data goes on behind a byte, ends before it, or is broken there.
-const GOES_ON: u8 = 0;
-
-const ENDS: u8 = 1;
-
-const BROKEN: u8 = 2;
+// Whether character data goes on after a byte, ends before it, or is broken there.
+#[derive(Clone, Copy, Debug, PartialEq, Eq)]
+enum Datum {
+    GoesOn,
+    Ends,
+    Broken,
+}
 
 // Only bytes of the last class can end data or begin ]]>.
-fn data_test(text: &[u8], at: usize, classes: &[u8; 256]) -> u8
-    requires at_in_bounds { at < length text.now }
-    requires classes { Classes classes.now }
+fn data_test(text: &[u8], at: usize) -> Datum
+    requires { at < length text.now }
     ensures { result ≡ data_test (drop at text.now) }
 {
     let c = text[at];
-    let k = class_of(c, classes);
-    if k == FORBIDDEN {
-        return BROKEN;
-    }
-    if k != OTHER {
-        return GOES_ON;
+    match class_of(c) {
+        Class::Forbidden => return Datum::Broken,
+        Class::Other => {}
+        _ => return Datum::GoesOn,
     }
     if c == b'<' {
-        return ENDS;
+        return Datum::Ends;
     }
     if c == b'&' {
-        return ENDS;
+        return Datum::Ends;
     }
     if c != b']' {
-        return GOES_ON;
+        return Datum::GoesOn;
     }
     if stands(text, at, b"]]>") {
-        return BROKEN;
+        return Datum::Broken;
     }
-    GOES_ON
+    Datum::GoesOn
 }
 
 // Where character data ends: at < or &, or at the text's end.
-pub fn data_end(text: &[u8], from: usize, classes: &[u8; 256]) -> Found
-    requires from_in_bounds { from ≤ length text.now }
-    requires classes { Classes classes.now }
+pub fn data_end(text: &[u8], from: usize) -> Option<usize>
+    requires { from ≤ length text.now }
     ensures { result ≡ found from (data_length (drop from text.now)) }
 {
-    let mut i = words_end(text, from, classes);
+    let mut i = words_end(text, from);
     while i < text.len() {
-        let t = data_test(text, i, classes);
-        if t == ENDS {
-            return Found::At(i);
+        match data_test(text, i) {
+            Datum::Ends => return Some(i),
+            Datum::Broken => return None,
+            Datum::GoesOn => i = words_end(text, i + 1),
         }
-        if t == BROKEN {
-            return Found::Nothing;
-        }
-        i = words_end(text, i + 1, classes);
     }
-    Found::At(i)
+    Some(i)
 }

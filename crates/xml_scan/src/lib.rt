@@ -5,10 +5,3 @@
 pub mod bodies;
 pub mod runs;
 pub mod strings;
-
-// Where what was looked for ends, or that it is not there.
-#[derive(Clone, Copy)]
-pub enum Found {
-    At(usize),
-    Nothing,
-}

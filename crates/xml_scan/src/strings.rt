@@ -2,6 +2,7 @@
 ghost use Rattle.std.specs.Prelude.{◌≡◌, ◌≤◌, length, drop};
 ghost use Rattle.lists.specs.Fronts.{starts_with};
 ghost use Rattle.xml.specs.Scan.{reference_length};
+ghost use Rattle.xml_scan.specs.Post.{nonzero};
 
 // Whether a string stands at a place.
 pub fn stands(text: &[u8], at: usize, string: &[u8]) -> bool
@@ -11,35 +12,33 @@ pub fn stands(text: &[u8], at: usize, string: &[u8]) -> bool
     if text.len() - at < string.len() {
         return false;
     }
-    let mut k: usize = 0;
-    while k < string.len() {
-        if text[at + k] != string[k] {
+    for (k, b) in string.iter().enumerate() {
+        if text[at + k] != *b {
             return false;
         }
-        k += 1;
     }
     true
 }
 
-// The length of the reference at a place, 0 where none stands there.
-pub fn reference(text: &[u8], at: usize) -> usize
+// The length of the reference at a place, if one stands there.
+pub fn reference(text: &[u8], at: usize) -> Option<usize>
     requires { at ≤ length text.now }
-    ensures { result ≡ reference_length (drop at text.now) }
+    ensures { result ≡ nonzero (reference_length (drop at text.now)) }
 {
     if stands(text, at, b"&lt;") {
-        return 4;
+        return Some(4);
     }
     if stands(text, at, b"&gt;") {
-        return 4;
+        return Some(4);
     }
     if stands(text, at, b"&amp;") {
-        return 5;
+        return Some(5);
     }
     if stands(text, at, b"&apos;") {
-        return 6;
+        return Some(6);
     }
     if stands(text, at, b"&quot;") {
-        return 6;
+        return Some(6);
     }
-    0
+    None
 }

@@ -9,6 +9,8 @@ use Prim.Native.Nat.{ℕ, zero, suc, pred, ◌+◌, ◌≤◌, ◌<◌}
 use native.Mathlib.Omega.{arith}
 use native.Mathlib.Decide.{dec_le}
 use borrow.Author.Tests.{eqb-false}
+use Rattle.std.specs.Prelude as std
+use Rattle.std.specs.Prelude.{Some, None}
 use lib.Dec.{eqb}
 use lib.ListN.{length, drop, length-drop, drop_of_length-le}
 use lib.Seq.{drop-drop}
@@ -28,7 +30,6 @@ use Rattle.xml_attributes.proofs.AttributeSteps.{from_place, attribute_fits}
 use Rattle.xml_attributes.proofs.NextSteps.{next_by}
 use Rattle.xml_tag.specs.Post.{end_found}
 use Rattle.xml_tag.specs.declared.TagEnd.{TagEnd}
-use Rattle.xml_tag.specs.declared.TagEnd.TheVariants.{Whole, Broken}
 
 -- bytes that are passed
 end_later : (a : ℕ) (o : Option Ending) → end_found a (ends_later o) ≡ end_found (a + 1) o
@@ -61,22 +62,25 @@ tail_turn ns [] l = absurd (omega arith)
 tail_turn ns (c ∷ cs) l = refl
 
 -- nothing is left
-pub tail_over : (ns : List (List ℕ)) (text : List ℕ) (i : ℕ) → length text ≤ i → end_found i (tail_at ns 0 (drop i text)) ≡ Broken
+pub tail_over : (ns : List (List ℕ)) (text : List ℕ) (i : ℕ) → length text ≤ i → end_found i (tail_at ns 0 (drop i text)) ≡ None
 unfolding tail_at end_found
 tail_over ns text i l = rw (drop_of_length-le text l)
 
 -- BY WHAT STANDS NEXT: the tag's end, and what is left after an attribute whose name is new
-abbrev by_next : (names : List (List ℕ)) → (text : List ℕ) → NextInTag → TagEnd
-by_next ns text (next.Closer e l) = Whole e l
-by_next ns text (next.Attribute b n e) =
-    cond (among (name_from text b) ns) Broken (end_found e (tail_at (name_from text b ∷ ns) 0 (drop e text)))
-by_next ns text next.Broken = Broken
+abbrev pub ends_at : (end : ℕ) → (lone : Bool) → std.Option TagEnd
+ends_at e l = Some (record { end = e; lone = l })
+
+abbrev by_next : (names : List (List ℕ)) → (text : List ℕ) → std.Option NextInTag → std.Option TagEnd
+by_next ns text (Some (next.Closer e l)) = ends_at e l
+by_next ns text (Some (next.Attribute b n e)) =
+    cond (among (name_from text b) ns) None (end_found e (tail_at (name_from text b ∷ ns) 0 (drop e text)))
+by_next ns text None = None
 
 module _ (ns : List (List ℕ)) (text : List ℕ) (i : ℕ) where
   -- an attribute
   one_more : (b : ℕ) (z : Sized) → i < b → b ≡ i + gap_of (drop i text) → attribute_at (drop b text) ≡ some z →
       end_found i (tail_on ns (gap_of (drop i text)) (drop b text) (some z) (λ n m. tail_at (n ∷ ns) m (drop 1 (drop i text))))
-      ≡ by_next ns text (next.Attribute b (b + z.name) (b + z.whole))
+      ≡ by_next ns text (Some (next.Attribute b (b + z.name) (b + z.whole)))
   unfolding tail_on end_found name_from
   one_more b z l g s =
       let f = attribute_fits (drop b text) z s in
@@ -105,10 +109,10 @@ module _ (ns : List (List ℕ)) (text : List ℕ) (i : ℕ) where
       let k : 1 ≤ length (drop i text) = omega (arith, length-drop i text) in
       rw (tail_turn ns (drop i text) k, next_by text i b g, ← d)
       (by_test (starts_with tag_closes (drop b text))
-      (λ t. rw t (let q : i + suc (gap_of (drop i text)) ≡ b + 1 = omega arith in ap (λ a. Whole a false) q))
+      (λ t. rw t (let q : i + suc (gap_of (drop i text)) ≡ b + 1 = omega arith in ap (λ a. ends_at a false) q))
       (λ t.
       by_test (starts_with lone_closes (drop b text))
-      (λ u. rw (t, u) (let q : i + suc (suc (gap_of (drop i text))) ≡ b + 2 = omega arith in ap (λ a. Whole a true) q))
+      (λ u. rw (t, u) (let q : i + suc (suc (gap_of (drop i text))) ≡ b + 2 = omega arith in ap (λ a. ends_at a true) q))
       (λ u.
       by_test (eqb (gap_of (drop i text)) 0)
       (λ v. rw (t, u, v))
@@ -125,14 +129,14 @@ module _ (ns : List (List ℕ)) (text : List ℕ) (i : ℕ) where
       (λ l. inside (i + gap_of (drop i text)) refl (omega arith))
 
 -- ALONG A CHAIN of attributes up to a place, with what is left there for any names before
-turned : (x y a d : Bool) (w : TagEnd) → cond x Broken (cond ((not y && a) && d) w Broken) ≡ cond ((not x && a) && (not y && d)) w Broken
+turned : (x y a d : Bool) (w : std.Option TagEnd) → cond x None (cond ((not y && a) && d) w None) ≡ cond ((not x && a) && (not y && d)) w None
 turned true y a d w = refl
 turned false true true d w = refl
 turned false true false d w = refl
 turned false false a d w = refl
 
-along : {text : List ℕ} {last from : ℕ} {row : List (List ℕ)} (w : TagEnd) → ((ns : List (List ℕ)) → end_found last (tail_at ns 0 (drop last text)) ≡ w) →
-    Chain text last from row → (ns : List (List ℕ)) → end_found from (tail_at ns 0 (drop from text)) ≡ cond (all_new row ns && differ row) w Broken
+along : {text : List ℕ} {last from : ℕ} {row : List (List ℕ)} (w : std.Option TagEnd) → ((ns : List (List ℕ)) → end_found last (tail_at ns 0 (drop last text)) ≡ w) →
+    Chain text last from row → (ns : List (List ℕ)) → end_found from (tail_at ns 0 (drop from text)) ≡ cond (all_new row ns && differ row) w None
 unfolding all_new differ
 along w h here ns = h ns
 along {text} {last} {from} w h (on {begins = b} {end = e} {ns = rest} q c) ns =
@@ -142,16 +146,16 @@ along {text} {last} {from} w h (on {begins = b} {end = e} {ns = rest} q c) ns =
 
 module _ {text : List ℕ} {last from : ℕ} {row : List (List ℕ)} (c : Chain text last from row) (ns : List (List ℕ)) where
   -- it ends there: the names must be new and differ
-  pub chain_closes : (e : ℕ) (l : Bool) → next_in_tag last (drop last text) ≡ next.Closer e l →
-      end_found from (tail_at ns 0 (drop from text)) ≡ cond (all_new row ns && differ row) (Whole e l) Broken
-  chain_closes e l q = along (Whole e l) (λ ms. tail_next ms text last ∙ rw q) c ns
+  pub chain_closes : (e : ℕ) (l : Bool) → next_in_tag last (drop last text) ≡ Some (next.Closer e l) →
+      end_found from (tail_at ns 0 (drop from text)) ≡ cond (all_new row ns && differ row) (ends_at e l) None
+  chain_closes e l q = along (ends_at e l) (λ ms. tail_next ms text last ∙ rw q) c ns
 
   -- it is broken there, or over
-  broken_anyway : ((ms : List (List ℕ)) → end_found last (tail_at ms 0 (drop last text)) ≡ Broken) → Broken ≡ end_found from (tail_at ns 0 (drop from text))
-  broken_anyway h = sym (along Broken h c ns ∙ either_way (all_new row ns && differ row) Broken)
+  broken_anyway : ((ms : List (List ℕ)) → end_found last (tail_at ms 0 (drop last text)) ≡ None) → None ≡ end_found from (tail_at ns 0 (drop from text))
+  broken_anyway h = sym (along None h c ns ∙ either_way (all_new row ns && differ row) None)
 
-  pub chain_broken : next_in_tag last (drop last text) ≡ next.Broken → Broken ≡ end_found from (tail_at ns 0 (drop from text))
+  pub chain_broken : next_in_tag last (drop last text) ≡ None → None ≡ end_found from (tail_at ns 0 (drop from text))
   chain_broken q = broken_anyway (λ ms. tail_next ms text last ∙ rw q)
 
-  pub chain_over : length text ≤ last → Broken ≡ end_found from (tail_at ns 0 (drop from text))
+  pub chain_over : length text ≤ last → None ≡ end_found from (tail_at ns 0 (drop from text))
   chain_over l = broken_anyway (λ ms. tail_over ms text last l)

@@ -7,30 +7,28 @@ mod tags;
 
 pub use tags::tag;
 
-// What a pass over a tag's attributes gathers: where the tag ends, whether it is an empty-element tag, where the last attribute ends,
-// how many there are, and whether the filter has one place for two of their names: 0 where it has not.
-#[derive(Clone, Copy)]
-pub enum Gathered {
-    Whole {
-        end: usize,
-        lone: bool,
-        last: usize,
-        count: usize,
-        shared: u8,
-    },
-    Broken,
+// What a pass over a whole tag's attributes gathers: where the tag ends, whether it is an empty-element tag, where the last attribute
+// ends, how many there are, and whether the filter has one place for two of their names.
+#[derive(Clone, Copy, Debug)]
+struct Gathered {
+    end: usize,
+    lone: bool,
+    last: usize,
+    count: usize,
+    shared: bool,
 }
 
 // Where a tag ends, and whether it is an empty-element tag.
-#[derive(Clone, Copy)]
-pub enum TagEnd {
-    Whole { end: usize, lone: bool },
-    Broken,
+#[derive(Clone, Copy, Debug)]
+struct TagEnd {
+    end: usize,
+    lone: bool,
 }
 
 // Where a tag's name ends, where the tag does, and whether it is an empty-element tag.
-#[derive(Clone, Copy)]
-pub enum TagRead {
-    Whole { name: usize, end: usize, lone: bool },
-    Broken,
+#[derive(Clone, Copy, Debug)]
+pub struct TagRead {
+    pub name: usize,
+    pub end: usize,
+    pub lone: bool,
 }

@@ -16,8 +16,8 @@ abbrev pub invariant-loop-v : goal.invariant-loop-v
 invariant-loop-v l =
     (l.v.place ≤ l.size.n)
     × (l.pairs ≡ pair_table)
-    × Standing (file_words l.bytes) l.size.n l.ends l.v
-    × (walk_at (file_words l.bytes) l.tables l.size.n l.size.under l.v l.ends l.firsts ≡ walk_whole (file_words l.bytes) l.tables l.size.n l.size.under)
+    × Standing (file_words l.bytes) l.size.n l.levels l.v
+    × (walk_at (file_words l.bytes) l.tables l.size.n l.size.under l.v l.levels ≡ walk_whole (file_words l.bytes) l.tables l.size.n l.size.under)
     × (order_left l.bytes l.v.place l.v.tag.0 ≡ order_left l.bytes 0 (word_at (header_in l.bytes) at_first))
     × MetSoFar l.bytes l.v l.met l.opens
     × (length l.opens ≡ length l.initial.opens)

@@ -4,9 +4,6 @@ use Rattle.words.proofs.Fields.{room_same}
 use Rattle.file_read.proofs.PutLaws.{room_of, row_put}
 use Rattle.file_read.proofs.put_row.Goals as goal
 
-pub set_label-requires : goal.set_label-requires
-set_label-requires c = (room_of c.requires.1 c.row_word.ensures)
-
 pub set_next-requires : goal.set_next-requires
 set_next-requires c = room_same (room_of c.requires.1 c.row_word.ensures) (omega arith)
 

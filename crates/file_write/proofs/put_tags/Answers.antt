@@ -1,4 +1,3 @@
-use native.Mathlib.Omega.{arith}
 use Rattle.store_refuse.proofs.Laws.{header_room, tag_room as record_room}
 use Rattle.file_write.proofs.TagLoop.{left_first, tag_there, tag_room, left_turn, left_end}
 use Rattle.file_write.proofs.put_tags.Goals as goal
@@ -9,34 +8,21 @@ count_of-n-requires c = header_room _ c.requires.says
 pub first_of-tag-requires : goal.first_of-tag-requires
 first_of-tag-requires c = header_room _ c.requires.says
 
-pub loop-i-init : goal.loop-i-init
-loop-i-init c = left_first _ _ _ c.requires.says c.first_of-tag.ensures
+pub loop-init : goal.loop-init
+loop-init c = left_first _ _ _ c.requires.says c.first_of-tag.ensures
 
 pub put_tag-requires : goal.put_tag-requires
 put_tag-requires c =
-    record { tag_said = tag_there c.loop-i.invariant c.requires.says c.count_of-n.ensures c.loop-i-test.true; row_bytes_in_bounds = tag_room c.loop-i.invariant c.requires.says c.count_of-n.ensures c.loop-i-test.true c.requires.room }
+    record { tag_said = tag_there c.loop.invariant c.requires.says c.count_of-n.ensures c.loop-test.true; room = tag_room c.loop.invariant c.requires.says c.count_of-n.ensures c.loop-test.true c.requires.room }
 
 pub next_of-tag-requires : goal.next_of-tag-requires
 next_of-tag-requires c =
-    record_room (tag_there c.loop-i.invariant c.requires.says c.count_of-n.ensures c.loop-i-test.true)
+    record_room (tag_there c.loop.invariant c.requires.says c.count_of-n.ensures c.loop-test.true)
 
-pub overflow_add-at : goal.overflow_add-at
-overflow_add-at c =
-    omega (arith, tag_room c.loop-i.invariant c.requires.says c.count_of-n.ensures c.loop-i-test.true c.requires.room)
-
-pub overflow_add-i : goal.overflow_add-i
-overflow_add-i c = omega arith
-
-pub loop-i-smaller : goal.loop-i-smaller
-loop-i-smaller c = omega arith
-
-pub loop-i-preserved : goal.loop-i-preserved
-loop-i-preserved c =
-    left_turn c.loop-i.invariant c.requires.says c.count_of-n.ensures c.loop-i-test.true c.put_tag.ensures
+pub loop-preserved : goal.loop-preserved
+loop-preserved c =
+    left_turn c.loop.invariant c.requires.says c.count_of-n.ensures c.loop-test.true c.put_tag.ensures
     c.next_of-tag.ensures
 
-pub shape_of-bytes : goal.shape_of-bytes
-shape_of-bytes c = c.loop-i.invariant.long
-
 pub returns : goal.returns
-returns c = let all = left_end c.loop-i.invariant c.requires.says c.count_of-n.ensures c.loop-i-test.false in record { place = all.0; bytes = all.1 }
+returns c = let all = left_end c.loop.invariant c.requires.says c.count_of-n.ensures c.loop-test.false in record { place = all.0; bytes = all.1 }

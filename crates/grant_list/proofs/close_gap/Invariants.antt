@@ -9,6 +9,3 @@ invariant-loop-i l = record {
   low : l.kept ≤ l.i;
   same : closed l.party l.section (l.count - l.i) l.i l.kept l.gs ≡ closed l.party l.section l.count 0 0 l.fn.gs;
 }
-
-abbrev pub decreases-loop-i : goal.decreases-loop-i
-decreases-loop-i l = l.count - l.i

@@ -23,4 +23,4 @@ overflow_cast-result c = omega (arith, c.requires.plan.path.splits.height)
 pub returns : goal.returns
 unfolding plan_record
 returns c =
-    put_done _ _ _ _ _ (plan_record c.args.p) c.add_row.ensures c.raise.ensures c.apply-numbered.ensures.words c.apply-numbered.ensures.moved refl c.less.ensures
+    put_done _ _ _ _ _ (plan_record c.args.p) c.add_row.ensures c.raise.ensures c.apply-numbered.ensures.words c.apply-numbered.ensures.moved refl c.saturating_sub.ensures

@@ -1,4 +1,5 @@
 -- `insert_plan::inner_plan` meets its contract. Assumes nothing.
+use mathlib.Core.Path.{refl}
 use native.Mathlib.Omega.{arith}
 use Rattle.words.proofs.Fields.{header_long}
 use Rattle.insert_plan.proofs.Plans.{found_under, found_inside, plain_asks, split_asks, inner_plain, inner_split}
@@ -8,17 +9,14 @@ pub height_of-requires : goal.height_of-requires
 height_of-requires c = header_long c.requires.records
 
 pub plain_plan-requires : goal.plain_plan-requires
-plain_plan-requires c = plain_asks c.requires c.number-parent.ensures
+plain_plan-requires c = plain_asks c.requires refl
 
 pub returns-then-h-eq0 : goal.returns-then-h-eq0
 returns-then-h-eq0 c =
     inner_plain _ _ _ _ _ _ _ (found_under _ _ _ c.highest_full-h.ensures c.height_of.ensures) c.if-h-eq0.true c.plain_plan.ensures
 
-pub number-low-requires : goal.number-low-requires
-number-low-requires c = omega (arith, found_inside c.requires (found_under _ _ _ c.highest_full-h.ensures c.height_of.ensures))
-
-pub offset_bounds-sizes-h : goal.offset_bounds-sizes-h
-offset_bounds-sizes-h c = omega (arith, found_inside c.requires (found_under _ _ _ c.highest_full-h.ensures c.height_of.ensures))
+pub bounds-tables-h : goal.bounds-tables-h
+bounds-tables-h c = omega (arith, found_inside c.requires (found_under _ _ _ c.highest_full-h.ensures c.height_of.ensures))
 
 pub bounds-sizes-h : goal.bounds-sizes-h
 bounds-sizes-h c = omega (arith, found_inside c.requires (found_under _ _ _ c.highest_full-h.ensures c.height_of.ensures))
@@ -33,4 +31,10 @@ split_plan-requires c =
 
 pub returns : goal.returns
 returns c =
-    inner_split _ _ _ _ _ _ _ (found_under _ _ _ c.highest_full-h.ensures c.height_of.ensures) c.if-h-eq0.false c.requires.numbers_are c.number-low.ensures c.left_border-border.ensures c.split_plan.ensures
+    inner_split _ _ _ _ _ _ _ (found_under _ _ _ c.highest_full-h.ensures c.height_of.ensures) c.if-h-eq0.false c.requires.numbers_are refl c.left_border-border.ensures c.split_plan.ensures
+
+pub offset_bounds-tables-h : goal.offset_bounds-tables-h
+offset_bounds-tables-h c = omega (arith, found_inside c.requires (found_under _ _ _ c.highest_full-h.ensures c.height_of.ensures))
+
+pub offset_bounds-sizes-h : goal.offset_bounds-sizes-h
+offset_bounds-sizes-h c = omega (arith, found_inside c.requires (found_under _ _ _ c.highest_full-h.ensures c.height_of.ensures))

@@ -15,4 +15,4 @@ overflow_add-result-2 c =
 pub returns : goal.returns
 unfolding plan_record
 returns c =
-    root_made _ _ _ _ _ _ c.count_of-n.ensures c.left_border-border.ensures.steps_are c.in_node-split.ensures c.less.ensures
+    root_made _ _ _ _ _ _ c.count_of-n.ensures c.left_border-border.ensures.steps_are c.in_node-split.ensures c.saturating_sub.ensures

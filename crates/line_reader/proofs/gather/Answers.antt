@@ -1,25 +1,13 @@
-use borrow.Author.Rules.{rules}
-use Rattle.line_reader.proofs.Gathering.{goes_first, goes_on, goes_feed, goes_end}
+-- `line_reader::gather` meets its contract: what it finds before a line feed is the stretch, and that is kept. Assumes nothing.
+use Rattle.std.proofs.Common.{eqb, rules, tests}
+use Rattle.std.proofs.lemmas.Iterator.{YieldsList-from_slice}
+use Rattle.std.proofs.lemmas.Iterator.Search.{position_from_yields_List}
+use Rattle.line_reader.proofs.Gathering.{stretch_found, stretch_front}
 use Rattle.line_reader.proofs.gather.Goals as goal
 
-pub loop-i-init : goal.loop-i-init
-loop-i-init c = goes_first _ _ _ _ _ c.within-h.ensures
-
-pub shape_of-line-then-byte-eq10 : goal.shape_of-line-then-byte-eq10
-shape_of-line-then-byte-eq10 c = c.loop-i.invariant.size
-
-pub returns-then-byte-eq10 : goal.returns-then-byte-eq10
-returns-then-byte-eq10 c = goes_feed c.loop-i.invariant c.loop-i-test.true c.if-byte-eq10.true
-
-pub push-h-requires : goal.push-h-requires
-push-h-requires c = c.loop-i.invariant.fits
-
-pub loop-i-preserved : goal.loop-i-preserved
-loop-i-preserved c =
-    goes_on c.loop-i.invariant _ _ (search rules) c.loop-i-test.true c.if-byte-eq10.false c.push-h.ensures
-
-pub shape_of-line : goal.shape_of-line
-shape_of-line c = c.loop-i.invariant.size
-
 pub returns : goal.returns
-returns c = goes_end c.loop-i.invariant c.loop-i-test.false
+returns g c =
+    let piece = c.args.piece.now in
+    let found = position_from_yields_List (λ x. eqb x 10) _ _ c.position-end.result c.position-end.ensures.ran (YieldsList-from_slice piece cc) (λ x b q k. search (rules, tests)) in
+    let taken = stretch_found piece found c.unwrap_or-taken.ensures in
+    record { taken = taken; gathered = rw (taken, stretch_front piece) at c.keep.ensures }

@@ -17,10 +17,10 @@ pub label_of-label-requires : goal.label_of-label-requires
 label_of-label-requires c = tag_room c.requires.tag_said
 
 pub bounds-tags-i : goal.bounds-tags-i
-bounds-tags-i c = omega (arith, c.requires.tag_in_bounds, ap length (one_unmarked c.requires.tag_said (rw c.kind_of.ensures at c.if-kind_of-ge-MARK.false)))
+bounds-tags-i c = omega (arith, c.requires.tags_room, ap length (one_unmarked c.requires.tag_said (rw c.kind_of.ensures at c.if-kind_of-ge-MARK.false)))
 
 pub bounds-labels-i : goal.bounds-labels-i
-bounds-labels-i c = omega (arith, c.requires.tag_in_bounds_2, ap length (one_unmarked c.requires.tag_said (rw c.kind_of.ensures at c.if-kind_of-ge-MARK.false)))
+bounds-labels-i c = omega (arith, c.requires.labels_room, ap length (one_unmarked c.requires.tag_said (rw c.kind_of.ensures at c.if-kind_of-ge-MARK.false)))
 
 pub returns : goal.returns
 returns c =

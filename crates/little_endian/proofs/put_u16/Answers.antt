@@ -1,11 +1,7 @@
 -- `little_endian::put_u16` meets its contract. Assumes nothing.
-use native.Mathlib.Omega.{arith}
-use lib.ListN.{length-set}
-use Rattle.little_endian.proofs.Stores.{two_put}
+use mathlib.Core.Path.{◌∙◌}
+use Rattle.little_endian.proofs.Stores.{two_low, part_put}
 use Rattle.little_endian.proofs.put_u16.Goals as goal
 
-pub bounds-bytes-at-2 : goal.bounds-bytes-at-2
-bounds-bytes-at-2 c = simp length-set (omega arith)
-
 pub returns : goal.returns
-returns c = two_put c.args.bytes.now c.args.at c.args.v
+returns c = part_put c.args.bytes.now c.args.at 2 c.args.v (c.copy_from_slice.ensures.after ∙ (c.to_le_bytes.ensures ∙ two_low c.args.v)) c.requires

@@ -1,11 +1,6 @@
 -- `little_endian::put_words` meets its contract: what is left to store from the loop's word on comes to the whole. Assumes nothing.
-use Prim.Native.Nat.{◌-◌}
-use lib.ListN.{length}
 use Rattle.little_endian.proofs.Stores.{Putting}
 use Rattle.little_endian.proofs.put_words.Given as goal
 
 abbrev pub invariant-loop-i : goal.invariant-loop-i
-invariant-loop-i l = Putting l.initial.bytes l.at l.words l.bytes l.place l.i
-
-abbrev pub decreases-loop-i : goal.decreases-loop-i
-decreases-loop-i l = length l.words - l.i
+invariant-loop-i l = Putting l.initial.bytes l.at l.words l.bytes l.i

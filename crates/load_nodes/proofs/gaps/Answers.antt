@@ -4,19 +4,10 @@ use Rattle.load_nodes.proofs.GapLaws.{room_below, room_small, gaps_none, gaps_mo
 use Rattle.load_nodes.proofs.gaps.Goals as goal
 
 pub loop-h-init : goal.loop-h-init
-loop-h-init c = (omega arith, gaps_none _ _)
-
-pub overflow_add-gaps : goal.overflow_add-gaps
-overflow_add-gaps c = omega (arith, c.requires.height)
-
-pub offset_bounds-widths-h : goal.offset_bounds-widths-h
-offset_bounds-widths-h c = omega (arith, c.requires.height)
+loop-h-init c = gaps_none _ _
 
 pub bounds-widths-h : goal.bounds-widths-h
 bounds-widths-h c = omega (arith, c.requires.height)
-
-pub offset_bounds-widths-h-in-loop-h : goal.offset_bounds-widths-h-in-loop-h
-offset_bounds-widths-h-in-loop-h c = omega (arith, c.requires.height)
 
 pub bounds-widths-h-in-loop-h : goal.bounds-widths-h-in-loop-h
 bounds-widths-h-in-loop-h c = omega (arith, c.requires.height)
@@ -27,23 +18,14 @@ overflow_mul-gaps c = record { fits = room_small _ _ _ _ c.requires c.loop-h-tes
 pub overflow_sub-gaps : goal.overflow_sub-gaps
 overflow_sub-gaps c = room_below _ _ _ _ c.requires c.loop-h-test.true
 
-pub offset_bounds-gaps-h : goal.offset_bounds-gaps-h
-offset_bounds-gaps-h c = omega (arith, c.requires.height)
-
 pub bounds-gaps-h : goal.bounds-gaps-h
 bounds-gaps-h c = omega (arith, c.requires.height)
 
-pub overflow_add-h : goal.overflow_add-h
-overflow_add-h c = omega (arith, c.requires.height)
-
-pub loop-h-smaller : goal.loop-h-smaller
-loop-h-smaller c = omega arith
-
 pub loop-h-preserved : goal.loop-h-preserved
 loop-h-preserved c =
-    (omega arith, gaps_more _ _ c.loop-h.h _ _ c.requires c.loop-h-test.true c.loop-h.invariant.1)
+    gaps_more _ _ c.loop-h.h _ _ c.requires c.loop-h-test.true c.loop-h.invariant
 
 pub returns : goal.returns
 returns c =
     let e : c.loop-h.h ≡ c.args.under = omega arith in
-    rw (← e) c.loop-h.invariant.1
+    rw (← e) c.loop-h.invariant

@@ -1,16 +1,9 @@
 -- `load_refuse::depth_after` meets its contract. Assumes nothing.
-use native.Mathlib.Omega.{arith}
 use Rattle.load_refuse.proofs.KindBits.{unmarked, no_mark, depth_sum}
 use Rattle.load_refuse.proofs.depth_after.Goals as goal
 
 pub at_begin-begins-requires : goal.at_begin-begins-requires
 at_begin-begins-requires c = unmarked _ c.requires.1
-
-pub ends-requires : goal.ends-requires
-ends-requires c = c.requires.1
-
-pub overflow_sub-result : goal.overflow_sub-result
-overflow_sub-result c = rw c.ends.ensures (omega arith)
 
 pub returns : goal.returns
 returns c =

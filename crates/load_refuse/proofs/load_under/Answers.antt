@@ -1,19 +1,9 @@
-use Prim.Native.Nat.{◌≤◌}
-use native.Mathlib.Nat.{mul-le-mul}
 use Rattle.load_refuse.proofs.Height.{search_starts, search_goes, height_below, search_ends}
 use native.Mathlib.Omega.{arith}
 use Rattle.load_refuse.proofs.load_under.Goals as goal
 
-pub overflow_mul-p : goal.overflow_mul-p
-overflow_mul-p c = omega arith
-
 pub loop-p-init : goal.loop-p-init
 loop-p-init c = search_starts c.args.r c.args.n
-
-pub overflow_mul-p-in-loop-p : goal.overflow_mul-p-in-loop-p
-overflow_mul-p-in-loop-p c =
-    let few : c.loop-p.p ≤ 200000 = omega arith in
-    omega (arith, mul-le-mul few c.requires.most)
 
 pub overflow_add-h : goal.overflow_add-h
 overflow_add-h c =

@@ -1,12 +1,8 @@
 -- `mark_call::mark_section` meets its contract: what is left from the loop's tag on is the whole. Assumes nothing.
-use Prim.Native.Nat.{◌-◌}
 use Rattle.mark_call.specs.Run.{tags_of}
 use Rattle.mark_call.proofs.Loop.{Left}
 use Rattle.mark_call.proofs.mark_section.Given as goal
 
-abbrev pub invariant-loop-steps : goal.invariant-loop-steps
-invariant-loop-steps l =
-    Left l.n l.last.0 l.initial.words (tags_of l.n l.initial.words l.initial.tag.0) l.words l.tag.0 l.marked l.steps
-
-abbrev pub decreases-loop-steps : goal.decreases-loop-steps
-decreases-loop-steps l = l.n - l.steps
+abbrev pub invariant-loop : goal.invariant-loop
+invariant-loop l =
+    Left l.n l.last.0 l.initial.words (tags_of l.n l.initial.words l.initial.tag.0) l.words l.tag.0 l.marked l.counter

@@ -1,3 +1,4 @@
+use mathlib.Core.Path.{◌≡◌, sym, ◌∙◌}
 use native.Mathlib.Omega.{arith}
 use Rattle.store_types.specs.Layout.{Records}
 use Rattle.words.proofs.Fields.{room, header_long}
@@ -15,24 +16,20 @@ at_least-requires c = (let it : Records c.args.words.now c.count_of-n.result = r
 
 pub prior_of-tag-requires : goal.prior_of-tag-requires
 prior_of-tag-requires c =
-    room (let it : Records c.args.words.now c.count_of-n.result = rw c.count_of-n.ensures c.requires in it) (left_below c.loop-steps.invariant c.loop-steps-test.true c.at_least.ensures c.if-at_least.true)
-
-pub overflow_add-steps : goal.overflow_add-steps
-overflow_add-steps c = omega arith
-
-pub loop-steps-smaller : goal.loop-steps-smaller
-loop-steps-smaller c = omega arith
+    room (let it : Records c.args.words.now c.count_of-n.result = rw c.count_of-n.ensures c.requires in it)
+    (left_below c.loop-steps.invariant c.loop-steps-test.true c.at_least.ensures c.if-not-at_least.false)
 
 pub loop-steps-preserved : goal.loop-steps-preserved
 loop-steps-preserved c =
-    left_on c.loop-steps.invariant c.loop-steps-test.true c.at_least.ensures c.if-at_least.true c.prior_of-tag.ensures
+    left_on c.loop-steps.invariant c.loop-steps-test.true c.at_least.ensures c.if-not-at_least.false c.prior_of-tag.ensures
 
-pub returns-else-at_least : goal.returns-else-at_least
-returns-else-at_least c =
-    let whole = left_stops c.loop-steps.invariant c.loop-steps-test.true c.at_least.ensures c.if-at_least.false in
+pub returns-then-not-at_least : goal.returns-then-not-at_least
+returns-then-not-at_least c =
+    let whole = left_stops c.loop-steps.invariant c.loop-steps-test.true c.at_least.ensures c.if-not-at_least.true in
     rw (← c.count_of-n.ensures) (record { tag_is = whole.0; steps_are = whole.1 })
 
-pub returns-after-loop-steps : goal.returns-after-loop-steps
-returns-after-loop-steps c =
+pub returns : goal.returns
+returns c =
     let whole = left_spent c.loop-steps.invariant c.loop-steps-test.false in
-    rw (← c.count_of-n.ensures) (record { tag_is = whole.0; steps_are = whole.1 })
+    let all : c.loop-steps.steps ≡ c.count_of-n.result = omega arith in
+    rw (← c.count_of-n.ensures) (record { tag_is = whole.0; steps_are = sym all ∙ whole.1 })

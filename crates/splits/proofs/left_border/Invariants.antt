@@ -1,6 +1,5 @@
 -- `splits::left_border` meets its contract. The loop's invariant: the walk left from here comes to the whole
--- (Leftward). The measure is how many steps are left. Assumes nothing.
-use Prim.Native.Nat.{◌-◌}
+-- (Leftward). Assumes nothing.
 use Rattle.edit_model.specs.Split.{left_border}
 use Rattle.splits.proofs.Splits.{Leftward}
 use Rattle.splits.proofs.left_border.Given as goal
@@ -8,7 +7,3 @@ use Rattle.splits.proofs.left_border.Given as goal
 abbrev pub invariant-loop-steps : goal.invariant-loop-steps
 invariant-loop-steps l =
     Leftward (left_border l.n l.n l.words l.low l.initial.tag.0) l.n l.words l.low l.tag.0 l.steps
-
-abbrev pub decreases-loop-steps : goal.decreases-loop-steps
-decreases-loop-steps l =
-    l.n - l.steps

@@ -5,4 +5,4 @@ use Rattle.terminal.proofs.run.Goals as goal
 
 pub returns : goal.returns
 returns g c =
-    on_ok c.serve_last.result (λ w. told_all _ (rw c.first_words-words.ensures at c.in_ok-held.ensures.told) w) c.serve_last.ensures
+    on_ok c.serve_last.result (λ w. told_all _ (rw (c.new-session.ensures.words, c.first_words-words.ensures) at c.in_ok-serve_all.ensures.told) w) c.serve_last.ensures

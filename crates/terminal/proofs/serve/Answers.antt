@@ -1,27 +1,34 @@
 -- `terminal::serve` meets its contract. Assumes nothing.
-use Rattle.std.proofs.Common.{◌≡◌, [], drop, arith, rules}
-use lib.ListN.{drop_of_length-le}
+use Rattle.std.proofs.Common.{◌≡◌, ◌<◌, ◌≤◌, length, arith, rules}
+use Rattle.std.proofs.lemmas.Grind.{common_steps}
 use Rattle.interpreter.proofs.Steps.{steps_forward}
 use Rattle.terminal.proofs.Turns.{going_on, going_over, passed_of}
 use Rattle.terminal.proofs.serve.Goals as goal
 
-pub loop-at-smaller : goal.loop-at-smaller
-loop-at-smaller g c =
-    omega (arith, (steps_forward c.args.piece.now c.loop-at.at c.step-s.ensures c.loop-at-test.true).0)
+pub slice_bounds-rest-count : goal.slice_bounds-rest-count
+slice_bounds-rest-count g c =
+    let some : 0 < length c.loop-rest.rest.now = let h = c.is_empty.ensures in grind (arith, common_steps) in
+    (steps_forward c.step-taken.ensures.steps some).1
 
-pub loop-at-preserved : goal.loop-at-preserved
-loop-at-preserved g c = record {
-  within = (steps_forward c.args.piece.now c.loop-at.at c.step-s.ensures c.loop-at-test.true).1;
-  size = search rules;
-  going = going_on c.args.piece.now c.loop-at.at c.loop-at.invariant.going c.step-s.ensures c.in_ok-print.ensures;
-}
+pub slice_bounds-rest-start : goal.slice_bounds-rest-start
+slice_bounds-rest-start g c =
+    let some : 0 < length c.loop-rest.rest.now = let h = c.is_empty.ensures in grind (arith, common_steps) in
+    let within : c.step-taken.result ≤ length c.loop-rest.rest.now = (steps_forward c.step-taken.ensures.steps some).1 in search rules
+
+pub loop-rest-smaller : goal.loop-rest-smaller
+loop-rest-smaller g c =
+    let some : 0 < length c.loop-rest.rest.now = let h = c.is_empty.ensures in grind (arith, common_steps) in
+    let forward = steps_forward c.step-taken.ensures.steps some in grind (arith, common_steps)
+
+pub loop-rest-preserved : goal.loop-rest-preserved
+loop-rest-preserved g c = going_on c.loop-rest.invariant c.step-taken.ensures.steps (rw c.as_slice.ensures.all at c.in_ok-print.ensures)
 
 pub returns-clause-passed : goal.returns-clause-passed
 returns-clause-passed g c =
-    let done : drop c.loop-at.at c.args.piece.now ≡ [] = drop_of_length-le c.args.piece.now c.loop-at-test.false in
-    passed_of (going_over (rw done at c.loop-at.invariant.going))
+    let none : length c.loop-rest.rest.now ≡ 0 = let h = c.is_empty.ensures in grind (arith, common_steps) in
+    passed_of (going_over _ none c.loop-rest.invariant)
 
 pub returns-clause-printed : goal.returns-clause-printed
 returns-clause-printed g c =
-    let done : drop c.loop-at.at c.args.piece.now ≡ [] = drop_of_length-le c.args.piece.now c.loop-at-test.false in
-    going_over (rw done at c.loop-at.invariant.going)
+    let none : length c.loop-rest.rest.now ≡ 0 = let h = c.is_empty.ensures in grind (arith, common_steps) in
+    going_over _ none c.loop-rest.invariant

@@ -11,9 +11,9 @@ abbrev pub invariant-loop-v : goal.invariant-loop-v
 invariant-loop-v l =
     (l.v.place ≤ l.size.n)
     × (l.pairs ≡ pair_table)
-    × Standing l.words l.size.n l.ends l.v
-    × (walk_at l.words l.tables l.size.n l.size.under l.v l.ends l.firsts ≡ walk_whole l.words l.tables l.size.n l.size.under)
-    × (sizes_at_tag l.words l.tables l.size.n l.size.under l.v l.ends l.firsts l.sizes ≡ sizes_whole l.words l.tables l.size.n l.size.under l.initial.sizes)
+    × Standing l.words l.size.n l.levels l.v
+    × (walk_at l.words l.tables l.size.n l.size.under l.v l.levels ≡ walk_whole l.words l.tables l.size.n l.size.under)
+    × (sizes_at_tag l.words l.tables l.size.n l.size.under l.v l.levels l.sizes ≡ sizes_whole l.words l.tables l.size.n l.size.under l.initial.sizes)
 
 abbrev pub decreases-loop-v : goal.decreases-loop-v
 decreases-loop-v l = l.size.n - l.v.place

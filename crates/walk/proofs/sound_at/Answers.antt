@@ -1,9 +1,8 @@
 -- `walk::sound_at` meets its contract. Assumes nothing.
-use mathlib.Core.Path.{◌≡◌, sym}
+use mathlib.Core.Path.{refl}
 use native.Mathlib.Omega.{arith}
-use Rattle.shape.specs.Packed.{Packed, numbers_in}
 use Rattle.shape.proofs.Fits.{lows_fit, highs_fit}
-use Rattle.shape.proofs.PartLaws.{packed_with}
+use Rattle.shape.proofs.Parts.{as_made}
 use Rattle.walk_levels.proofs.SizeLaws.{never}
 use Rattle.walk.proofs.SoundLaws.{framed_fits, frame, header_widths, width_table, root_fits, ancestors_fit, pass_fits, frame_refuses, root_refuses, pass_decides, sizes_taken, tables_taken}
 use Rattle.walk.proofs.sound_at.Goals as goal
@@ -55,20 +54,20 @@ pub overflow_sub-h : goal.overflow_sub-h
 overflow_sub-h c = omega (arith, (frame _ c.frame_passes.ensures c.if-not-frame_passes.false-raw))
 
 pub numbers-numbers-requires : goal.numbers-numbers-requires
-numbers-numbers-requires c =
-    rw (c.packed-header.ensures).widths_are (ancestors_fit _ (frame _ c.frame_passes.ensures c.if-not-frame_passes.false-raw) (width_table _ c.widths-widths.ensures))
+numbers-numbers-requires c = ancestors_fit _ (frame _ c.frame_passes.ensures c.if-not-frame_passes.false-raw) (width_table _ c.widths-widths.ensures)
 
 pub overflow_sub-size : goal.overflow_sub-size
 overflow_sub-size c = omega (arith, (frame _ c.frame_passes.ensures c.if-not-frame_passes.false-raw))
 
 pub pass-requires : goal.pass-requires
 pass-requires c =
-    let packed = (let it : Packed c.with_numbers.result c.widths-widths.result c.table-lows.result c.table-highs.result × (numbers_in c.with_numbers.result ≡ c.numbers-numbers.result) = (packed_with (c.packed-header.ensures) c.with_numbers.ensures, c.with_numbers.ensures.new) in it) in
-    let numbers = rw (c.packed-header.ensures).widths_are at c.numbers-numbers.ensures in
-    (pass_fits _ _ (frame _ c.frame_passes.ensures c.if-not-frame_passes.false-raw) c.table-lows.ensures packed.0 packed.1 (width_table _ c.widths-widths.ensures) c.table-highs.ensures numbers (omega (arith, c.watched_label-label.type_inv)), sym packed.0.widths_are)
+    pass_fits _ _ (frame _ c.frame_passes.ensures c.if-not-frame_passes.false-raw) c.table-lows.ensures as_made refl (width_table _ c.widths-widths.ensures) c.table-highs.ensures c.numbers-numbers.ensures (omega (arith, c.watched_label-label.type_inv))
 
 pub returns : goal.returns
 returns c =
-    let packed = (let it : Packed c.with_numbers.result c.widths-widths.result c.table-lows.result c.table-highs.result × (numbers_in c.with_numbers.result ≡ c.numbers-numbers.result) = (packed_with (c.packed-header.ensures) c.with_numbers.ensures, c.with_numbers.ensures.new) in it) in
     let widths = width_table _ c.widths-widths.ensures in
-    let numbers = rw (c.packed-header.ensures).widths_are at c.numbers-numbers.ensures in record { ok = pass_decides _ c.table-lows.ensures c.table-highs.ensures packed.0 widths c.frame_passes.ensures c.if-not-frame_passes.false-raw c.root_passes.ensures c.if-not-root_passes.false-raw c.pass.ensures.ok; tables = (λ t. tables_taken _ _ _ _ c.table-lows.ensures c.table-highs.ensures widths _ _ _ packed.0 packed.1 c.watched_label-label.ensures numbers (omega (arith, c.watched_label-label.type_inv))); sizes = (λ t. sizes_taken _ _ _ _ c.table-lows.ensures c.table-highs.ensures widths _ _ _ packed.0 packed.1 c.watched_label-label.ensures numbers _ (c.pass.ensures.sizes t)) }
+    record {
+      ok = pass_decides _ c.table-lows.ensures c.table-highs.ensures (as_made {ns = c.numbers-numbers.result}) widths c.frame_passes.ensures c.if-not-frame_passes.false-raw c.root_passes.ensures c.if-not-root_passes.false-raw c.pass.ensures.ok;
+      tables = λ t. tables_taken _ _ _ _ c.table-lows.ensures c.table-highs.ensures widths _ _ _ as_made refl c.watched_label-label.ensures c.numbers-numbers.ensures (omega (arith, c.watched_label-label.type_inv));
+      sizes = λ t. sizes_taken _ _ _ _ c.table-lows.ensures c.table-highs.ensures widths _ _ _ as_made refl c.watched_label-label.ensures c.numbers-numbers.ensures _ (c.pass.ensures.sizes t);
+    }

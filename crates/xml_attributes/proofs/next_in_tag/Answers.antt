@@ -1,5 +1,5 @@
 -- `xml_attributes::next_in_tag` meets its contract: by where the spaces end, and what stands there. Assumes nothing.
-use mathlib.Core.Path.{◌≡◌, sym}
+use mathlib.Core.Path.{◌≡◌, sym, ◌∙◌}
 use mathlib.Core.List.{List}
 use Prim.Native.Nat.{ℕ, ◌+◌, ◌≤◌}
 use native.Mathlib.Omega.{arith}
@@ -15,22 +15,22 @@ begun_within : (text : List ℕ) (at : ℕ) {begins : ℕ} → begins ≡ at + r
 begun_within text at e l = omega (arith, e, spaces_within text at l)
 
 pub stands-requires : goal.stands-requires
-stands-requires c = begun_within _ _ c.blank_end-begins.ensures c.requires.at_in_bounds
+stands-requires c = begun_within _ _ c.blank_end-begins.ensures c.requires
 
 pub overflow_add-result : goal.overflow_add-result
 overflow_add-result c =
-    let l = stands_within tag_closes c.args.text.now c.blank_end-begins.result (begun_within _ _ c.blank_end-begins.ensures c.requires.at_in_bounds) (sym c.if-stands.ensures) in
+    let l = stands_within tag_closes c.args.text.now c.blank_end-begins.result (begun_within _ _ c.blank_end-begins.ensures c.requires) (sym c.if-stands.ensures) in
     omega arith
 
 pub returns-then-stands : goal.returns-then-stands
 returns-then-stands c = next_closes _ _ _ c.blank_end-begins.ensures (sym c.if-stands.ensures)
 
 pub stands-requires-2 : goal.stands-requires-2
-stands-requires-2 c = begun_within _ _ c.blank_end-begins.ensures c.requires.at_in_bounds
+stands-requires-2 c = begun_within _ _ c.blank_end-begins.ensures c.requires
 
 pub overflow_add-result-then-stands-2 : goal.overflow_add-result-then-stands-2
 overflow_add-result-then-stands-2 c =
-    let l = stands_within lone_closes c.args.text.now c.blank_end-begins.result (begun_within _ _ c.blank_end-begins.ensures c.requires.at_in_bounds) (sym c.if-stands-2.ensures) in
+    let l = stands_within lone_closes c.args.text.now c.blank_end-begins.result (begun_within _ _ c.blank_end-begins.ensures c.requires) (sym c.if-stands-2.ensures) in
     omega arith
 
 pub returns-then-stands-2 : goal.returns-then-stands-2
@@ -43,14 +43,13 @@ returns-then-begins-at c =
 
 pub read_attribute-requires : goal.read_attribute-requires
 read_attribute-requires c =
-    record { at_in_bounds = begun_within _ _ c.blank_end-begins.ensures c.requires.at_in_bounds; classes = c.requires.classes }
+    begun_within _ _ c.blank_end-begins.ensures c.requires
 
-pub returns-in_default : goal.returns-in_default
-returns-in_default c =
-    next_nothing _ _ _ c.blank_end-begins.ensures (sym c.if-stands.ensures) (sym c.if-stands-2.ensures) c.if-begins-at.false
-    c.in_default.ensures
+pub returns-in_err-name : goal.returns-in_err-name
+returns-in_err-name c =
+    c.from_residual.ensures
+    ∙ next_nothing _ _ _ c.blank_end-begins.ensures (sym c.if-stands.ensures) (sym c.if-stands-2.ensures) c.if-begins-at.false (sym c.in_err-name.was ∙ c.read_attribute.ensures)
 
 pub returns : goal.returns
 returns c =
-    next_read _ _ _ c.blank_end-begins.ensures (sym c.if-stands.ensures) (sym c.if-stands-2.ensures) c.if-begins-at.false _ _
-    c.in-Read.ensures
+    next_read _ _ _ c.blank_end-begins.ensures (sym c.if-stands.ensures) (sym c.if-stands-2.ensures) c.if-begins-at.false _ (sym c.in_ok-name.was ∙ c.read_attribute.ensures)

@@ -15,11 +15,11 @@ returns-then-not-stands c =
 
 pub overflow_add-from : goal.overflow_add-from
 overflow_add-from c =
-    omega (arith, stands_within end_opens c.args.text.now c.args.at c.requires.at_in_bounds (sym c.if-not-stands.ensures))
+    omega (arith, stands_within end_opens c.args.text.now c.args.at c.requires (sym c.if-not-stands.ensures))
 
 pub stands-requires-2 : goal.stands-requires-2
 stands-requires-2 c =
-    stands_within end_opens c.args.text.now c.args.at c.requires.at_in_bounds (sym c.if-not-stands.ensures)
+    stands_within end_opens c.args.text.now c.args.at c.requires (sym c.if-not-stands.ensures)
 
 pub returns-then-not-stands-2 : goal.returns-then-not-stands-2
 returns-then-not-stands-2 c =
@@ -27,20 +27,20 @@ returns-then-not-stands-2 c =
 
 pub overflow_add-from-2 : goal.overflow_add-from-2
 overflow_add-from-2 c =
-    omega (arith, end_room c.args.text.now c.args.name.now c.args.at (sym c.if-not-stands.ensures) (sym c.if-not-stands-2.ensures) c.requires.at_in_bounds)
+    omega (arith, end_room c.args.text.now c.args.name.now c.args.at (sym c.if-not-stands.ensures) (sym c.if-not-stands-2.ensures) c.requires)
 
 pub blank_end-e-requires : goal.blank_end-e-requires
 blank_end-e-requires c =
-    record { from_in_bounds = end_room c.args.text.now c.args.name.now c.args.at (sym c.if-not-stands.ensures) (sym c.if-not-stands-2.ensures) c.requires.at_in_bounds; classes = c.requires.classes }
+    end_room c.args.text.now c.args.name.now c.args.at (sym c.if-not-stands.ensures) (sym c.if-not-stands-2.ensures) c.requires
 
 pub stands-requires-3 : goal.stands-requires-3
 stands-requires-3 c =
-    let room = end_room c.args.text.now c.args.name.now c.args.at (sym c.if-not-stands.ensures) (sym c.if-not-stands-2.ensures) c.requires.at_in_bounds in
+    let room = end_room c.args.text.now c.args.name.now c.args.at (sym c.if-not-stands.ensures) (sym c.if-not-stands-2.ensures) c.requires in
     omega (arith, c.blank_end-e.ensures, spaces_within c.args.text.now _ room)
 
 pub overflow_add-result : goal.overflow_add-result
 overflow_add-result c =
-    let room = end_room c.args.text.now c.args.name.now c.args.at (sym c.if-not-stands.ensures) (sym c.if-not-stands-2.ensures) c.requires.at_in_bounds in
+    let room = end_room c.args.text.now c.args.name.now c.args.at (sym c.if-not-stands.ensures) (sym c.if-not-stands-2.ensures) c.requires in
     let closes : starts_with tag_closes (drop c.blank_end-e.result c.args.text.now) ≡ true = sym c.if-stands.ensures in
     omega (arith, stands_within tag_closes c.args.text.now c.blank_end-e.result (omega (arith, c.blank_end-e.ensures, spaces_within c.args.text.now _ room)) closes)
 

@@ -4,9 +4,9 @@ use Rattle.xml_ends.proofs.ending.Goals as goal
 
 pub returns-in_default : goal.returns-in_default
 returns-in_default c =
-    ending_missing c.args.text.now c.args.name.now c.args.here c.args.kinds.now c.requires.in_text.0 c.requires.in_text.1 c.in_default.ensures
+    ending_missing c.args.text.now c.args.name.now c.args.here c.args.kinds.now c.requires.0 c.requires.1 c.in_default.ensures
 
 pub returns : goal.returns
 returns c =
-    rw (c.closed.ensures.part, c.closed.ensures.list)
-    (ending_found c.args.text.now c.args.name.now c.args.here c.args.kinds.now c.requires.in_text.0 c.requires.in_text.1 _ c.in-At.ensures)
+    rw (c.closed.ensures.cursor, c.closed.ensures.list)
+    (ending_found c.args.text.now c.args.name.now c.args.here c.args.kinds.now c.requires.0 c.requires.1 _ c.in-Some.ensures)

@@ -5,8 +5,7 @@ use Rattle.xml_read.proofs.read.Goals as goal
 
 pub content-part-requires : goal.content-part-requires
 content-part-requires c =
-    record { in_text = (record { within = omega arith; counted = omega arith }, omega arith); classes = c.requires.classes; sure = sure_whole _ _ c.requires.sure; arrays = c.requires.arrays }
+    record { in_text = (record { within = omega arith; counted = omega arith }, omega arith); sure = sure_whole _ _ c.requires }
 
 pub returns : goal.returns
-returns c =
-    record { read_whole = rw c.whole.ensures (read_whole _ _ _ _ c.content-part.ensures.reads c.content-part.ensures.ended); arrays = c.content-part.ensures.arrays }
+returns c = rw c.whole.ensures (read_whole _ _ _ _ c.content-part.ensures.reads c.content-part.ensures.ended)

@@ -5,7 +5,7 @@ use Rattle.xml_repeats.proofs.Passing.{Passing}
 use Rattle.xml_repeats.proofs.none_held.Given as goal
 
 abbrev pub invariant-loop-at : goal.invariant-loop-at
-invariant-loop-at l = Passing l.text l.from l.to l.starts l.count l.at
+invariant-loop-at l = Passing l.text l.from l.to l.index.starts l.count l.at
 
 abbrev pub decreases-loop-at : goal.decreases-loop-at
 decreases-loop-at l = l.to - l.at

@@ -1,33 +1,21 @@
--- `console::lines::parse` meets its contract, by the line's length, its word and what is behind it. Assumes nothing.
-use mathlib.Core.Path.{sym, ◌∙◌}
-use native.Mathlib.Omega.{arith}
-use Rattle.console.proofs.Words.{gives_plain, parsed_long}
-use Rattle.console.proofs.Parses.{line_one, word_within, line_load, line_two, line_many}
+-- `console::lines::parse` meets its contract, by the line's length, its word and what is after it. Assumes nothing.
+use Rattle.console.proofs.Words.{word_is}
+use Rattle.console.proofs.Parses.{line_long, line_one, line_load, line_two, line_many}
 use Rattle.console.proofs.lines.parse.Goals as goal
 
 pub returns-then-line-gt-LINE_LIMIT : goal.returns-then-line-gt-LINE_LIMIT
-returns-then-line-gt-LINE_LIMIT c = gives_plain (parsed_long c.args.line.now (omega arith))
+returns-then-line-gt-LINE_LIMIT c = line_long _ _ c.if-line-gt-LINE_LIMIT.true
 
-pub returns-then-e-line : goal.returns-then-e-line
-returns-then-e-line c = line_one _ _ c.if-line-gt-LINE_LIMIT.false c.field_end-e.ensures c.if-e-line.true c.one_field.ensures
+pub returns-in_default : goal.returns-in_default
+returns-in_default c = line_one _ c.if-line-gt-LINE_LIMIT.false _ (rw c.in_default.is at c.split_field.ensures) c.one_field.ensures
 
-pub overflow_add-rest : goal.overflow_add-rest
-overflow_add-rest c = omega (arith, word_within _ _ c.if-line-gt-LINE_LIMIT.false c.field_end-e.ensures c.if-e-line.false)
+pub returns-then-eq : goal.returns-then-eq
+returns-then-eq c = line_load _ c.if-line-gt-LINE_LIMIT.false (rw c.in-Some.is at c.split_field.ensures) _ (word_is _ c.if-eq.ensures c.as_slice.ensures) c.load.ensures
 
-pub slice_bounds-rest-count : goal.slice_bounds-rest-count
-slice_bounds-rest-count c = word_within _ _ c.if-line-gt-LINE_LIMIT.false c.field_end-e.ensures c.if-e-line.false
+pub returns-in-None : goal.returns-in-None
+returns-in-None c =
+    line_two _ c.if-line-gt-LINE_LIMIT.false (rw c.in-Some.is at c.split_field.ensures) _ (rw c.in-None.is at c.split_field-2.ensures) c.two_fields.ensures
 
-pub returns-then-same_bytes : goal.returns-then-same_bytes
-returns-then-same_bytes c =
-    line_load _ _ c.if-line-gt-LINE_LIMIT.false c.field_end-e.ensures c.if-e-line.false (sym c.same_bytes.ensures ∙ c.if-same_bytes.true) c.load.ensures
-
-pub returns-then-field_end-rest : goal.returns-then-field_end-rest
-returns-then-field_end-rest c =
-    gives_plain (line_many _ _ c.if-line-gt-LINE_LIMIT.false c.field_end-e.ensures c.if-e-line.false _ c.field_end.ensures (sym c.same_bytes.ensures ∙ c.if-same_bytes.false) c.if-field_end-rest.true)
-
-pub returns : goal.returns
-returns c =
-    line_two _ _ c.if-line-gt-LINE_LIMIT.false c.field_end-e.ensures c.if-e-line.false _ c.field_end.ensures c.if-field_end-rest.false c.two_fields.ensures
-
-pub slice_bounds-word-end : goal.slice_bounds-word-end
-slice_bounds-word-end c = omega (arith, word_within _ _ c.if-line-gt-LINE_LIMIT.false c.field_end-e.ensures c.if-e-line.false)
+pub returns-in-Some-more : goal.returns-in-Some-more
+returns-in-Some-more c =
+    line_many _ c.if-line-gt-LINE_LIMIT.false (rw c.in-Some.is at c.split_field.ensures) (rw c.in-Some-more.is at c.split_field-2.ensures) (word_is _ c.if-eq.ensures c.as_slice.ensures)

@@ -1,20 +1,26 @@
 -- `interpreter::reply::list` meets its contract, by the call's reply. Assumes nothing.
-use Prim.Native.Nat.{ℕ}
-use lib.ListN.{length-replicate}
-use borrow.Author.Rules.{rules}
-use Rattle.interpreter.specs.Answer.{book_tags}
-use Rattle.interpreter.proofs.Commands.{says_same, list_room, list_yes, list_no}
+use Rattle.std.proofs.Common.{length, ap, arith, rules}
+use Rattle.interpreter.proofs.Commands.{listed_few, listed_fits, listed_taken, listed_yes, listed_no}
 use Rattle.interpreter.proofs.reply.list.Goals as goal
+
+pub slice_bounds-tags-end : goal.slice_bounds-tags-end
+slice_bounds-tags-end c = listed_fits _ _ c.list.ensures.reply c.in-Ok.is _ (search rules)
+
+pub slice_bounds-listed-end : goal.slice_bounds-listed-end
+slice_bounds-listed-end c = listed_taken _ _ c.list.ensures.reply c.in-Ok.is _ (search rules)
+
+pub slice_bounds-labels-end : goal.slice_bounds-labels-end
+slice_bounds-labels-end c = listed_fits _ _ c.list.ensures.reply c.in-Ok.is _ (search rules)
+
+pub slice_bounds-listed-end-in-Ok : goal.slice_bounds-listed-end-in-Ok
+slice_bounds-listed-end-in-Ok c = listed_taken _ _ c.list.ensures.reply c.in-Ok.is _ (search rules)
 
 pub listed-requires : goal.listed-requires
 listed-requires c =
-    list_room _ _ _ (length-replicate {A = ℕ} book_tags 0) (length-replicate {A = ℕ} book_tags 0) _ _ _ _ _ c.list.ensures.reply c.in-Listed.is
-    (search rules) (search rules) c.requires
+    record { lines = omega (arith, listed_few _ _ c.list.ensures.reply c.in-Ok.is, listed_taken _ _ c.list.ensures.reply c.in-Ok.is c.list.new.tags (search rules), ap length c.requires) }
 
-pub returns-in-Listed : goal.returns-in-Listed
-returns-in-Listed c =
-    says_same (list_yes _ _ _ (length-replicate {A = ℕ} book_tags 0) (length-replicate {A = ℕ} book_tags 0) _ _ _ _ c.list.ensures.reply c.in-Listed.is c.list.ensures.tags c.list.ensures.labels) c.listed.ensures
+pub returns-in-Ok : goal.returns-in-Ok
+returns-in-Ok c = rw (listed_yes _ _ c.list.ensures.reply c.in-Ok.is (search rules) c.list.ensures.tags c.list.ensures.labels) at c.listed.ensures
 
-pub returns-in-Refused : goal.returns-in-Refused
-returns-in-Refused c =
-    says_same (list_no _ _ _ (length-replicate {A = ℕ} book_tags 0) (length-replicate {A = ℕ} book_tags 0) _ _ c.list.ensures.reply c.in-Refused.is) c.no_line.ensures
+pub returns-in-Err : goal.returns-in-Err
+returns-in-Err c = rw (c.number.ensures, listed_no _ c.list.ensures.reply c.in-Err.is) at c.no_line.ensures

@@ -5,12 +5,12 @@ use Rattle.xml_pieces.proofs.pieces.cdata.Goals as goal
 
 pub returns-in_default : goal.returns-in_default
 returns-in_default c =
-    cdata_missing c.args.text.now c.args.at (omega (arith, c.requires.cdata_opens_in_bounds.0)) c.requires.cdata_opens_in_bounds.1 c.in_default.ensures
+    cdata_missing c.args.text.now c.args.at (omega (arith, c.requires.0)) c.requires.1 c.in_default.ensures
 
 pub overflow_add-result : goal.overflow_add-result
 overflow_add-result c =
-    omega (arith, text_within _ _ _ (cdata_found c.args.text.now c.args.at (omega (arith, c.requires.cdata_opens_in_bounds.0)) c.requires.cdata_opens_in_bounds.1 _ c.in-At.ensures))
+    omega (arith, text_within _ _ _ (cdata_found c.args.text.now c.args.at (omega (arith, c.requires.0)) c.requires.1 _ c.in-Some.ensures))
 
 pub returns : goal.returns
 returns c =
-    cdata_found c.args.text.now c.args.at (omega (arith, c.requires.cdata_opens_in_bounds.0)) c.requires.cdata_opens_in_bounds.1 _ c.in-At.ensures
+    cdata_found c.args.text.now c.args.at (omega (arith, c.requires.0)) c.requires.1 _ c.in-Some.ensures

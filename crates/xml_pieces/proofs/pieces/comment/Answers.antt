@@ -7,20 +7,20 @@ use Rattle.xml_pieces.proofs.pieces.comment.Goals as goal
 
 pub returns-in_default : goal.returns-in_default
 returns-in_default c =
-    comment_missing c.args.text.now c.args.at (omega (arith, c.requires.comment_opens_in_bounds.0)) c.requires.comment_opens_in_bounds.1 c.in_default.ensures
+    comment_missing c.args.text.now c.args.at (omega (arith, c.requires.0)) c.requires.1 c.in_default.ensures
 
 pub stands-requires : goal.stands-requires
 stands-requires c =
-    body_within c.args.text.now (c.args.at + 4) _ c.in-At.ensures
+    body_within c.args.text.now (c.args.at + 4) _ c.in-Some.ensures
 
 pub overflow_add-result : goal.overflow_add-result
 overflow_add-result c =
-    omega (arith, comment_within _ _ _ (comment_found c.args.text.now c.args.at (omega (arith, c.requires.comment_opens_in_bounds.0)) c.requires.comment_opens_in_bounds.1 _ c.in-At.ensures (sym c.if-stands.ensures)))
+    omega (arith, comment_within _ _ _ (comment_found c.args.text.now c.args.at (omega (arith, c.requires.0)) c.requires.1 _ c.in-Some.ensures (sym c.if-stands.ensures)))
 
 pub returns-then-stands : goal.returns-then-stands
 returns-then-stands c =
-    comment_found c.args.text.now c.args.at (omega (arith, c.requires.comment_opens_in_bounds.0)) c.requires.comment_opens_in_bounds.1 _ c.in-At.ensures (sym c.if-stands.ensures)
+    comment_found c.args.text.now c.args.at (omega (arith, c.requires.0)) c.requires.1 _ c.in-Some.ensures (sym c.if-stands.ensures)
 
 pub returns : goal.returns
 returns c =
-    comment_open c.args.text.now c.args.at (omega (arith, c.requires.comment_opens_in_bounds.0)) c.requires.comment_opens_in_bounds.1 _ c.in-At.ensures (sym c.if-stands.ensures)
+    comment_open c.args.text.now c.args.at (omega (arith, c.requires.0)) c.requires.1 _ c.in-Some.ensures (sym c.if-stands.ensures)

@@ -8,26 +8,26 @@ use Rattle.xml_pieces.proofs.pieces.markup.Goals as goal
 pub comment-requires : goal.comment-requires
 comment-requires c =
     let stands = sym c.if-stands.ensures in
-    record { comment_opens_in_bounds = (stands_within _ c.args.text.now c.args.at (omega (arith, c.requires.at_in_bounds.0)) stands, stands); classes = c.requires.classes }
+    (stands_within _ c.args.text.now c.args.at (omega (arith, c.requires.0)) stands, stands)
 
 pub cdata-requires : goal.cdata-requires
 cdata-requires c =
     let stands = sym c.if-stands-2.ensures in
-    record { cdata_opens_in_bounds = (stands_within _ c.args.text.now c.args.at (omega (arith, c.requires.at_in_bounds.0)) stands, stands); classes = c.requires.classes }
+    (stands_within _ c.args.text.now c.args.at (omega (arith, c.requires.0)) stands, stands)
 
 pub returns-then-stands-3 : goal.returns-then-stands-3
 returns-then-stands-3 c =
-    instruction_refused c.args.text.now c.args.at c.requires.at_in_bounds.0 c.requires.at_in_bounds.1 (sym c.if-stands.ensures)
+    instruction_refused c.args.text.now c.args.at c.requires.0 c.requires.1 (sym c.if-stands.ensures)
     (sym c.if-stands-2.ensures) (sym c.if-stands-3.ensures)
 
 pub returns-then-stands-4 : goal.returns-then-stands-4
 returns-then-stands-4 c =
-    doctype_refused c.args.text.now c.args.at c.requires.at_in_bounds.0 c.requires.at_in_bounds.1 (sym c.if-stands.ensures)
+    doctype_refused c.args.text.now c.args.at c.requires.0 c.requires.1 (sym c.if-stands.ensures)
     (sym c.if-stands-2.ensures) (sym c.if-stands-3.ensures)
     (sym c.if-stands-4.ensures)
 
 pub returns : goal.returns
 returns c =
-    declaration_refused c.args.text.now c.args.at c.requires.at_in_bounds.0 c.requires.at_in_bounds.1 (sym c.if-stands.ensures)
+    declaration_refused c.args.text.now c.args.at c.requires.0 c.requires.1 (sym c.if-stands.ensures)
     (sym c.if-stands-2.ensures) (sym c.if-stands-3.ensures)
     (sym c.if-stands-4.ensures)

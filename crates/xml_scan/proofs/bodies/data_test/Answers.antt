@@ -1,31 +1,32 @@
 -- `xml_scan::data_test` meets its contract, by the class of the byte and then the byte. Assumes nothing.
-use mathlib.Core.Path.{sym}
+use mathlib.Core.Path.{sym, ◌∙◌}
 use native.Mathlib.Omega.{arith}
 use Rattle.xml_scan.proofs.DataSteps.{test_less, test_ampersand, test_closer, test_forbidden, test_on, test_other, test_plain}
 use Rattle.xml_scan.proofs.bodies.data_test.Goals as goal
 
-pub returns-then-k-eq-FORBIDDEN : goal.returns-then-k-eq-FORBIDDEN
-returns-then-k-eq-FORBIDDEN c = test_forbidden c.args.text.now c.args.at c.requires.at_in_bounds (omega (arith, c.type_inv.text c.args.at)) _ c.class_of-k.ensures c.if-k-eq-FORBIDDEN.true
+pub returns-in-Forbidden : goal.returns-in-Forbidden
+returns-in-Forbidden c = test_forbidden c.args.text.now c.args.at c.requires (omega (arith, c.type_inv.text c.args.at)) (sym c.class_of.ensures ∙ c.in-Forbidden.is)
 
-pub returns-then-k-ne-OTHER : goal.returns-then-k-ne-OTHER
-returns-then-k-ne-OTHER c =
-    test_plain c.args.text.now c.args.at c.requires.at_in_bounds (omega (arith, c.type_inv.text c.args.at)) _ c.class_of-k.ensures c.if-k-eq-FORBIDDEN.false c.if-k-ne-OTHER.true
+pub returns-in_default : goal.returns-in_default
+returns-in_default c =
+    test_plain c.args.text.now c.args.at c.requires (omega (arith, c.type_inv.text c.args.at))
+    (λ e. c.in_default.not-Forbidden (c.class_of.ensures ∙ e)) (λ e. c.in_default.not-Other (c.class_of.ensures ∙ e))
 
 pub returns-then-c-eq60 : goal.returns-then-c-eq60
-returns-then-c-eq60 c = test_less _ _ c.requires.at_in_bounds c.if-c-eq60.true
+returns-then-c-eq60 c = test_less _ _ c.requires c.if-c-eq60.true
 
 pub returns-then-c-eq38 : goal.returns-then-c-eq38
-returns-then-c-eq38 c = test_ampersand _ _ c.requires.at_in_bounds c.if-c-eq38.true
+returns-then-c-eq38 c = test_ampersand _ _ c.requires c.if-c-eq38.true
 
 pub returns-then-c-ne93 : goal.returns-then-c-ne93
 returns-then-c-ne93 c =
-    test_other c.args.text.now c.args.at c.requires.at_in_bounds (omega (arith, c.type_inv.text c.args.at)) _ c.class_of-k.ensures c.if-k-eq-FORBIDDEN.false c.if-c-eq60.false c.if-c-eq38.false c.if-c-ne93.true
+    test_other c.args.text.now c.args.at c.requires (omega (arith, c.type_inv.text c.args.at)) (λ e. cc (c.class_of.ensures, c.in-Other.is, e)) c.if-c-eq60.false c.if-c-eq38.false c.if-c-ne93.true
 
 pub returns-then-stands : goal.returns-then-stands
 returns-then-stands c =
-    test_closer _ _ c.requires.at_in_bounds c.if-c-eq60.false c.if-c-eq38.false (sym c.if-stands.ensures)
+    test_closer _ _ c.requires c.if-c-eq60.false c.if-c-eq38.false (sym c.if-stands.ensures)
 
 pub returns : goal.returns
 returns c =
-    test_on c.args.text.now c.args.at c.requires.at_in_bounds (omega (arith, c.type_inv.text c.args.at)) _ c.class_of-k.ensures c.if-k-eq-FORBIDDEN.false c.if-c-eq60.false c.if-c-eq38.false
+    test_on c.args.text.now c.args.at c.requires (omega (arith, c.type_inv.text c.args.at)) (λ e. cc (c.class_of.ensures, c.in-Other.is, e)) c.if-c-eq60.false c.if-c-eq38.false
     (sym c.if-stands.ensures)

@@ -1,10 +1,11 @@
 use mathlib.Core.Path.{sym, ◌∙◌}
 use native.Mathlib.Omega.{arith}
-use Rattle.xml_scan.proofs.RunSteps.{running_start, running_stop, usual_bytes, passed_1, passed_2, passed_3, passed_4}
+use Rattle.xml_classes.specs.Classes.{is_usual}
+use Rattle.xml_scan.proofs.RunSteps.{running_start, running_stop, passed_1, passed_2, passed_3, passed_4}
 use Rattle.xml_scan.proofs.runs.words_end.Goals as goal
 
 pub loop-i-init : goal.loop-i-init
-loop-i-init c = running_start _ _ _ c.requires.from_in_bounds
+loop-i-init c = running_start _ _ _ c.requires
 
 pub returns-then-not-is_usual : goal.returns-then-not-is_usual
 returns-then-not-is_usual c = running_stop c.loop-i.invariant (omega arith) (sym c.if-not-is_usual.ensures)
@@ -37,4 +38,4 @@ loop-i-preserved c =
     (sym c.if-not-is_usual-4.ensures)
 
 pub returns : goal.returns
-returns c = rw (← usual_bytes) c.run_end.ensures ∙ c.loop-i.invariant.rest
+returns c = c.run_end.ensures is_usual (λ b t l e. e) ∙ c.loop-i.invariant.rest

@@ -6,7 +6,7 @@ use Rattle.xml_tag.proofs.GatherSteps.{Gathering}
 use Rattle.xml_tag.proofs.gather.gather.Given as goal
 
 abbrev pub invariant-loop-at : goal.invariant-loop-at
-invariant-loop-at l = Gathering l.text l.from l.starts l.filter l.shared l.count l.at
+invariant-loop-at l = Gathering l.text l.from l.index.starts l.filter l.shared l.count l.at
 
 abbrev pub decreases-loop-at : goal.decreases-loop-at
 decreases-loop-at l = length l.text - l.at

@@ -1,5 +1,5 @@
 -- `xml_tag::tag` meets its contract: a name, and what stands after it. Assumes nothing.
-use mathlib.Core.Path.{◌≡◌, refl, sym}
+use mathlib.Core.Path.{◌≡◌, refl, sym, ◌∙◌}
 use mathlib.Core.List.{List}
 use Prim.Native.Nat.{ℕ, ◌+◌, ◌<◌, ◌≤◌}
 use native.Mathlib.Omega.{arith}
@@ -15,7 +15,7 @@ named_within : (text : List ℕ) (at : ℕ) {name : ℕ} → name ≡ at + 1 + n
 named_within text at n l = omega (arith, n, name_end_within text (at + 1) (omega arith))
 
 pub returns-then-name-at : goal.returns-then-name-at
-returns-then-name-at c = record { value = tag_nameless _ _ _ c.name_end-name.ensures c.if-name-at.true; arrays = c.requires.arrays }
+returns-then-name-at c = tag_nameless _ _ _ c.name_end-name.ensures c.if-name-at.true
 
 pub stands-requires : goal.stands-requires
 stands-requires c = named_within _ _ c.name_end-name.ensures c.requires.at_in_bounds
@@ -27,7 +27,7 @@ overflow_add-result c =
 
 pub returns-then-stands : goal.returns-then-stands
 returns-then-stands c =
-    record { value = tag_whole _ _ _ c.name_end-name.ensures (right_closed _ _ _ c.name_end-name.ensures (sym c.if-stands.ensures)) c.if-name-at.false refl; arrays = c.requires.arrays }
+    tag_whole _ _ _ c.name_end-name.ensures (right_closed _ _ _ c.name_end-name.ensures (sym c.if-stands.ensures)) c.if-name-at.false refl
 
 pub stands-requires-2 : goal.stands-requires-2
 stands-requires-2 c = named_within _ _ c.name_end-name.ensures c.requires.at_in_bounds
@@ -39,16 +39,16 @@ overflow_add-result-then-stands-2 c =
 
 pub returns-then-stands-2 : goal.returns-then-stands-2
 returns-then-stands-2 c =
-    record { value = tag_whole _ _ _ c.name_end-name.ensures (right_lone _ _ _ c.name_end-name.ensures (sym c.if-stands-2.ensures)) c.if-name-at.false refl; arrays = c.requires.arrays }
+    tag_whole _ _ _ c.name_end-name.ensures (right_lone _ _ _ c.name_end-name.ensures (sym c.if-stands-2.ensures)) c.if-name-at.false refl
 
-pub tail-requires : goal.tail-requires
-tail-requires c =
-    record { from_in_bounds = named_within _ _ c.name_end-name.ensures c.requires.at_in_bounds; classes = c.requires.classes; looks = (λ l. tag_ended _ _ _ c.name_end-name.ensures (c.requires.looks l)); arrays = c.requires.arrays }
+pub tail-requires-clause-from_in_bounds : goal.tail-requires-clause-from_in_bounds
+tail-requires-clause-from_in_bounds c = named_within _ _ c.name_end-name.ensures c.requires.at_in_bounds
 
-pub returns-in_default : goal.returns-in_default
-returns-in_default c =
-    record { value = tag_broken _ _ _ c.name_end-name.ensures c.tail.ensures.value c.in_default.is; arrays = c.tail.ensures.arrays }
+pub tail-requires-clause-looks : goal.tail-requires-clause-looks
+tail-requires-clause-looks c = λ l. tag_ended _ _ _ c.name_end-name.ensures (c.requires.looks l)
+
+pub returns-in_err-end : goal.returns-in_err-end
+returns-in_err-end c = c.from_residual.ensures ∙ tag_broken _ _ _ c.name_end-name.ensures c.tail.ensures c.in_err-end.was
 
 pub returns : goal.returns
-returns c =
-    record { value = tag_whole _ _ _ c.name_end-name.ensures c.tail.ensures.value c.if-name-at.false c.in-Whole.is; arrays = c.tail.ensures.arrays }
+returns c = tag_whole _ _ _ c.name_end-name.ensures c.tail.ensures c.if-name-at.false c.in_ok-end.was

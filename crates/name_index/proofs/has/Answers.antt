@@ -1,6 +1,0 @@
--- `name_index::has` meets its contract, by what the search told. Assumes nothing.
-use Rattle.name_index.proofs.Entries.{told_among}
-use Rattle.name_index.proofs.has.Goals as goal
-
-pub returns : goal.returns
-returns c = told_among c.search-s.ensures.told
