@@ -9,6 +9,8 @@ ghost use Rattle.c_replies.specs.Flat.{c_loaded, c_inserted, c_held, c_answered,
 
 use store_types::{Act, Answer, HeldPair, Label, PartyAnswer, Refusal, TagId};
 
+mod by_number;
+
 #[repr(C)]
 #[derive(Clone, Copy, Default)]
 pub struct Loaded {

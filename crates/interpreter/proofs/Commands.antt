@@ -154,11 +154,11 @@ module _ (ws ts ls : List ℕ) (a : length ts ≡ book_tags) (b : length ls ≡ 
           rw (tags, labels, m)
       go (suc k) z = absurd (let y : ◌≡◌ {A = ℕ} 0 1 = cc in omega arith)
 
-  list_yes : (q : Result ℕ ℕ) (n : ℕ) (ts' ls' : List ℕ) → q ≡ list_reply no_tag ws ts ls → q ≡ Ok n → ts' ≡ list_tags no_tag ws ts ls → ls' ≡ list_labels no_tag ws ts ls →
+  pub list_yes : (q : Result ℕ ℕ) (n : ℕ) (ts' ls' : List ℕ) → q ≡ list_reply no_tag ws ts ls → q ≡ Ok n → ts' ≡ list_tags no_tag ws ts ls → ls' ≡ list_labels no_tag ws ts ls →
       tag_lines (take n ts') (take n ls') ++ end_line n ≡ list_text ws
   list_yes q n ts' ls' e f k m = rw (k, m) (sym (list_listed n (sym f ∙ e)))
 
-  list_no : (q : Result ℕ ℕ) (k : ℕ) → q ≡ list_reply no_tag ws ts ls → q ≡ Err k → reply_line (k ∷ []) ≡ list_text ws
+  pub list_no : (q : Result ℕ ℕ) (k : ℕ) → q ≡ list_reply no_tag ws ts ls → q ≡ Err k → reply_line (k ∷ []) ≡ list_text ws
   unfolding list_reply replied listing
   list_no q k e f = sym (prints ∙ go (list_refused no_tag ws ts ls) (sym f ∙ e))
     where

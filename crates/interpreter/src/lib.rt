@@ -5,6 +5,7 @@
 use byte_list::ByteList;
 use console::LINE_LIMIT;
 
+pub mod lent;
 mod reply;
 mod say;
 mod session;

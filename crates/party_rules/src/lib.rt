@@ -12,6 +12,8 @@ use store_types::{
     Act, Answer, INSERT, Inserted, Loaded, MOST_PARTY, PartyAnswer, READ, Refusal, WRITE,
 };
 
+pub mod by_number;
+
 // 17, before the store is read: a party out of range, rights that do not fit the call, or a count above the list's length.
 #[tactic(auto, unfolding(calls::specs::Rights::range_refusal, store_types::specs::Replies::refusal_in, store_types::specs::Replies::number_of))]
 pub fn check_range(fit: bool, party: u32, count: usize, room: usize) -> Result<(), Refusal>

@@ -1,3 +1,4 @@
 pub mod Text
 pub mod Room
+pub mod Post
 pub mod Specimens

@@ -7,6 +7,8 @@ ghost use Rattle.reply_text.specs.Room.{LineRoom};
 
 use byte_list::ByteList;
 
+pub mod lent;
+
 // The digits of a number, the highest first. A word has at most ten.
 #[tactic(auto, using(crate::proofs::Digits::digit_steps))]
 pub fn put_number<const N: usize>(out: &mut ByteList<N>, n: u32)

@@ -11,6 +11,8 @@ ghost use Rattle.calls.specs.Rights.{emptied_by, act_reply, act_words};
 use shape::{TABLE_LENGTH, Tables};
 use store_types::{Act, INSERT, Loaded, PartyAnswer, Refusal};
 
+pub mod by_number;
+
 // A party's call, where `checked` is 17 or none and `granted` says whether a live grant gives it the right on the pair's section. The
 // store is walked once, at the tag.
 #[tactic(auto, using(crate::proofs::Parties::of_a_party), unfolding(store_types::specs::Replies::refusal_in, store_types::specs::Replies::numbered))]

@@ -1,0 +1,40 @@
+// A line in hand at the front of lent bytes, for a caller that has bytes of its own.
+ghost use Rattle.std.specs.Prelude.{◌≡◌, min, length, take, drop};
+ghost use Rattle.line_reader.specs.Gather.{Gathers};
+
+// The place where a stretch without a line feed ends, and how many bytes of the line are then in hand.
+#[derive(Clone, Copy)]
+pub struct Gathered {
+    pub at: usize,
+    pub held: usize,
+}
+
+// So many bytes, or as many as there is room for.
+pub fn within(held: usize, line: &[u8]) -> usize
+    ensures { result ≡ min held (length line.now) }
+{
+    held.min(line.len())
+}
+
+// What a piece has from a place on: nothing after its end.
+fn rest(piece: &[u8], from: usize) -> &[u8]
+    ensures { result.now ≡ drop from piece.now }
+{
+    &piece[within(from, piece)..]
+}
+
+// The bytes of a piece from a place on, up to a line feed or to its end, go after those in hand, as many as there is room for.
+pub fn gather(piece: &[u8], from: usize, line: &mut [u8], held: usize) -> Gathered
+    ensures { Gathers (take held line.old) (drop from piece.now) from line.new result.at result.held }
+{
+    let rest = rest(piece, from);
+    let taken = crate::stretch(rest);
+    let begun = within(held, line);
+    let kept = taken.min(line.len() - begun);
+    let held = begun + kept;
+    line[begun..held].copy_from_slice(&rest[..kept]);
+    Gathered {
+        at: from + taken,
+        held,
+    }
+}
