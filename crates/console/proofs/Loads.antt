@@ -2,7 +2,7 @@
 use mathlib.Core.Path.{◌≡◌, refl, ap, sym, ◌∙◌}
 use mathlib.Core.Bool.{Bool, true, false, ◌&&◌, ◌||◌, cond}
 use mathlib.Core.List.{List, [], ◌∷◌, map}
-use Prim.Native.Nat.{ℕ, suc, ◌≤◌, ◌<◌}
+use Prim.Native.Nat.{ℕ, suc, ◌+◌, ◌≤◌, ◌<◌}
 use native.Mathlib.Omega.{arith}
 use borrow.Author.Tests.{eqb-true, eqb-false}
 use lib.Dec.{eqb}
@@ -40,6 +40,25 @@ letters_one (c ∷ cs) e = go (is_letter c) refl e (λ z. letters_one cs z)
     go : (t : Bool) → is_letter c ≡ t → (t && all_letters cs) ≡ true → (all_letters cs ≡ true → first_space cs ≡ length cs) → cond (eqb c 32) 0 (suc (first_space cs)) ≡ suc (length cs)
     go true q z rest = rw (letter_no_space c q) (ap suc (rest z))
     go false q z rest = absurd (let k : ◌≡◌ {A = ℕ} 0 1 = cc in omega arith)
+
+-- THE ENDS of three numbers, one after the other, where fields follow the first two: more stands after the first, and the second
+pub record Ends (cs : List ℕ) (e f g : ℕ) : Type 0 where
+  pub first : e ≡ 0 + first_space (drop 0 cs)
+  pub goes_on : e ≡ length cs → ⊥
+  pub second : f ≡ e + 1 + first_space (drop (e + 1) cs)
+  pub goes_further : f ≡ length cs → ⊥
+  pub third : g ≡ f + 1 + first_space (drop (f + 1) cs)
+
+pub ends : {cs : List ℕ} {e f g : ℕ} → e ≡ 0 + first_space (drop 0 cs) → (e ≡ length cs → ⊥) → f ≡ e + 1 + first_space (drop (e + 1) cs) →
+    (f ≡ length cs → ⊥) → g ≡ f + 1 + first_space (drop (f + 1) cs) → Ends cs e f g
+ends p m q n r = record { first = p; goes_on = m; second = q; goes_further = n; third = r }
+
+pub one_within : (cs : List ℕ) (e : ℕ) → e ≡ 0 + first_space (drop 0 cs) → (e ≡ length cs → ⊥) → e + 1 ≤ length cs
+one_within cs e q n = omega (arith, first_space_within cs, q, n)
+
+pub two_within : (cs : List ℕ) (e f : ℕ) → e ≡ 0 + first_space (drop 0 cs) → (e ≡ length cs → ⊥) → f ≡ e + 1 + first_space (drop (e + 1) cs) →
+    (f ≡ length cs → ⊥) → f + 1 ≤ length cs
+two_within cs e f q n p m = omega (arith, one_within cs e q n, first_space_within (drop (e + 1) cs), length-drop (e + 1) cs, p, m)
 
 -- letters that are absent are none
 pub letters_or_none : (o : Option (Bor (List ℕ))) (default : Bor (List ℕ)) → default.now ≡ [] → (unwrap_or o default).now ≡ unwrap_or (option_map (λ r. r.now) o) []

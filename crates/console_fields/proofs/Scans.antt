@@ -34,6 +34,19 @@ first_space_within (c ∷ cs) = go (eqb c 32) (first_space_within cs)
     go true l = omega arith
     go false l = omega arith
 
+module _ (cs : List ℕ) (i : ℕ) where
+  pub space_here : i < length cs → get_or cs i 0 ≡ 32 → first_space (drop i cs) ≡ 0
+  unfolding first_space
+  space_here l e = rw (drop-cons cs i 0 l, eq-eqb (get_or cs i 0) 32 e)
+
+  pub space_turn : i < length cs → (get_or cs i 0 ≡ 32 → ⊥) → first_space (drop i cs) ≡ suc (first_space (drop (i + 1) cs))
+  unfolding first_space
+  space_turn l n = rw (add-one i, drop-cons cs i 0 l, ne_eqb (get_or cs i 0) 32 n)
+
+  pub space_end : length cs ≤ i → first_space (drop i cs) ≡ 0
+  unfolding first_space
+  space_end l = rw (drop_of_length-le cs l)
+
 -- what a search for a space says
 module _ (cs : List ℕ) {o : Option ℕ} (q : o ≡ cond (ltb (first_space cs) (length cs)) (Some (first_space cs)) None) where
   pub split_some : {e : ℕ} → o ≡ Some e → Split cs (take e cs) (Some (take (length cs - (e + 1)) (drop (e + 1) cs)))

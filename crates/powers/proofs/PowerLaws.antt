@@ -15,7 +15,7 @@ use Rattle.std.proofs.lemmas.Option.{cond_some}
 use Rattle.lists.proofs.Tests.{by_test, and_left, and_right}
 use Rattle.store_types.specs.Limits.{label_limit}
 use Rattle.tree.specs.Book.{base, power_width}
-use Rattle.calls.specs.Store.{labels_fit}
+use Rattle.calls.specs.Store.{labels_fit, power_fits}
 use Rattle.powers.specs.Tables.{Known, shared_degree, table_length, powers, table}
 use Rattle.powers.proofs.TableLaws.{powers_low, table_next, table_more}
 
@@ -53,19 +53,24 @@ count_decides b count some e h =
     (λ no.
     rw (no, lt-leb (b ^ h) label_limit (omega (arith, next, pow-le-pow_right {n = b} some (ltb-false h count no)))))
 
--- A PAIR of one degree d has the base d·d − 1
-pair_base : (s r : ℕ) {o : Option ℕ} {d : ℕ} → o ≡ shared_degree s r → o ≡ Some d → s * r - 1 ≡ d * d - 1
+-- A PAIR of one degree d has the base d·d − 1, and so many powers fit as those of that base
+pub pair_base : (s r : ℕ) {o : Option ℕ} {d : ℕ} → o ≡ shared_degree s r → o ≡ Some d → s * r - 1 ≡ d * d - 1
 pair_base s r {o} {d} e is =
     let same = cond_some (eqb s r) s d (sym e ∙ is) in rw (← eqb-true s r same.0, same.1)
+
+pub pair_fits : (s r : ℕ) {o : Option ℕ} {d : ℕ} → o ≡ shared_degree s r → o ≡ Some d → 2 ≤ d → {n : ℕ} → d ≡ n → (count : ℕ) →
+    count_right (n * n - 1) count ≡ true → (h : ℕ) → ltb h count ≡ power_fits s r h
+unfolding labels_fit power_width base
+pair_fits s r {d = d} e is some same count right h =
+    count_decides (d * d - 1) count (omega (arith, mul-le-mul some some)) (rw same right) h ∙ rw (pair_base s r e is)
 
 -- A TABLE of a degree has the powers of its base, as many as fit; and one with no power is right for each
 pub of_table : {o : Option ℕ} {n : ℕ} → o ≡ Some n → 2 ≤ n → (t : List ℕ) → count_right (n * n - 1) (length t) ≡ true →
     t ≡ powers 1 (n * n - 1) (length t) → Known o t
-unfolding labels_fit power_width base
 of_table {o} {n} is some t count right =
     record {
       powers_are = λ v b asked. let e = asked n is some in rw (e.0, e.1) right;
-      count_is = λ s r e _ h. count_decides (n * n - 1) (length t) (omega (arith, mul-le-mul some some)) count h ∙ rw (pair_base s r e is);
+      count_is = λ s r e _ h. pair_fits s r e is some refl (length t) count h;
     }
 
 pub no_table : {o : Option ℕ} → Known o []

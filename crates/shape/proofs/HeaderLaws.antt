@@ -18,7 +18,7 @@ use Rattle.calls.specs.Words.{header_width, header_in_range}
 use Rattle.shape.specs.Needs.{root_passes, degree_fits, frame_passes}
 
 -- A POWER: p is b^i
-power_more : (b p i : ℕ) → p ≡ b ^ i → p * b ≡ b ^ (i + 1)
+pub power_more : (b p i : ℕ) → p ≡ b ^ i → p * b ≡ b ^ (i + 1)
 power_more b p i e = rw (e, add-one, pow-suc)
 
 module _ (s r p i h : ℕ) (e : p ≡ (s * r - 1) ^ i) where

@@ -91,7 +91,7 @@ seeking_past {q} {text} {from} {i} k h l n s z =
 
 -- THE BYTE OR REFERENCE of a value at a place, by its first byte
 module _ (text : List ℕ) (i : ℕ) (l : i < length text) where
-  part_reference : get_or text i 0 ≡ ampersand → reference_length (drop i text) ≡ value_step (drop i text)
+  pub part_reference : get_or text i 0 ≡ ampersand → reference_length (drop i text) ≡ value_step (drop i text)
   unfolding value_step
   part_reference e = rw (drop-cons text i 0 l, eq-eqb _ _ e)
 
