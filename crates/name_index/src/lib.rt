@@ -2,7 +2,7 @@
 // of hash and then of the name's bytes, so that a name is searched by halves whatever the names are.
 #![tactic(auto)]
 
-ghost use Rattle.std.specs.Prelude.{◌≡◌, List, ◌∷◌, ℕ, ◌+◌, ◌≤◌, ◌<◌, ◌^◌, length, set};
+ghost use Rattle.std.specs.Prelude.{◌≡◌, List, ◌∷◌, ℕ, ◌+◌, ◌≤◌, ◌<◌, ◌^◌, length, replicate, set};
 ghost use Rattle.xml.specs.Grammar.{among};
 ghost use Rattle.name_index.specs.Order.{order, hash_of};
 ghost use Rattle.name_index.specs.Index.{places, key_at, Begun, Index, Holds, Arranged};
@@ -56,7 +56,10 @@ pub struct NameIndex {
 }
 
 impl NameIndex {
-    pub fn new() -> Self {
+    pub fn new() -> Self
+        ensures hashes { result.hashes ≡ replicate places 0 }
+        ensures starts { result.starts ≡ replicate places 0 }
+    {
         NameIndex {
             hashes: [0; PLACES],
             starts: [0; PLACES],
