@@ -21,6 +21,7 @@ impl<const N: usize> Model for ByteList<N> {
 }
 
 impl<const N: usize> ByteList<N> {
+    // A list with no byte.
     pub fn new() -> Self
         ensures { result ≡ [] }
     {
@@ -38,6 +39,7 @@ impl<const N: usize> ByteList<N> {
         &self.bytes[..self.length]
     }
 
+    // No byte stays.
     pub fn clear(&mut self)
         ensures { self.new ≡ [] }
     {

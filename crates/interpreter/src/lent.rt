@@ -17,7 +17,8 @@ pub struct Progress {
     pub text: usize,
 }
 
-// A line without its line feed: the store after it, its reply at the front of `out`, and how long the reply is.
+// A line without its line feed: the store after it, its reply at the front of `out`, and how long the reply is. The reply is put together
+// in 44 KB of stack first.
 pub fn answer(line: &[u8], words: &mut [u32], out: &mut [u8; OUT_SIZE]) -> usize
     ensures words { words.new ≡ line_words line.now words.old }
     ensures text { Written out.old 0 (line_text line.now words.old) out.new result }
@@ -27,7 +28,8 @@ pub fn answer(line: &[u8], words: &mut [u32], out: &mut [u8; OUT_SIZE]) -> usize
     reply_text::lent::put(out, 0, &text)
 }
 
-// From a place of a piece to after its next line feed, where the line is answered; to the piece's end where there is none.
+// From a place of a piece to after its next line feed, where the line is answered; to the piece's end where there is none. Where the
+// next step begins, and what is then in hand and to be printed.
 pub fn step(
     piece: &[u8],
     from: usize,
@@ -40,11 +42,15 @@ pub fn step(
 {
     let gathered = line_reader::lent::gather(piece, from, line, held);
     let at = gathered.at;
-    let held = gathered.held;
+    let in_hand = gathered.held;
     if piece.len() <= at {
-        return Progress { at, held, text: 0 };
+        return Progress {
+            at,
+            held: in_hand,
+            text: 0,
+        };
     }
-    let text = answer(&line[..held], words, out);
+    let text = answer(&line[..in_hand], words, out);
     Progress {
         at: at + 1,
         held: 0,
@@ -65,6 +71,6 @@ pub fn finish(
     if held == 0 {
         return 0;
     }
-    let held = line_reader::lent::within(held, line);
-    answer(&line[..held], words, out)
+    let in_hand = line_reader::lent::within(held, line);
+    answer(&line[..in_hand], words, out)
 }

@@ -75,8 +75,8 @@ take_within held h line m =
 
 module _ (line piece rest : List ℕ) (held : ℕ) {begun taken kept : ℕ} (b : begun ≡ min held (length line)) (t : taken ≡ length (stretch piece))
     (k : kept ≡ min taken (length line - begun)) (r : begun + kept + length rest ≡ length line) where
-  in_hand : length (take begun line) ≡ begun
-  in_hand = length-take-le begun line (omega (arith, b))
+  begun_long : length (take begun line) ≡ begun
+  begun_long = length-take-le begun line (omega (arith, b))
 
   enough : length (take kept piece) ≡ kept
   enough = length-take-le kept piece (omega (arith, k, t, stretch_within piece))
@@ -90,13 +90,13 @@ module _ (line piece rest : List ℕ) (held : ℕ) {begun taken kept : ℕ} (b :
 
   left : take (begun + kept) (take begun line ++ (take kept piece ++ rest)) ≡ take begun line ++ take kept piece
   left =
-      ap (λ m. take (m + kept) (take begun line ++ (take kept piece ++ rest))) (sym in_hand) ∙
+      ap (λ m. take (m + kept) (take begun line ++ (take kept piece ++ rest))) (sym begun_long) ∙
       take-append-add (take begun line) (take kept piece ++ rest) kept ∙
       ap (λ xs. take begun line ++ xs) (take_at (take kept piece) rest kept enough)
 
   right : take (length line) (take held line ++ stretch piece) ≡ take begun line ++ take kept piece
   right =
-      let room : length line ≡ length (take begun line) + (length line - begun) = omega (arith, b, in_hand) in
+      let room : length line ≡ length (take begun line) + (length line - begun) = omega (arith, b, begun_long) in
       ap (λ xs. take (length line) (xs ++ stretch piece)) (sym (take_within held begun line b)) ∙
       ap (λ m. take m (take begun line ++ stretch piece)) room ∙
       take-append-add (take begun line) (stretch piece) (length line - begun) ∙
@@ -104,5 +104,5 @@ module _ (line piece rest : List ℕ) (held : ℕ) {begun taken kept : ℕ} (b :
 
   pub held_in_lent : Holds (take held line ++ stretch piece) (take begun line ++ (take kept piece ++ rest)) (begun + kept)
   held_in_lent =
-      let size : length (take begun line ++ (take kept piece ++ rest)) ≡ length line = omega (arith, length-append (take begun line) (take kept piece ++ rest), length-append (take kept piece) rest, in_hand, enough, r) in
+      let size : length (take begun line ++ (take kept piece ++ rest)) ≡ length line = omega (arith, length-append (take begun line) (take kept piece ++ rest), length-append (take kept piece) rest, begun_long, enough, r) in
       record { fits = omega (arith, size, r); front = rw size (left ∙ sym right) }

@@ -9,7 +9,7 @@ pub struct Gathered {
     pub held: usize,
 }
 
-// So many bytes, or as many as there is room for.
+// The number, or the length of the bytes where that is less.
 pub fn within(held: usize, line: &[u8]) -> usize
     ensures { result ≡ min held (length line.now) }
 {
@@ -24,17 +24,18 @@ fn rest(piece: &[u8], from: usize) -> &[u8]
 }
 
 // The bytes of a piece from a place on, up to a line feed or to its end, go after those in hand, as many as there is room for.
+// Where that stretch ends, and how many bytes are then in hand.
 pub fn gather(piece: &[u8], from: usize, line: &mut [u8], held: usize) -> Gathered
     ensures { Gathers (take held line.old) (drop from piece.now) from line.new result.at result.held }
 {
-    let rest = rest(piece, from);
-    let taken = crate::stretch(rest);
+    let left = rest(piece, from);
+    let taken = crate::stretch(left);
     let begun = within(held, line);
     let kept = taken.min(line.len() - begun);
-    let held = begun + kept;
-    line[begun..held].copy_from_slice(&rest[..kept]);
+    let end = begun + kept;
+    line[begun..end].copy_from_slice(&left[..kept]);
     Gathered {
         at: from + taken,
-        held,
+        held: end,
     }
 }

@@ -56,6 +56,7 @@ pub struct NameIndex {
 }
 
 impl NameIndex {
+    // An index without a name: every hash and every place is 0.
     pub fn new() -> Self
         ensures hashes { result.hashes ≡ replicate places 0 }
         ensures starts { result.starts ≡ replicate places 0 }

@@ -1,4 +1,4 @@
-// The same decisions for a caller that has a refusal as a number, whatever number that is: of a check 0 is none.
+// The same decisions for a caller that has a refusal as a number. Any number may be given; where a check gave it, 0 stands for none.
 ghost use Rattle.std.specs.Prelude.{◌≡◌, ◌-◌, ◌≤◌, Ok, Err};
 ghost use Rattle.lists.specs.Fronts.{replied};
 ghost use Rattle.calls.specs.Rights.{emptied_by, is_allowed, turned_away as turned_away_so, inserted_reply};

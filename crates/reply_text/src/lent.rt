@@ -23,6 +23,7 @@ pub fn put<const N: usize>(out: &mut [u8], at: usize, text: &ByteList<N>) -> usi
     end
 }
 
+// The digits of a number.
 pub fn put_number(out: &mut [u8], at: usize, n: u32) -> usize
     requires { at + 10 ≤ length out.old }
     ensures { Written out.old at (decimal n) out.new result }
@@ -32,7 +33,7 @@ pub fn put_number(out: &mut [u8], at: usize, n: u32) -> usize
     put(out, at, &text)
 }
 
-// The reply of a call that was made, with its values; so the next two.
+// The reply of an accepted call with one value, as a mark has. The next two have two and three values.
 pub fn ok_one(out: &mut [u8], at: usize, a: u32) -> usize
     requires { LentRoom at out.old }
     ensures { Written out.old at (reply_line (0 ∷ a ∷ [])) out.new result }
@@ -60,6 +61,7 @@ pub fn ok_three(out: &mut [u8], at: usize, a: u32, b: u32, c: u32) -> usize
     put(out, at, &text)
 }
 
+// A refusal, as a line.
 pub fn no_line(out: &mut [u8], at: usize, refusal: u32) -> usize
     requires { LentRoom at out.old }
     ensures { Written out.old at (reply_line (refusal ∷ [])) out.new result }
@@ -69,6 +71,7 @@ pub fn no_line(out: &mut [u8], at: usize, refusal: u32) -> usize
     put(out, at, &text)
 }
 
+// A tag and its label, as a line.
 pub fn tag_line(out: &mut [u8], at: usize, tag: u32, label: u32) -> usize
     requires { LentRoom at out.old }
     ensures { Written out.old at (tag_line tag label) out.new result }
@@ -78,6 +81,7 @@ pub fn tag_line(out: &mut [u8], at: usize, tag: u32, label: u32) -> usize
     put(out, at, &text)
 }
 
+// The end of a listing, with how many tags it has.
 pub fn end_line(out: &mut [u8], at: usize, count: u32) -> usize
     requires { LentRoom at out.old }
     ensures { Written out.old at (end_line count) out.new result }
@@ -87,6 +91,7 @@ pub fn end_line(out: &mut [u8], at: usize, count: u32) -> usize
     put(out, at, &text)
 }
 
+// The reply to a line that asks for nothing.
 pub fn unknown_line(out: &mut [u8], at: usize) -> usize
     requires { LentRoom at out.old }
     ensures { Written out.old at unknown_line out.new result }

@@ -5,6 +5,7 @@ ghost use Rattle.calls.specs.Rights.{act_reply, act_words};
 
 use store_types::{Act, PartyAnswer, Refusal};
 
+// What the party hears: the refusal where it is not 0, else what its act replies.
 #[tactic(auto, using(crate::proofs::Parties::of_a_party), unfolding(store_types::specs::Replies::refusal_in, store_types::specs::Replies::numbered))]
 pub fn party(refusal: u32, granted: bool, act: Act, words: &mut [u32]) -> Result<PartyAnswer, u32>
     ensures reply { result ≡ replied Err refusal (act_reply granted act words.old) }
@@ -15,6 +16,6 @@ pub fn party(refusal: u32, granted: bool, act: Act, words: &mut [u32]) -> Result
     }
     match crate::party(Ok(()), granted, act, words) {
         Ok(heard) => Ok(heard),
-        Err(refusal) => Err(refusal.number()),
+        Err(found) => Err(found.number()),
     }
 }

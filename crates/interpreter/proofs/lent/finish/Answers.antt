@@ -10,4 +10,4 @@ returns-then-held-eq0 c =
 pub returns : goal.returns
 returns c =
     let all = ends_line c.args.held _ c.args.line.now c.args.words.now _ c.args.out.now _ _ c.if-held-eq0.false (search rules)
-    c.within-held.ensures c.answer.ensures.words c.answer.ensures.text in record { words = all.0; text = all.1 }
+    c.within-in_hand.ensures c.answer.ensures.words c.answer.ensures.text in record { words = all.0; text = all.1 }
